@@ -1,0 +1,17 @@
+use Rattle.std.proofs.Common.{◌≡◌, ◌∙◌, ap, sym, true, map}
+use Rattle.clap.specs.Words.{App, takes}
+use Rattle.rh_cli.specs.Ask.{is_taken}
+use Rattle.rh_cli.proofs.Held.{given-matches, taken-app}
+use Rattle.rh_cli.proofs.words.matches_of.Goals as goal
+
+pub returns-in-Ok : goal.returns-in-Ok
+returns-in-Ok c = record {
+  held = given-matches _ _ c.in-Ok.matches c.in_ok-command.ensures c.in-Ok.ensures.matches;
+  refused = tt;
+}
+
+pub returns-in-Err : goal.returns-in-Err
+returns-in-Err c = record {
+  held = tt;
+  refused = λ taken. c.fault_of.ensures (c.in-Err.ensures.passes (taken-app _ _ c.in_ok-command.ensures taken));
+}

@@ -1,0 +1,46 @@
+-- The command line of the program, as clap knows it.
+use Rattle.std.specs.Prelude.{ℕ, List, [], ◌∷◌, Bool, true, false, Option, Some, None, codes, option_map}
+use Rattle.clap.specs.Words.{App, Row, Rule, Text, new_app, new_rule, with_rule, with_subcommand, subcommand_of, first_of, takes}
+use Rattle.rh_cli.specs.declared.ask.Subcommand.{Subcommand}
+use Rattle.rh_cli.specs.declared.ask.Subcommand.TheVariants.{Run}
+use Rattle.rh_cli.specs.declared.ask.Ask.{Ask}
+
+-- the file, which is required
+abbrev pub file_rule : Rule
+file_rule = record (new_rule (codes "FILE")) { required = true }
+
+-- `run FILE`
+abbrev pub run_app : App
+run_app = with_rule (new_app (codes "run")) file_rule
+
+-- the program: a version, and a command that is required
+abbrev pub rheap_top : App
+rheap_top = let new = new_app (codes "rheap") in record new { top = record new.top { has_version = true; subcommand_required = true } }
+
+abbrev pub rheap_app : App
+rheap_app = with_subcommand rheap_top run_app.top
+
+-- a command's name and its file, where both are there
+abbrev pub with_file : Text → Option Text → Option (Text × Text)
+with_file name None = None
+with_file name (Some file) = Some (name, file)
+
+abbrev pub held : Option (Text × List Row) → Option (Text × Text)
+held None = None
+held (Some found) = with_file found.0 (first_of (codes "FILE") found.1)
+
+-- the command and the file that clap's parse of the words holds
+unfoldable pub given : List Text → Option (Text × Text)
+given words = held (subcommand_of rheap_app words)
+
+-- whether clap takes the words
+unfoldable pub is_taken : List Text → Bool
+is_taken words = takes rheap_app words
+
+-- how a command is spelled
+abbrev pub name_of : Subcommand → Text
+name_of Run = codes "run"
+
+-- the command and the file of a request
+abbrev pub asked : Ask → Text × Text
+asked ask = (name_of ask.subcommand, ask.file.now)

@@ -1,0 +1,17 @@
+//! What the program is asked to do.
+
+/// What is to be done with the file.
+#[derive(Clone, Copy, Debug, PartialEq, Eq)]
+pub enum Subcommand {
+    /// Run the trace in it.
+    Run,
+}
+
+/// A command line that was understood.
+#[derive(Clone, Copy, Debug, PartialEq, Eq)]
+pub struct Ask<'a> {
+    /// What is to be done.
+    pub subcommand: Subcommand,
+    /// The file's name; `-` is standard input.
+    pub file: &'a str,
+}

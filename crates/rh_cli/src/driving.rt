@@ -1,0 +1,119 @@
+//! Doing what was asked, between a reader and two writers.
+
+ghost use Rattle.std.specs.Prelude.{◌≡◌, List, ℕ, IfSome};
+ghost use Rattle.std.specs.Io.KnownBytes.{Consumes};
+ghost use Rattle.rh_trace.specs.Run.{run_of};
+ghost use Rattle.rh_cli.specs.Drive.{Concludes, IsStatus, fault_status};
+ghost use Rattle.rh_cli.specs.Fault.{status_of, status_after};
+
+use crate::ask::{Ask, Subcommand};
+use crate::fault::LineFault;
+use rh_core::ConfigFault;
+use rh_trace::{Kind, RunFault, Summary, run_trace};
+use std::alloc::Allocator;
+use std::io::{Read, Write};
+
+/// Does what is asked with the file's bytes, which `reader` gives: answers go to `out`, which is flushed at the end, and
+/// one line on failure to `err`. Answers the status that the program ends with.
+pub fn drive<A: Allocator + Copy, R: Read, O: Write, E: Write>(
+    alloc: A,
+    ask: &Ask<'_>,
+    reader: &mut R,
+    out: &mut O,
+    err: &mut E,
+) -> u8
+    // For a reader that tells its bytes.
+    ensures told { IfSome (R.remaining reader.old) (λ input.
+        Concludes (run_of input) result (O.contents out.old) (O.contents out.new)) }
+    // For any reader, of the bytes that it gave.
+    ensures read { (input : List ℕ) × Consumes (R.remaining reader.old) (R.remaining reader.new) input
+        × Concludes (run_of input) result (O.contents out.old) (O.contents out.new) }
+{
+    let done = match ask.subcommand {
+        Subcommand::Run => run(alloc, reader, out),
+    };
+    match done {
+        Ok(()) => 0,
+        Err(fault) => tell(&fault, err),
+    }
+}
+
+/// Writes a fault's text, and answers its status. A fault that can't be told still has its status.
+pub fn tell<E: Write>(fault: &LineFault, err: &mut E) -> u8
+    ensures { result ≡ status_of fault.now }
+{
+    let _ = match fault {
+        LineFault::Words(error) => write!(err, "{error}"),
+        _ => writeln!(err, "{fault}"),
+    };
+    fault.status()
+}
+
+/// Runs a trace. A failed flush is a failed write.
+fn run<A: Allocator + Copy, R: Read, O: Write>(
+    alloc: A,
+    reader: &mut R,
+    out: &mut O,
+) -> Result<(), LineFault>
+    ensures told { IfSome (R.remaining reader.old) (λ input.
+        Concludes (run_of input) (status_after result) (O.contents out.old) (O.contents out.new)) }
+    ensures read { (input : List ℕ) × Consumes (R.remaining reader.old) (R.remaining reader.new) input
+        × Concludes (run_of input) (status_after result) (O.contents out.old) (O.contents out.new) }
+{
+    let ran = run_trace(alloc, reader, out);
+    let flushed = out.flush();
+    concluded(ran, flushed.is_ok())
+}
+
+/// What a run and the flush behind it come to.
+fn concluded(ran: Result<Summary, RunFault>, flushed: bool) -> Result<(), LineFault>
+    ensures { IsStatus ran (status_after result) }
+{
+    match ran {
+        Ok(_) if flushed => Ok(()),
+        Ok(_) => Err(LineFault::Write),
+        Err(fault) => Err(fault_of_run(fault)),
+    }
+}
+
+/// The fault that a run's is.
+fn fault_of_run(fault: RunFault) -> LineFault
+    ensures { status_of result ≡ fault_status fault }
+{
+    match fault {
+        RunFault::Read => LineFault::Read,
+        RunFault::Long => LineFault::TooLong,
+        RunFault::Trace(fault) => LineFault::Line {
+            line: fault.line,
+            kind: kind_name(fault.kind),
+        },
+        RunFault::New(fault) => LineFault::Heap(config_name(fault)),
+        RunFault::Write => LineFault::Write,
+        RunFault::OutOfMemory => LineFault::OutOfMemory,
+    }
+}
+
+/// A kind of fault in a trace, as it is told.
+fn kind_name(kind: Kind) -> &'static str {
+    match kind {
+        Kind::Empty => "Empty",
+        Kind::Long => "Long",
+        Kind::Cut => "Cut",
+        Kind::Form => "Form",
+        Kind::Header => "Header",
+        Kind::Word => "Word",
+        Kind::Number => "Number",
+        Kind::Root => "Root",
+    }
+}
+
+/// A fault of a heap's sizes, as it is told.
+fn config_name(fault: ConfigFault) -> &'static str {
+    match fault {
+        ConfigFault::BadSpace => "BadSpace",
+        ConfigFault::BadRatio => "BadRatio",
+        ConfigFault::BadRoots => "BadRoots",
+        ConfigFault::BadLog => "BadLog",
+        ConfigFault::BadNumbers => "BadNumbers",
+    }
+}

@@ -1,0 +1,79 @@
+//! What the program says where it can't do what it was asked.
+
+ghost use Rattle.std.specs.Prelude.{◌≡◌};
+ghost use Rattle.rh_cli.specs.declared.fault.LineFault.TheVariants.{OutOfMemory};
+ghost use Rattle.rh_cli.specs.Fault.{status_of};
+
+use std::alloc::{AllocError, AllocFailed};
+use thiserror::Error;
+
+/// Why the program didn't do what it was asked. Its text is one line, or clap's.
+#[derive(Debug, Drop, Error)]
+pub enum LineFault {
+    /// The words aren't a command line of the program, or ask for its help or version.
+    #[error("{0}")]
+    Words(clap::Error),
+    /// The words aren't text.
+    #[error("rheap: the command line is no text")]
+    NoText,
+    /// The words name no command or no file.
+    #[error("rheap: no command and file")]
+    Incomplete,
+    /// A line of the file is faulty: its number from 1, and the kind of fault.
+    #[error("rheap: line {line}: {kind}")]
+    Line {
+        /// The line, from 1.
+        line: u32,
+        /// The kind of fault.
+        kind: &'static str,
+    },
+    /// No heap is made with the sizes that the file asks for.
+    #[error("rheap: heap: {0}")]
+    Heap(&'static str),
+    /// The file can't be opened.
+    #[error("rheap: open failed")]
+    Open,
+    /// A read failed.
+    #[error("rheap: read failed")]
+    Read,
+    /// A write failed.
+    #[error("rheap: write failed")]
+    Write,
+    /// The file has too many bytes.
+    #[error("rheap: too long")]
+    TooLong,
+    /// Memory was refused.
+    #[error("rheap: out of memory")]
+    OutOfMemory,
+}
+
+impl LineFault {
+    /// The status that the program ends with: 0 for help or the version, 2 for another command line that isn't
+    /// understood, 3 for want of memory, and else 1.
+    pub fn status(&self) -> u8
+        ensures { result ≡ status_of self.now }
+    {
+        match self {
+            LineFault::Words(error) if !error.use_stderr() => 0,
+            LineFault::Words(_) | LineFault::NoText | LineFault::Incomplete => 2,
+            LineFault::OutOfMemory => 3,
+            _ => 1,
+        }
+    }
+}
+
+impl From<AllocError> for LineFault {
+    ghost from_gives = { λ _ e. e ≡ OutOfMemory };
+
+    fn from(_e: AllocError) -> LineFault {
+        LineFault::OutOfMemory
+    }
+}
+
+impl<T: Drop> From<AllocFailed<T>> for LineFault {
+    ghost from_gives = { λ _ e. e ≡ OutOfMemory };
+
+    fn from(_e: AllocFailed<T>) -> LineFault {
+        LineFault::OutOfMemory
+    }
+}

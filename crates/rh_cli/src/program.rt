@@ -1,0 +1,59 @@
+//! The program from its command line to its status.
+
+use crate::ask::Ask;
+use crate::driving::{drive, tell};
+use crate::fault::LineFault;
+use crate::words::read_words;
+use std::env;
+use std::fs::File;
+use std::io::{self, BufWriter, Write};
+use std::rt::{Env, Files};
+
+/// How many bytes of answers are gathered before they are written.
+const OUTPUT_BYTES: usize = 65_536;
+
+/// Reads the command line, does what it asks, and answers the status to end with. Answers, help and the version go to
+/// standard output, and what went wrong to `err`.
+pub fn play<R: Env + Files + Input + Print + AllocGlobal, E: Write>(rt: &R, err: &mut E) -> u8 {
+    match carry_out(rt, err) {
+        Ok(status) => status,
+        Err(fault) if fault.status() == 0 => tell(&fault, &mut io::writer(rt)),
+        Err(fault) => tell(&fault, err),
+    }
+}
+
+/// Carries out what the command line asks. An `Err` is for what went wrong before that.
+fn carry_out<R: Env + Files + Input + Print + AllocGlobal, E: Write>(
+    rt: &R,
+    err: &mut E,
+) -> Result<u8, LineFault> {
+    let args: Vec<String> = match env::args(rt) {
+        Ok(args) => args.collect(rt.alloc())?,
+        Err(error) if error.kind() == io::ErrorKind::OutOfMemory => {
+            return Err(LineFault::OutOfMemory);
+        }
+        Err(_) => return Err(LineFault::NoText),
+    };
+    let words: Vec<&str> = args.iter().map(|word| word.as_str()).collect(rt.alloc())?;
+    let ask = read_words(rt.alloc(), words.as_slice())?;
+    with_file(rt, &ask, err)
+}
+
+/// Carries out a request with its file.
+fn with_file<R: Files + Input + Print + AllocGlobal, E: Write>(
+    rt: &R,
+    ask: &Ask<'_>,
+    err: &mut E,
+) -> Result<u8, LineFault> {
+    let mut out = match BufWriter::with_capacity(rt.alloc(), OUTPUT_BYTES, io::writer(rt)) {
+        Ok(out) => out,
+        Err(_) => return Err(LineFault::OutOfMemory),
+    };
+    if ask.file == "-" {
+        return Ok(drive(rt.alloc(), ask, &mut rt.reader(), &mut out, err));
+    }
+    match File::open(rt, ask.file) {
+        Ok(mut file) => Ok(drive(rt.alloc(), ask, &mut file, &mut out, err)),
+        Err(_) => Err(LineFault::Open),
+    }
+}

@@ -1,0 +1,4 @@
+mod Reaching
+mod Following
+mod GoingBack
+mod PlainStored

@@ -1,0 +1,7 @@
+pub mod Graph
+pub mod Plain
+pub mod SameGraph
+pub mod SameGraphLaws
+pub mod StepLaws
+pub mod Reach
+pub mod PlainFields

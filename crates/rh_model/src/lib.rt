@@ -1,0 +1,14 @@
+//! The heap that never moves its objects, by which every answer of a moving heap is judged.
+#![tactic(auto)]
+
+mod errors;
+pub mod laws;
+mod plain;
+mod plain_value;
+
+pub use errors::{CommandError, PlainError};
+pub use plain::Plain;
+pub use plain_value::PlainValue;
+
+#[cfg(test)]
+mod tests;

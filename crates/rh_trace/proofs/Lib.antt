@@ -1,0 +1,10 @@
+pub mod Cutting
+pub mod Forms
+pub mod Numbers
+pub mod Integers
+pub mod Loop
+pub mod Takes
+pub mod Again
+pub mod Output
+pub mod Taken
+pub mod Playing

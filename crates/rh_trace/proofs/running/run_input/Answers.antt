@@ -1,0 +1,31 @@
+use Rattle.std.proofs.Common.{◌≡◌, None, Some, ap, subst, sym, ◌∙◌}
+use Rattle.rh_core.specs.declared.config.HeapError.TheVariants as errors
+use Rattle.rh_core.specs.Config.{fault_of}
+use Rattle.rh_core.specs.Heap.{new_heap}
+use Rattle.rh_trace.specs.Reading.{trace_of}
+use Rattle.rh_trace.specs.Run.{config_of, answers_to, answers_of, output_of, run_of_trace, text_of}
+use Rattle.rh_trace.specs.Output.{AppendsLess}
+use Rattle.rh_trace.proofs.Output.{Keeps-same}
+use Rattle.rh_trace.proofs.Playing.{run-new, run-made, no_fault, refused_with, not_refused}
+use Rattle.rh_trace.proofs.running.run_input.Goals as goal
+
+pub returns-in-Err-Config : goal.returns-in-Err-Config
+returns-in-Err-Config g c =
+    let script = c.in-Ok.trace in
+    let fault = c.in-Err-Config.fault in
+    let config_is : c.config_of.result ≡ config_of script.header = c.config_of.ensures ∙ ap config_of c.header.ensures in
+    let refused = refused_with c.new.result c.in-Err-Config.field-0 (errors.Config fault) c.in-Err-Config.is c.in-Err-Config.field-0-is in
+    let bad : fault_of (config_of script.header) ≡ Some fault = ap fault_of (sym config_is) ∙ (c.new.ensures.fault fault).0 refused in
+    (run-new (trace_of c.args.input.now) script fault c.in-Ok.ensures.exact bad, Keeps-same (g.W.Write.contents c.args.writer.now))
+
+pub returns : goal.returns
+returns g c =
+    let script = c.in-Ok.trace in
+    let config_is : c.config_of.result ≡ config_of script.header = c.config_of.ensures ∙ ap config_of c.header.ensures in
+    let good : fault_of (config_of script.header) ≡ None =
+    no_fault (fault_of (config_of script.header)) (λ f e. not_refused c.new.result c.in-Ok-new.heap (errors.Config f) c.in-Ok-new.is ((c.new.ensures.fault f).1 (ap fault_of config_is ∙ e))) in
+    let text : text_of (run_of_trace (trace_of c.args.input.now)) ≡ output_of (answers_of script) = ap text_of (run-made (trace_of c.args.input.now) script c.in-Ok.ensures.exact good) in
+    let heap_is : c.in-Ok-new.heap ≡ new_heap (config_of script.header) = c.in-Ok-new.ensures.made ∙ ap new_heap config_is in
+    let output : output_of (answers_to c.in-Ok-new.heap c.lines.result.now) ≡ output_of (answers_of script) =
+    ap (λ h. output_of (answers_to h c.lines.result.now)) heap_is ∙ ap (λ lines. output_of (answers_to (new_heap (config_of script.header)) lines)) c.lines.ensures in
+    subst (AppendsLess (g.W.Write.contents c.args.writer.now) (g.W.Write.contents c.play.new.writer)) (output ∙ sym text) c.in-Err.ensures.err

@@ -1,0 +1,158 @@
+//! A trace run on a new heap.
+
+ghost use Rattle.std.specs.Prelude.{◌≡◌, List, ℕ, IfOk, OnOk, OnErr, IfSome};
+ghost use Rattle.std.specs.Io.KnownBytes.{Appends, Consumes};
+ghost use Rattle.rh_trace.specs.Output.{AppendsLess};
+ghost use Rattle.rh_trace.specs.Reading.{trace_of};
+ghost use Rattle.rh_trace.specs.Run.{config_of, owner_of, command_of, line_step, answers_to, summary_of, output_of, run_of_trace, run_of, Ends};
+
+use crate::answers::{put_answer, put_total};
+use crate::fault::{ParseError, Write};
+use crate::input::{InputFault, read_all};
+use crate::line::{Header, Line};
+use crate::run_fault::RunFault;
+use crate::summary::Summary;
+use crate::text::LineText;
+use crate::trace::parse;
+use crate::writing::send;
+use rh_core::{Config, Heap, HeapError};
+use rh_layout::{Command, Refusal, Reply};
+use std::alloc::Allocator;
+use std::io;
+
+/// The last store number and the last epoch of a trace's heap, 2^62.
+const LAST: u64 = 4_611_686_018_427_387_904;
+
+/// The heap that a trace's first line asks for.
+fn config_of(header: Header) -> Config
+    ensures { result ≡ config_of header }
+{
+    Config {
+        words: header.words,
+        ratio: header.ratio,
+        owners: header.owners,
+        slots: header.slots,
+        log_limit: header.log,
+        last_number: LAST,
+        last_epoch: LAST,
+    }
+}
+
+/// Whose command a line is, and which.
+fn command_of(line: &Line) -> (u32, Command)
+    ensures owner { result.0 ≡ owner_of line.now }
+    ensures command { result.1 ≡ command_of line.now }
+{
+    match *line {
+        Line::Alloc { owner, dst, fields } => (owner, Command::Alloc { dst, fields }),
+        Line::Load {
+            owner,
+            dst,
+            src,
+            field,
+        } => (owner, Command::Load { dst, src, field }),
+        Line::Store {
+            owner,
+            obj,
+            field,
+            operand,
+        } => (
+            owner,
+            Command::Store {
+                obj,
+                field,
+                operand,
+            },
+        ),
+        Line::Copy { owner, dst, src } => (owner, Command::Copy { dst, src }),
+        Line::Same { owner, a, b } => (owner, Command::Same { a, b }),
+        Line::Drop { owner, root } => (owner, Command::Drop { root }),
+    }
+}
+
+/// Runs a line.
+fn run_line<A: Allocator + Copy>(heap: &mut Heap<A>, line: &Line) -> Result<Reply, Refusal>
+    ensures state { heap.new ≡ (line_step heap.old line.now).0 }
+    ensures answer { result ≡ (line_step heap.old line.now).1 }
+{
+    let (owner, command) = command_of(line);
+    heap.command(owner, &command)
+}
+
+/// Runs all lines, and writes the line of each answer and the total line.
+fn play<A: Allocator + Copy, W: io::Write>(
+    heap: &mut Heap<A>,
+    lines: &[Line],
+    writer: &mut W,
+) -> Result<Summary, Write>
+    ensures summary { IfOk result (λ s. s ≡ summary_of (answers_to heap.old lines.now)) }
+    ensures ok { OnOk result (Appends (W.contents writer.old) (W.contents writer.new) (output_of (answers_to heap.old lines.now))) }
+    ensures err { OnErr result (AppendsLess (W.contents writer.old) (W.contents writer.new) (output_of (answers_to heap.old lines.now))) }
+{
+    let mut text = LineText::new();
+    let mut refused = 0;
+    for line in lines {
+        let answer = run_line(heap, line);
+        refused += u64::from(answer.is_err());
+        put_answer(&mut text, answer);
+        send(writer, text.as_bytes())?;
+    }
+    let summary = Summary {
+        commands: lines.len() as u64,
+        refused,
+        flips: 0,
+        root_words: 0,
+    };
+    put_total(&mut text, &summary);
+    send(writer, text.as_bytes())?;
+    Ok(summary)
+}
+
+/// Runs the trace that the input spells.
+fn run_input<A: Allocator + Copy, W: io::Write>(
+    alloc: A,
+    input: &[u8],
+    writer: &mut W,
+) -> Result<Summary, RunFault>
+    ensures { Ends (run_of_trace (trace_of input.now)) result (W.contents writer.old) (W.contents writer.new) }
+{
+    let trace = match parse(alloc, input) {
+        Ok(trace) => trace,
+        Err(ParseError::Fault(fault)) => return Err(RunFault::Trace(fault)),
+        Err(ParseError::OutOfMemory) => return Err(RunFault::OutOfMemory),
+    };
+    let mut heap = match Heap::new(alloc, config_of(trace.header())) {
+        Ok(heap) => heap,
+        Err(HeapError::Config(fault)) => return Err(RunFault::New(fault)),
+        Err(HeapError::OutOfMemory) => return Err(RunFault::OutOfMemory),
+    };
+    match play(&mut heap, trace.lines(), writer) {
+        Ok(summary) => Ok(summary),
+        Err(Write) => Err(RunFault::Write),
+    }
+}
+
+/// Reads a trace whole, runs its lines in order on a new heap, and writes a line for each answer and the total line,
+/// one line in each write that the writer takes whole. Nothing is written before the whole trace was read and its
+/// heap made. At most 16,777,216 bytes are taken, in at most 33,554,432 reads.
+///
+/// Of the faults of an input the first is answered: `Long`, then `Trace`, then `New`. `Read` comes where a read failed
+/// or was one too many, `Write` where a write failed, `OutOfMemory` where the allocator refused memory.
+pub fn run_trace<A: Allocator + Copy, R: io::Read, W: io::Write>(
+    alloc: A,
+    reader: &mut R,
+    writer: &mut W,
+) -> Result<Summary, RunFault>
+    // For a reader that tells its bytes.
+    ensures told { IfSome (R.remaining reader.old) (λ input. Ends (run_of input) result (W.contents writer.old) (W.contents writer.new)) }
+    // For any reader, of the bytes that it gave.
+    ensures read { (input : List ℕ) × Consumes (R.remaining reader.old) (R.remaining reader.new) input
+        × Ends (run_of input) result (W.contents writer.old) (W.contents writer.new) }
+{
+    match read_all(alloc, reader) {
+        Ok(input) => run_input(alloc, &input, writer),
+        Err(InputFault::Read) => Err(RunFault::Read),
+        Err(InputFault::Long) => Err(RunFault::Long),
+        Err(InputFault::OutOfMemory) => Err(RunFault::OutOfMemory),
+    }
+}

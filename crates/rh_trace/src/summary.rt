@@ -1,0 +1,14 @@
+//! What a run of a trace adds up to.
+
+/// The numbers of the line that ends the answers of a trace.
+#[derive(Clone, Copy, Debug, PartialEq, Eq)]
+pub struct Summary {
+    /// How many command lines were run.
+    pub commands: u64,
+    /// How many of these were refused.
+    pub refused: u64,
+    /// How many flips were done.
+    pub flips: u64,
+    /// How many root words the flips wrote.
+    pub root_words: u128,
+}

@@ -1,0 +1,8 @@
+//! The program `rheap`.
+#![tactic(auto)]
+
+use std::process::ExitCode;
+
+fn main(rt: HostRuntime) -> ExitCode {
+    ExitCode::from(rh_cli::play(&rt, &mut rt.stderr()))
+}
