@@ -1,6 +1,6 @@
 -- What the matches of clap hold, as far as a request is read from them.
-use Rattle.std.proofs.Common.{◌≡◌, List, ℕ, Option, Some, None, option_map, ap, sym, codes, true, refl, ◌∙◌}
-use Rattle.clap.specs.Words.{Row, Text, App, first_of, first_value, found_of, rows_of, subcommand_rows_of, is_simple, HasMatchesOf, subcommand_name_of, subcommand_of, takes}
+use Rattle.std.proofs.Common.{◌≡◌, List, Option, Some, None, option_map, ap, sym, codes, true, refl, ◌∙◌}
+use Rattle.clap.specs.Words.{Row, Text, App, first_value, found_of, rows_of, subcommand_rows_of, is_simple, HasMatchesOf, subcommand_name_of, subcommand_of, takes}
 use Rattle.clap.specs.declared.parser.matches.ArgMatches.{ArgMatches}
 use Rattle.clap.specs.declared.parser.matches.ArgMatches.TheViews.{out-ArgMatches, out-SubCommand}
 use Rattle.std.specs.Box.{box_value}

@@ -1,4 +1,4 @@
-use Rattle.std.proofs.Common.{◌≡◌, ◌∙◌, ap, sym, codes, Some, None, refl, rules}
+use Rattle.std.proofs.Common.{◌≡◌, ◌∙◌, ap, sym, codes, Some, None, rules}
 use Rattle.clap.specs.Words.{Text}
 use Rattle.rh_cli.specs.Ask.{with_file}
 use Rattle.rh_cli.proofs.Held.{held-matches}

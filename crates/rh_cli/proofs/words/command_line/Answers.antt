@@ -1,8 +1,8 @@
 use Rattle.std.proofs.Common.{rules, ap, ap₂, codes, true, ◌≡◌, ◌∙◌}
 use Rattle.std.proofs.lemmas.Result.{IfOk-weaker}
-use Rattle.clap.specs.Words.{App, Shape, Rule, app_of, rule_of, new_app, with_rule, with_subcommand}
+use Rattle.clap.specs.Words.{App, Shape, app_of, rule_of, new_app, with_rule, with_subcommand}
 use Rattle.clap.specs.Simple.{app_of_fields, on_top}
-use Rattle.rh_cli.specs.Ask.{file_rule, run_app, rheap_top, rheap_app}
+use Rattle.rh_cli.specs.Ask.{file_rule, run_app, rheap_top}
 use Rattle.rh_cli.proofs.words.command_line.Goals as goal
 
 abbrev versioned : App → App

@@ -1,6 +1,3 @@
-use Rattle.std.proofs.Common.{◌≡◌, ◌∙◌, ap, sym, true, map}
-use Rattle.clap.specs.Words.{App, takes}
-use Rattle.rh_cli.specs.Ask.{is_taken}
 use Rattle.rh_cli.proofs.Held.{given-matches, taken-app}
 use Rattle.rh_cli.proofs.words.matches_of.Goals as goal
 
