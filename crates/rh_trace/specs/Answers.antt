@@ -16,6 +16,7 @@ reply_text (Object fields) = codes "object " ++ decimal fields
 reply_text (Same true) = codes "same yes"
 reply_text (Same false) = codes "same no"
 
+-- the name of a refusal
 abbrev pub refusal_name : Refusal → List ℕ
 refusal_name NoRoot = codes "NoRoot"
 refusal_name NotYours = codes "NotYours"
@@ -43,6 +44,7 @@ refusal_parts NumbersSpent = []
 abbrev pub refused_text : Refusal → List ℕ
 refused_text refusal = codes "refused " ++ (refusal_name refusal ++ refusal_parts refusal)
 
+-- what an answer is written as
 abbrev pub answer_text : Result Reply Refusal → List ℕ
 answer_text (Ok reply) = reply_text reply
 answer_text (Err refusal) = refused_text refusal

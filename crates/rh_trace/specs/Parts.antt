@@ -27,9 +27,11 @@ lines_of (b ∷ bs) = if b == 10 then record { bytes = []; ended = true } ∷ li
 abbrev pub parts_of : List ℕ → List (List ℕ)
 parts_of line = slice_split (λ b. b == 32) line
 
+-- a byte from 32 to 126
 abbrev pub is_printable : ℕ → Bool
 is_printable b = nat_le 32 b && nat_le b 126
 
+-- a part that has a byte
 abbrev pub is_filled : List ℕ → Bool
 is_filled [] = false
 is_filled (b ∷ bs) = true
@@ -47,6 +49,7 @@ abbrev pub cut_at : ℕ → List ℕ → Option (List ℕ × List ℕ)
 cut_at c [] = None
 cut_at c (b ∷ bs) = if b == c then Some ([], bs) else option_map (λ cut. (b ∷ cut.0, cut.1)) (cut_at c bs)
 
+-- a step that goes on where the one before gave something
 infixl 10 ◌>>=◌
 abbrev pub ◌>>=◌ : {A B : Type 0} → Option A → (A → Option B) → Option B
 (Some x) >>= f = f x

@@ -15,6 +15,7 @@ use Rattle.rh_trace.specs.declared.line.Line.TheVariants.{Alloc, Load, Store, Co
 use Rattle.rh_trace.specs.Parts.{Piece, lines_of, parts_of, is_formed, number_of, integer_of, root_of, has_dot, begins_with_digit, first_and_rest}
 use Rattle.rh_trace.specs.Spelling.{Script}
 
+-- a step that goes on where the one before gave something
 infixl 10 ◌>>=◌
 abbrev pub ◌>>=◌ : {A B E : Type 0} → Result A E → (A → Result B E) → Result B E
 (Ok x) >>= f = f x
@@ -30,6 +31,7 @@ abbrev pub Fails : {Y : Type 0} → ParseError → Result Y TraceFault → Type 
 Fails errors.OutOfMemory read = Unit {0}
 Fails (errors.Fault f) read = read ≡ Err f
 
+-- what a function returned, seen by view, is what reading gives, unless memory ran out
 abbrev pub Gives : {X Y : Type 0} → (X → Y) → Result X ParseError → Result Y TraceFault → Type 0
 Gives view (Ok x) read = read ≡ Ok (view x)
 Gives view (Err e) read = Fails e read
@@ -39,9 +41,11 @@ abbrev pub found : {A : Type 0} → Option A → Kind → Result A Kind
 found (Some x) kind = Ok x
 found None kind = Err kind
 
+-- the number of a part
 abbrev pub number_at : List ℕ → Result ℕ Kind
 number_at part = found (number_of part) Number
 
+-- the root of a part
 abbrev pub root_at : List ℕ → Result RootId Kind
 root_at part = found (root_of part) Root
 
@@ -206,19 +210,23 @@ abbrev pub named : {A : Type 0} → ℕ → Result A Kind → Result A TraceFaul
 named number (Ok x) = Ok x
 named number (Err kind) = Err (record { line = number; kind = kind })
 
+-- a line behind the first, by its limits, its form and its parts
 unfoldable pub whole_line : ℕ → Piece → Result Line Kind
 whole_line number line = do
   parts ← parts_in number line
   line_at parts
 
+-- the first line, by its limits, its form and its parts
 unfoldable pub whole_header : Piece → Result declared.Header.Header Kind
 whole_header line = do
   parts ← parts_in 1 line
   header_at parts
 
+-- a line behind the first, its fault named with the line
 abbrev pub line_in : ℕ → Piece → Result Line TraceFault
 line_in number line = named number (whole_line number line)
 
+-- the first line, its fault named with the line
 abbrev pub header_in : Piece → Result declared.Header.Header TraceFault
 header_in line = named 1 (whole_header line)
 

@@ -70,6 +70,7 @@ abbrev pub played : Option ConfigFault → Script → Result (List ℕ × Summar
 played (Some fault) script = Err (faults.New fault)
 played None script = Ok (output_of (answers_of script), summary_of (answers_of script))
 
+-- what a run of this trace gives, or the fault that its text has
 abbrev pub run_of_trace : Result Script TraceFault → Result (List ℕ × Summary) RunFault
 run_of_trace (Err fault) = Err (faults.Trace fault)
 run_of_trace (Ok script) = played (fault_of (config_of script.header)) script

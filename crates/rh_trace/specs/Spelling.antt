@@ -33,6 +33,7 @@ line_parts (Copy owner dst src) = decimal owner ∷ codes "copy" ∷ root_text d
 line_parts (Same owner a b) = decimal owner ∷ codes "same" ∷ root_text a ∷ root_text b ∷ []
 line_parts (Drop owner root) = decimal owner ∷ codes "drop" ∷ root_text root ∷ []
 
+-- the parts of the first line
 abbrev pub header_parts : Header → List (List ℕ)
 header_parts header = codes "heap" ∷ decimal header.words ∷ decimal header.ratio ∷ decimal header.log ∷ decimal header.owners ∷ decimal header.slots ∷ []
 
@@ -40,9 +41,11 @@ header_parts header = codes "heap" ∷ decimal header.words ∷ decimal header.r
 abbrev pub spell_parts : List (List ℕ) → List ℕ
 spell_parts parts = join_with_byte 32 parts ++ 10 ∷ []
 
+-- the text of a line
 abbrev pub spell_line : Line → List ℕ
 spell_line line = spell_parts (line_parts line)
 
+-- the text of the first line
 abbrev pub spell_header : Header → List ℕ
 spell_header header = spell_parts (header_parts header)
 
@@ -50,9 +53,11 @@ spell_header header = spell_parts (header_parts header)
 abbrev pub spelling : Script → List ℕ
 spelling script = spell_header script.header ++ flat_map spell_line script.lines
 
+-- a number that has 32 bits
 abbrev pub IsU32 : ℕ → Type 0
 IsU32 n = n < 2 ^ 32
 
+-- a root whose numbers have 32 bits
 abbrev pub RootFits : RootId → Type 0
 RootFits root = IsU32 root.owner × IsU32 root.slot
 
@@ -75,6 +80,7 @@ LineFits (Copy owner dst src) = IsU32 owner × RootFits dst × RootFits src
 LineFits (Same owner a b) = IsU32 owner × RootFits a × RootFits b
 LineFits (Drop owner root) = IsU32 owner × RootFits root
 
+-- a first line whose numbers have 32 bits
 abbrev pub HeaderFits : Header → Type 0
 HeaderFits header = IsU32 header.words × IsU32 header.ratio × IsU32 header.log × IsU32 header.owners × IsU32 header.slots
 

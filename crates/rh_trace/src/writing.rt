@@ -1,6 +1,7 @@
 //! A trace written as its text.
 
-ghost use Rattle.std.specs.Prelude.{◌≡◌, OnOk, OnErr};
+ghost use Rattle.std.specs.IoError.{error_kind};
+ghost use Rattle.std.specs.Prelude.{◌≡◌, ◌↔◌, IsTrue, OnOk, OnErr};
 ghost use Rattle.std.specs.Io.KnownBytes.{Appends};
 ghost use Rattle.rh_trace.specs.Output.{AppendsLess};
 ghost use Rattle.rh_trace.specs.Spelling.{spell_line, spell_header, spelling};
@@ -19,8 +20,10 @@ use std::io::ErrorKind;
 const MAX_INTERRUPTS: u32 = 33_554_432;
 
 /// The call was interrupted, and may be made again.
-pub fn is_interrupted(error: &io::Error) -> bool {
-    matches!(error.kind(), ErrorKind::Interrupted)
+pub fn is_interrupted(error: &io::Error) -> bool
+    ensures { IsTrue result ↔ (error_kind error.now ≡ ErrorKind.Interrupted) }
+{
+    error.kind() == ErrorKind::Interrupted
 }
 
 /// Writes all of a text, in one write where the writer takes it whole, and else again from where it stopped. A write
