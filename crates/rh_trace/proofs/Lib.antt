@@ -8,3 +8,4 @@ pub mod Again
 pub mod Output
 pub mod Taken
 pub mod Playing
+pub mod Plain

@@ -1,7 +1,7 @@
 -- What a run of an input gives, and how a run ends.
 use Rattle.std.specs.Prelude.{◌≡◌, ℕ, ◌^◌, List, [], ◌∷◌, ◌++◌, length, count_by, is_err, Option, Some, None, Result, Ok, Err, nat_lt, if◌then◌else◌}
 use Rattle.std.specs.List.{flat_map}
-use Rattle.std.specs.Io.KnownBytes.{Appends, Keeps}
+use Rattle.std.specs.Io.KnownBytes.{Appends, Consumes, Keeps}
 use Rattle.rh_layout.specs.declared.command.Command.{Command}
 use Rattle.rh_layout.specs.declared.command.Command.TheVariants as commands
 use Rattle.rh_layout.specs.declared.command.Reply.{Reply}
@@ -10,6 +10,8 @@ use Rattle.rh_core.specs.declared.config.Config.{Config}
 use Rattle.rh_core.specs.declared.config.ConfigFault.{ConfigFault}
 use Rattle.rh_core.specs.Config.{fault_of}
 use Rattle.rh_core.specs.Heap.{HeapState, new_heap, heap_step}
+use Rattle.rh_core.specs.Run.{is_limit, AnswersAs, plain_unless}
+use Rattle.rh_model.specs.Plain.{PlainHeap, empty_plain, step}
 use Rattle.rh_trace.specs.declared.fault.TraceFault.{TraceFault}
 use Rattle.rh_trace.specs.declared.run_fault.RunFault.{RunFault}
 use Rattle.rh_trace.specs.declared.run_fault.RunFault.TheVariants as faults
@@ -17,7 +19,7 @@ use Rattle.rh_trace.specs.declared.line.Header.{Header}
 use Rattle.rh_trace.specs.declared.line.Line.{Line}
 use Rattle.rh_trace.specs.declared.line.Line.TheVariants.{Alloc, Load, Store, Copy, Same, Drop}
 use Rattle.rh_trace.specs.declared.summary.Summary.{Summary}
-use Rattle.rh_trace.specs.Spelling.{Script}
+use Rattle.rh_trace.specs.Spelling.{Script, IsScript, spelling}
 use Rattle.rh_trace.specs.Reading.{trace_of}
 use Rattle.rh_trace.specs.Answers.{answer_line, total_line}
 use Rattle.rh_trace.specs.Output.{AppendsFront, AppendsLess}
@@ -97,3 +99,18 @@ Ends due (Err (faults.New fault)) old new = IsFault (faults.New fault) due old n
 Ends due (Err faults.Read) old new = Keeps old new
 Ends due (Err faults.Write) old new = AppendsLess old new (text_of due)
 Ends due (Err faults.OutOfMemory) old new = AppendsFront old new (text_of due)
+
+-- Line by line the answers are those of a plain heap, but for limits: each is that of the plain heap's step, or a limit refusal where the step is accepted. The plain heap goes on by each command that no limit refused.
+abbrev pub AreTransparent : PlainHeap → List Line → List (Result Reply Refusal) → Type 0
+AreTransparent p [] [] = Unit {0}
+AreTransparent p [] (answer ∷ answers) = ⊥
+AreTransparent p (line ∷ lines) [] = ⊥
+AreTransparent p (line ∷ lines) (answer ∷ answers) =
+    AnswersAs (is_limit answer) answer (step p (owner_of line) (command_of line)).1
+    × AreTransparent (plain_unless (is_limit answer) p (owner_of line) (command_of line)) lines answers
+
+-- The bytes that a reader gave spell this trace, and the answers to its lines are those of a plain heap that begins empty, but for limits.
+pub record IsPlainRun (script : Script) (answers : List (Result Reply Refusal)) (old new : Option (List ℕ)) : Type 0 where
+  pub fits : IsScript script
+  pub read : Consumes old new (spelling script)
+  pub answered : AreTransparent (empty_plain script.header.owners script.header.slots) script.lines answers

@@ -22,7 +22,7 @@ fn put_reply(text: &mut LineText, reply: Reply)
         }
         Reply::Object(fields) => {
             text.put(b"object ");
-            text.put_number(fields);
+            text.put_integer(fields);
         }
         Reply::Same(true) => text.put(b"same yes"),
         Reply::Same(false) => text.put(b"same no"),

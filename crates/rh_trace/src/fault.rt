@@ -5,7 +5,8 @@ ghost use Rattle.rh_trace.specs.declared.fault.ParseError.TheVariants as errors;
 
 use std::alloc::{AllocError, AllocFailed};
 
-/// What is wrong with a line. In each line the first of these that holds is named.
+/// What is wrong with a line. In each line the first of these that holds is named; of `Number` and `Root` the one of the
+/// first faulty part.
 #[derive(Clone, Copy, Debug, PartialEq, Eq)]
 pub enum Kind {
     /// The text has no byte. It is the fault of line 1.
@@ -14,7 +15,7 @@ pub enum Kind {
     Long,
     /// The line has no line end.
     Cut,
-    /// A byte outside 32 to 126, an empty part, or a wrong number of parts.
+    /// A byte outside 32 to 126, an empty part, or, behind the first line, a wrong number of parts.
     Form,
     /// The first line doesn't begin with the part `heap`, or hasn't six parts.
     Header,
@@ -68,6 +69,7 @@ impl<T: Drop> From<AllocFailed<T>> for ParseError {
     }
 }
 
-/// A write failed: the writer answered an error, or took no byte.
+/// A write failed: the writer answered an error or took no byte. A write that was interrupted is made again, for one
+/// line at most 33,554,432 times.
 #[derive(Clone, Copy, Debug, PartialEq, Eq)]
 pub struct Write;

@@ -19,7 +19,7 @@ const CHUNK: usize = 65_536;
 /// Why an input could not be read whole.
 #[derive(Clone, Copy, Debug, PartialEq, Eq)]
 pub enum InputFault {
-    /// A read failed, or there were more than 33,554,432 reads.
+    /// A read failed, or 33,554,432 reads didn't come to the end.
     Read,
     /// The input has more than 16,777,216 bytes.
     Long,
@@ -32,6 +32,7 @@ fn keep<A: Allocator>(text: &mut Vec<u8, A>, bytes: &[u8]) -> Result<(), InputFa
     ensures ok { OnOk result (text.new.items ≡ text.old.items ++ bytes.now) }
     ensures few { OnOk result (length text.new.items ≤ 16777216) }
     ensures long { IsErrOf result InputFault.Long → 16777216 < length text.old.items + length bytes.now }
+    ensures never_read { ¬ IsErrOf result InputFault.Read }
 {
     if bytes.len() > MAX_INPUT {
         return Err(InputFault::Long);

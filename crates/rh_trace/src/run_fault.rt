@@ -7,7 +7,7 @@ use rh_core::ConfigFault;
 /// written then, and nothing after `Read`. After `Write` and `OutOfMemory` a front of the answers may be written.
 #[derive(Clone, Copy, Debug, PartialEq, Eq)]
 pub enum RunFault {
-    /// A read failed, or there were more than 33,554,432 reads.
+    /// A read failed, or 33,554,432 reads didn't come to the end.
     Read,
     /// The input has more than 16,777,216 bytes.
     Long,

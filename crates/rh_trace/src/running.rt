@@ -1,10 +1,13 @@
 //! A trace run on a new heap.
 
-ghost use Rattle.std.specs.Prelude.{◌≡◌, List, ℕ, IfOk, OnOk, OnErr, IfSome};
+ghost use Rattle.std.specs.Prelude.{◌≡◌, List, ℕ, Result, IfOk, IsErrOf, OnOk, OnErr, IfSome};
 ghost use Rattle.std.specs.Io.KnownBytes.{Appends, Consumes};
+ghost use Rattle.rh_layout.specs.declared.command.Reply.{Reply};
+ghost use Rattle.rh_layout.specs.declared.refusal.Refusal.{Refusal};
 ghost use Rattle.rh_trace.specs.Output.{AppendsLess};
 ghost use Rattle.rh_trace.specs.Reading.{trace_of};
-ghost use Rattle.rh_trace.specs.Run.{config_of, owner_of, command_of, line_step, answers_to, summary_of, output_of, run_of_trace, run_of, Ends};
+ghost use Rattle.rh_trace.specs.Spelling.{Script};
+ghost use Rattle.rh_trace.specs.Run.{config_of, owner_of, command_of, line_step, answers_to, summary_of, output_of, run_of_trace, run_of, Ends, IsPlainRun};
 
 use crate::answers::{put_answer, put_total};
 use crate::fault::{ParseError, Write};
@@ -15,6 +18,7 @@ use crate::summary::Summary;
 use crate::text::LineText;
 use crate::trace::parse;
 use crate::writing::send;
+use rh_core::laws::heaps_answer_as_plain_heaps;
 use rh_core::{Config, Heap, HeapError};
 use rh_layout::{Command, Refusal, Reply};
 use std::alloc::Allocator;
@@ -134,7 +138,8 @@ fn run_input<A: Allocator + Copy, W: io::Write>(
 
 /// Reads a trace whole, runs its lines in order on a new heap, and writes a line for each answer and the total line,
 /// one line in each write that the writer takes whole. Nothing is written before the whole trace was read and its
-/// heap made. At most 16,777,216 bytes are taken, in at most 33,554,432 reads.
+/// heap made. The answers are those of a heap that never moves its objects, but for refusals by a limit.
+/// A trace has at most 16,777,216 bytes, and must end within 33,554,432 reads.
 ///
 /// Of the faults of an input the first is answered: `Long`, then `Trace`, then `New`. `Read` comes where a read failed
 /// or was one too many, `Write` where a write failed, `OutOfMemory` where the allocator refused memory.
@@ -148,7 +153,17 @@ pub fn run_trace<A: Allocator + Copy, R: io::Read, W: io::Write>(
     // For any reader, of the bytes that it gave.
     ensures read { (input : List ℕ) × Consumes (R.remaining reader.old) (R.remaining reader.new) input
         × Ends (run_of input) result (W.contents writer.old) (W.contents writer.new) }
+    // Said of the plain heap alone, where the run succeeded: which trace was read, and which answers were written.
+    ensures plain { IfOk result (λ summary. (script : Script) × (answers : List (Result Reply Refusal))
+        × IsPlainRun script answers (R.remaining reader.old) (R.remaining reader.new)
+        × (summary ≡ summary_of answers) × Appends (W.contents writer.old) (W.contents writer.new) (output_of answers)) }
+    // The same where a write failed: a front of the text of such answers was written.
+    ensures plain_front { IsErrOf result RunFault.Write → (script : Script) × (answers : List (Result Reply Refusal))
+        × IsPlainRun script answers (R.remaining reader.old) (R.remaining reader.new)
+        × AppendsLess (W.contents writer.old) (W.contents writer.new) (output_of answers) }
 {
+    // The law from which the clauses on the plain heap follow.
+    heaps_answer_as_plain_heaps();
     match read_all(alloc, reader) {
         Ok(input) => run_input(alloc, &input, writer),
         Err(InputFault::Read) => Err(RunFault::Read),

@@ -19,6 +19,15 @@ const BOUNDARY: &[u8] =
 const BOUNDARY_ANSWERS: &[u8] =
     b"object 2\nobject 1\nrefused FieldsRange\nrefused SpaceFull need 10 free 9\nobject 7\nrefused SpaceFull need 2 free 0\ntotal commands 6 refused 3 flips 0 rootwords 0\n";
 
+/// The parts of a trace of 48 lines behind the first, and of its answers: the lines and the answers come 24 times.
+const LONG_HEADER: &[u8] = b"heap 64 8 4 2 2\n";
+
+const LONG_LINES: &[u8] = b"1 alloc 1.0 0\n1 load 1.1 1.0 0\n";
+
+const LONG_ANSWERS: &[u8] = b"object 0\nrefused NoField\n";
+
+const LONG_TOTAL: &[u8] = b"total commands 48 refused 24 flips 0 rootwords 0\n";
+
 /// The trace that is cut in its third line.
 const CUT: &[u8] = b"heap 16 8 4 2 2\n1 alloc 1.0 2\n1 alloc 1.0";
 
@@ -344,10 +353,58 @@ fn refused_memory(rt: HostRuntime) {
     assert!(rt; refused > 3 && refused < 50);
 }
 
+/// A front, 24 times the same, and an end.
+fn with_24_of(rt: &HostRuntime, front: &[u8], same: &[u8], end: &[u8]) -> Result<Vec<u8>, Fail> {
+    let mut text = Vec::new(rt.alloc());
+    text.extend_from_slice(front)?;
+    for _ in 0..24 {
+        text.extend_from_slice(same)?;
+    }
+    text.extend_from_slice(end)?;
+    Ok(text)
+}
+
 #[test]
-fn refused_memory_of_parse(rt: HostRuntime) {
-    let alloc = RefusingAllocator::new(rt.alloc(), 1);
-    let result = parse(&alloc, WITHOUT_FIELDS);
-    assert!(rt; matches!(result, Err(ParseError::OutOfMemory)));
-    assert!(rt; alloc.has_refused());
+fn refused_memory_of_a_long_trace(rt: HostRuntime) -> Result<(), Fail> {
+    let text = with_24_of(&rt, LONG_HEADER, LONG_LINES, b"")?;
+    let answers = with_24_of(&rt, b"", LONG_ANSWERS, LONG_TOTAL)?;
+    let mut refused = 0u32;
+    for nth in 1..100 {
+        let alloc = RefusingAllocator::new(rt.alloc(), nth);
+        let mut reader = SlowReader::new(&text, 0);
+        let mut written = Vec::new(rt.alloc());
+        let result = run_trace(&alloc, &mut reader, &mut written);
+        if !alloc.has_refused() {
+            assert!(rt; result.is_ok());
+            assert_eq!(rt; written.as_slice(), answers.as_slice());
+            break;
+        }
+        assert_eq!(rt; result, Err(RunFault::OutOfMemory));
+        assert_eq!(rt; written.len(), 0);
+        refused = refused.saturating_add(1);
+    }
+    assert!(rt; refused > 12 && refused < 50);
+    Ok(())
+}
+
+#[test]
+fn refused_memory_of_parse(rt: HostRuntime) -> Result<(), Fail> {
+    let text = with_24_of(&rt, LONG_HEADER, LONG_LINES, b"")?;
+    let mut refused = 0u32;
+    for nth in 1..100 {
+        let alloc = RefusingAllocator::new(rt.alloc(), nth);
+        let result = parse(&alloc, &text);
+        if !alloc.has_refused() {
+            let trace = result.ok().ok_or("a trace")?;
+            let mut printed = Vec::new(rt.alloc());
+            assert_eq!(rt; trace.len(), 48);
+            assert_eq!(rt; print(&trace, &mut printed), Ok(()));
+            assert_eq!(rt; printed.as_slice(), text.as_slice());
+            break;
+        }
+        assert!(rt; matches!(result, Err(ParseError::OutOfMemory)));
+        refused = refused.saturating_add(1);
+    }
+    assert!(rt; refused > 4 && refused < 20);
+    Ok(())
 }

@@ -1,7 +1,6 @@
 //! A line of text in a buffer of a fixed size, so that writing it takes no memory.
 
 ghost use Rattle.std.specs.Prelude.{◌≡◌, ◌+◌, ◌≤◌, List, [], ◌∷◌, ◌++◌, length, decimal};
-ghost use Rattle.std.specs.Fmt.{signed_decimal};
 ghost use Rattle.rh_trace.specs.Spelling.{root_text, operand_text};
 
 use itoa::{Buffer, Integer};
@@ -63,21 +62,11 @@ impl LineText {
         self.len = end;
     }
 
-    /// Puts the decimal of a number at the end.
-    pub fn put_number(&mut self, number: u32)
-        requires { length self.old ≤ 246 }
-        ensures value { self.new ≡ self.old ++ decimal number }
-        ensures len { length self.new ≤ length self.old + 10 }
-    {
-        let mut buffer = Buffer::new();
-        self.put(buffer.format(number).as_bytes());
-    }
-
     /// Puts the text of an integer at the end.
     pub fn put_integer<I: Integer>(&mut self, number: I)
-        requires { length self.old ≤ 216 }
+        requires { length self.old + I.MAX_STR_LEN ≤ 256 }
         ensures value { self.new ≡ self.old ++ I.text number }
-        ensures len { length self.new ≤ length self.old + 40 }
+        ensures len { length self.new ≤ length self.old + I.MAX_STR_LEN }
     {
         let mut buffer = Buffer::new();
         self.put(buffer.format(number).as_bytes());
@@ -85,9 +74,9 @@ impl LineText {
 
     /// Puts bytes and the text of an integer at the end.
     pub fn put_part<I: Integer>(&mut self, name: &[u8], number: I)
-        requires { length self.old + length name.now ≤ 216 }
+        requires { length self.old + length name.now + I.MAX_STR_LEN ≤ 256 }
         ensures value { self.new ≡ self.old ++ (name.now ++ I.text number) }
-        ensures len { length self.new ≤ length self.old + length name.now + 40 }
+        ensures len { length self.new ≤ length self.old + length name.now + I.MAX_STR_LEN }
     {
         self.put(name);
         self.put_integer(number);
@@ -100,7 +89,7 @@ impl LineText {
         ensures len { length self.new ≤ length self.old + 11 }
     {
         self.put(b" ");
-        self.put_number(number);
+        self.put_integer(number);
     }
 
     /// Puts `OWNER.SLOT` at the end.
@@ -109,19 +98,9 @@ impl LineText {
         ensures value { self.new ≡ self.old ++ root_text root }
         ensures len { length self.new ≤ length self.old + 21 }
     {
-        self.put_number(root.owner);
+        self.put_integer(root.owner);
         self.put(b".");
-        self.put_number(root.slot);
-    }
-
-    /// Puts the decimal of a whole number at the end.
-    pub fn put_signed(&mut self, number: i64)
-        requires { length self.old ≤ 236 }
-        ensures value { self.new ≡ self.old ++ signed_decimal number }
-        ensures len { length self.new ≤ length self.old + 20 }
-    {
-        let mut buffer = Buffer::new();
-        self.put(buffer.format(number).as_bytes());
+        self.put_integer(root.slot);
     }
 
     /// Puts `nil`, a whole number or `OWNER.SLOT` at the end.
@@ -132,7 +111,7 @@ impl LineText {
     {
         match operand {
             Operand::Nil => self.put(b"nil"),
-            Operand::Int(number) => self.put_signed(number),
+            Operand::Int(number) => self.put_integer(number),
             Operand::Root(root) => self.put_root(root),
         }
     }

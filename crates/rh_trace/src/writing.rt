@@ -16,7 +16,7 @@ use std::alloc::Allocator;
 use std::io;
 use std::io::ErrorKind;
 
-/// How often a call that was interrupted is made again.
+/// How often writes of one text that were interrupted are made again.
 const MAX_INTERRUPTS: u32 = 33_554_432;
 
 /// The call was interrupted, and may be made again.
@@ -54,11 +54,11 @@ fn put_alloc(text: &mut LineText, owner: u32, dst: RootId, fields: u32)
     ensures { text.new ≡ spell_line (Alloc owner dst fields) }
 {
     text.clear();
-    text.put_number(owner);
+    text.put_integer(owner);
     text.put(b" alloc ");
     text.put_root(dst);
     text.put(b" ");
-    text.put_number(fields);
+    text.put_integer(fields);
     text.put(b"\n");
 }
 
@@ -67,13 +67,13 @@ fn put_load(text: &mut LineText, owner: u32, dst: RootId, src: RootId, field: u3
     ensures { text.new ≡ spell_line (Load owner dst src field) }
 {
     text.clear();
-    text.put_number(owner);
+    text.put_integer(owner);
     text.put(b" load ");
     text.put_root(dst);
     text.put(b" ");
     text.put_root(src);
     text.put(b" ");
-    text.put_number(field);
+    text.put_integer(field);
     text.put(b"\n");
 }
 
@@ -82,11 +82,11 @@ fn put_store(text: &mut LineText, owner: u32, obj: RootId, field: u32, operand: 
     ensures { text.new ≡ spell_line (Store owner obj field operand) }
 {
     text.clear();
-    text.put_number(owner);
+    text.put_integer(owner);
     text.put(b" store ");
     text.put_root(obj);
     text.put(b" ");
-    text.put_number(field);
+    text.put_integer(field);
     text.put(b" ");
     text.put_operand(operand);
     text.put(b"\n");
@@ -97,7 +97,7 @@ fn put_copy(text: &mut LineText, owner: u32, dst: RootId, src: RootId)
     ensures { text.new ≡ spell_line (Copy owner dst src) }
 {
     text.clear();
-    text.put_number(owner);
+    text.put_integer(owner);
     text.put(b" copy ");
     text.put_root(dst);
     text.put(b" ");
@@ -110,7 +110,7 @@ fn put_same(text: &mut LineText, owner: u32, a: RootId, b: RootId)
     ensures { text.new ≡ spell_line (Same owner a b) }
 {
     text.clear();
-    text.put_number(owner);
+    text.put_integer(owner);
     text.put(b" same ");
     text.put_root(a);
     text.put(b" ");
@@ -123,7 +123,7 @@ fn put_drop(text: &mut LineText, owner: u32, root: RootId)
     ensures { text.new ≡ spell_line (Drop owner root) }
 {
     text.clear();
-    text.put_number(owner);
+    text.put_integer(owner);
     text.put(b" drop ");
     text.put_root(root);
     text.put(b"\n");
