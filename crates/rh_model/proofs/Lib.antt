@@ -2,3 +2,4 @@ mod Reaching
 mod Following
 mod GoingBack
 mod PlainStored
+mod RefusalOrder

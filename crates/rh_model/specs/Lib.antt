@@ -1,4 +1,5 @@
 pub mod Graph
+pub mod Refusals
 pub mod Plain
 pub mod SameGraph
 pub mod SameGraphLaws
