@@ -49,6 +49,7 @@ number_at part = found (number_of part) Number
 abbrev pub root_at : List ℕ → Result RootId Kind
 root_at part = found (root_of part) Root
 
+-- the whole number of a part
 abbrev pub integer_at : List ℕ → Result ℤ Kind
 integer_at part = found (integer_of part) Number
 

@@ -21,9 +21,10 @@ pub enum Kind {
     Header,
     /// The line's word isn't one of the words at that place.
     Word,
-    /// A part that should be a number isn't the decimal of one from 0 to 4,294,967,295.
+    /// A part that should be a number isn't the decimal of one from 0 to 4,294,967,295, or an operand isn't `nil`, a root or
+    /// the decimal of a whole number of 64 bits with sign.
     Number,
-    /// A part that should be a root isn't `OWNER.SLOT`.
+    /// A part that should be a root, or an operand with a dot, isn't `OWNER.SLOT`, two numbers from 0 to 4,294,967,295.
     Root,
 }
 

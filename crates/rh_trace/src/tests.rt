@@ -105,6 +105,46 @@ impl io::Write for SlowWriter {
     }
 }
 
+/// A reader that is interrupted at each read but its nth, which comes to the end.
+#[derive(Drop)]
+struct InterruptedReader {
+    reads: u32,
+    ends_at: u32,
+}
+
+impl io::Read for InterruptedReader {
+    fn read(&mut self, _buf: &mut [u8]) -> io::Result<usize> {
+        self.reads = self.reads.wrapping_add(1);
+        if self.reads == self.ends_at {
+            return Ok(0);
+        }
+        Err(io::Error::from(ErrorKind::Interrupted))
+    }
+}
+
+/// A writer that is interrupted at each write, or at every second one, and takes the others whole.
+#[derive(Drop)]
+struct InterruptedWriter {
+    text: Vec<u8>,
+    writes: u32,
+    always: bool,
+}
+
+impl io::Write for InterruptedWriter {
+    fn write(&mut self, buf: &[u8]) -> io::Result<usize> {
+        self.writes = self.writes.wrapping_add(1);
+        if self.always || self.writes % 2 == 1 {
+            return Err(io::Error::from(ErrorKind::Interrupted));
+        }
+        self.text.extend_from_slice(buf)?;
+        Ok(buf.len())
+    }
+
+    fn flush(&mut self) -> io::Result<()> {
+        Ok(())
+    }
+}
+
 /// What a run answers, and what it writes.
 fn run(rt: &HostRuntime, input: &[u8]) -> (Result<Summary, RunFault>, Vec<u8>) {
     let mut reader = input;
@@ -113,8 +153,8 @@ fn run(rt: &HostRuntime, input: &[u8]) -> (Result<Summary, RunFault>, Vec<u8>) {
     (result, written)
 }
 
-/// The fault that a text has.
-fn fault_of(rt: &HostRuntime, text: &[u8]) -> Option<TraceFault> {
+/// The fault that a text has, and its line.
+pub(crate) fn fault_of(rt: &HostRuntime, text: &[u8]) -> Option<TraceFault> {
     match parse(rt.alloc(), text) {
         Err(ParseError::Fault(fault)) => Some(fault),
         _ => None,
@@ -301,6 +341,47 @@ fn failing_reader(rt: HostRuntime) {
         let result = run_trace(rt.alloc(), &mut reader, &mut written);
         assert_eq!(rt; result, Err(RunFault::Read));
         assert_eq!(rt; written.len(), 0);
+    }
+}
+
+#[test]
+fn reads_end(rt: HostRuntime) {
+    let empty = TraceFault {
+        line: 1,
+        kind: Kind::Empty,
+    };
+    for (ends_at, fault) in [
+        (33_554_432, RunFault::Trace(empty)),
+        (33_554_433, RunFault::Read),
+    ] {
+        let mut reader = InterruptedReader { reads: 0, ends_at };
+        let mut written = Vec::new(rt.alloc());
+        let result = run_trace(rt.alloc(), &mut reader, &mut written);
+        assert_eq!(rt; result, Err(fault));
+        assert_eq!(rt; reader.reads, 33_554_432);
+        assert_eq!(rt; written.len(), 0);
+    }
+}
+
+#[test]
+fn interrupted_writes_are_made_again(rt: HostRuntime) {
+    for (always, answers, writes) in [
+        (false, WITHOUT_FIELDS_ANSWERS, 6),
+        (true, b"".as_slice(), 33_554_433),
+    ] {
+        let mut reader = WITHOUT_FIELDS;
+        let mut writer = InterruptedWriter {
+            text: Vec::new(rt.alloc()),
+            writes: 0,
+            always,
+        };
+        let result = run_trace(rt.alloc(), &mut reader, &mut writer);
+        assert_eq!(rt;
+            result.err(),
+            if always { Some(RunFault::Write) } else { None }
+        );
+        assert_eq!(rt; writer.text.as_slice(), answers);
+        assert_eq!(rt; writer.writes, writes);
     }
 }
 

@@ -1,4 +1,5 @@
 use super::*;
+use crate::tests::fault_of;
 use rh_layout::{Operand, RootId};
 use std::test::Fail;
 
@@ -20,14 +21,6 @@ fn store_of(field: u32, operand: Operand) -> Line {
         obj: A,
         field,
         operand,
-    }
-}
-
-/// The fault that a text has, and its line.
-fn line_fault(rt: &HostRuntime, text: &[u8]) -> Option<TraceFault> {
-    match parse(rt.alloc(), text) {
-        Err(ParseError::Fault(fault)) => Some(fault),
-        _ => None,
     }
 }
 
@@ -98,54 +91,58 @@ fn prints_each_line(rt: HostRuntime) -> Result<(), Fail> {
     Ok(())
 }
 
+/// Second lines, each with the kind of its fault.
+const FAULTS_OF_LINES: [(&[u8], Kind); 35] = [
+    (b"heap 16 8 4 2 2\n1 store 1.0 0\n", Kind::Form),
+    (b"heap 16 8 4 2 2\n1 store x 0\n", Kind::Form),
+    (b"heap 16 8 4 2 2\n1 store 1.0 0 5 5\n", Kind::Form),
+    (b"heap 16 8 4 2 2\n1 store 1.0 0 \n", Kind::Form),
+    (b"heap 16 8 4 2 2\n1 store 1.0 0 x\n", Kind::Number),
+    (b"heap 16 8 4 2 2\n1 store 1.0 0 1.x\n", Kind::Root),
+    (b"heap 16 8 4 2 2\n1 store 1.0 0 -1.0\n", Kind::Root),
+    (b"heap 16 8 4 2 2\n1 store 1.0 0 1.\n", Kind::Root),
+    (b"heap 16 8 4 2 2\n1 store 1.0 0 .\n", Kind::Root),
+    (b"heap 16 8 4 2 2\n1 store 1.0 0 nil.\n", Kind::Root),
+    (b"heap 16 8 4 2 2\n1 store 1 0 5\n", Kind::Root),
+    (b"heap 16 8 4 2 2\n1 store 1 x 1.x\n", Kind::Root),
+    (b"heap 16 8 4 2 2\n1 store 1.0 x 1.x\n", Kind::Number),
+    (b"heap 16 8 4 2 2\n1x store 1 0 1.x\n", Kind::Number),
+    (b"heap 16 8 4 2 2\n1 store 1.0 -1 5\n", Kind::Number),
+    (
+        b"heap 16 8 4 2 2\n1 store 1.0 0 9223372036854775808\n",
+        Kind::Number,
+    ),
+    (
+        b"heap 16 8 4 2 2\n1 store 1.0 0 -9223372036854775809\n",
+        Kind::Number,
+    ),
+    (
+        b"heap 16 8 4 2 2\n1 store 1.0 0 18446744073709551616\n",
+        Kind::Number,
+    ),
+    (b"heap 16 8 4 2 2\n1 store 1.0 0 +5\n", Kind::Number),
+    (b"heap 16 8 4 2 2\n1 store 1.0 0 05\n", Kind::Number),
+    (b"heap 16 8 4 2 2\n1 store 1.0 0 -05\n", Kind::Number),
+    (b"heap 16 8 4 2 2\n1 store 1.0 0 -0\n", Kind::Number),
+    (b"heap 16 8 4 2 2\n1 store 1.0 0 00\n", Kind::Number),
+    (b"heap 16 8 4 2 2\n1 store 1.0 0 -\n", Kind::Number),
+    (b"heap 16 8 4 2 2\n1 store 1.0 0 --1\n", Kind::Number),
+    (b"heap 16 8 4 2 2\n1 store 1.0 0 Nil\n", Kind::Number),
+    (b"heap 16 8 4 2 2\n1 copy 1.0\n", Kind::Form),
+    (b"heap 16 8 4 2 2\n1 copy 7 1.0 1.1\n", Kind::Form),
+    (b"heap 16 8 4 2 2\n1 copy 7 1.0\n", Kind::Root),
+    (b"heap 16 8 4 2 2\n1 copy 1.0 nil\n", Kind::Root),
+    (b"heap 16 8 4 2 2\n1 same 1.0 7\n", Kind::Root),
+    (b"heap 16 8 4 2 2\n1 same 1.0\n", Kind::Form),
+    (b"heap 16 8 4 2 2\n1 stores 1.0 0 5\n", Kind::Word),
+    (b"heap 16 8 4 2 2\n1 drop 1.4294967296\n", Kind::Root),
+    (b"heap 16 8 4 2 2\n1 drop 4294967296.0\n", Kind::Root),
+];
+
 #[test]
 fn faults_of_lines(rt: HostRuntime) {
-    let table: [(&[u8], Kind); 33] = [
-        (b"heap 16 8 4 2 2\n1 store 1.0 0\n", Kind::Form),
-        (b"heap 16 8 4 2 2\n1 store x 0\n", Kind::Form),
-        (b"heap 16 8 4 2 2\n1 store 1.0 0 5 5\n", Kind::Form),
-        (b"heap 16 8 4 2 2\n1 store 1.0 0 \n", Kind::Form),
-        (b"heap 16 8 4 2 2\n1 store 1.0 0 x\n", Kind::Number),
-        (b"heap 16 8 4 2 2\n1 store 1.0 0 1.x\n", Kind::Root),
-        (b"heap 16 8 4 2 2\n1 store 1.0 0 -1.0\n", Kind::Root),
-        (b"heap 16 8 4 2 2\n1 store 1.0 0 1.\n", Kind::Root),
-        (b"heap 16 8 4 2 2\n1 store 1.0 0 .\n", Kind::Root),
-        (b"heap 16 8 4 2 2\n1 store 1.0 0 nil.\n", Kind::Root),
-        (b"heap 16 8 4 2 2\n1 store 1 0 5\n", Kind::Root),
-        (b"heap 16 8 4 2 2\n1 store 1 x 1.x\n", Kind::Root),
-        (b"heap 16 8 4 2 2\n1 store 1.0 x 1.x\n", Kind::Number),
-        (b"heap 16 8 4 2 2\n1x store 1 0 1.x\n", Kind::Number),
-        (b"heap 16 8 4 2 2\n1 store 1.0 -1 5\n", Kind::Number),
-        (
-            b"heap 16 8 4 2 2\n1 store 1.0 0 9223372036854775808\n",
-            Kind::Number,
-        ),
-        (
-            b"heap 16 8 4 2 2\n1 store 1.0 0 -9223372036854775809\n",
-            Kind::Number,
-        ),
-        (
-            b"heap 16 8 4 2 2\n1 store 1.0 0 18446744073709551616\n",
-            Kind::Number,
-        ),
-        (b"heap 16 8 4 2 2\n1 store 1.0 0 +5\n", Kind::Number),
-        (b"heap 16 8 4 2 2\n1 store 1.0 0 05\n", Kind::Number),
-        (b"heap 16 8 4 2 2\n1 store 1.0 0 -05\n", Kind::Number),
-        (b"heap 16 8 4 2 2\n1 store 1.0 0 -0\n", Kind::Number),
-        (b"heap 16 8 4 2 2\n1 store 1.0 0 00\n", Kind::Number),
-        (b"heap 16 8 4 2 2\n1 store 1.0 0 -\n", Kind::Number),
-        (b"heap 16 8 4 2 2\n1 store 1.0 0 --1\n", Kind::Number),
-        (b"heap 16 8 4 2 2\n1 store 1.0 0 Nil\n", Kind::Number),
-        (b"heap 16 8 4 2 2\n1 copy 1.0\n", Kind::Form),
-        (b"heap 16 8 4 2 2\n1 copy 7 1.0 1.1\n", Kind::Form),
-        (b"heap 16 8 4 2 2\n1 copy 7 1.0\n", Kind::Root),
-        (b"heap 16 8 4 2 2\n1 copy 1.0 nil\n", Kind::Root),
-        (b"heap 16 8 4 2 2\n1 same 1.0 7\n", Kind::Root),
-        (b"heap 16 8 4 2 2\n1 same 1.0\n", Kind::Form),
-        (b"heap 16 8 4 2 2\n1 stores 1.0 0 5\n", Kind::Word),
-    ];
-    for (text, kind) in table {
-        assert_eq!(rt; line_fault(&rt, text), Some(TraceFault { line: 2, kind }));
+    for (text, kind) in FAULTS_OF_LINES {
+        assert_eq!(rt; fault_of(&rt, text), Some(TraceFault { line: 2, kind }));
     }
 }
 
