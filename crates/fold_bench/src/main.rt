@@ -39,15 +39,16 @@ fn item_of(seed: u64, number: u64) -> Item {
     }
 }
 
-/// Folds so many items, and answers how many places the replica has; nothing where memory was refused.
+/// Folds so many items, rounded down to whole pieces, and answers how many places the replica has; nothing where memory
+/// was refused.
 fn folded(alloc: Global, items: u64) -> Option<usize> {
     let mut replica = PartialReplica::empty(alloc, 1);
     let mut seed = 1;
-    for first in 0..items / PIECE_ITEMS as u64 {
+    for number in 1..=items / PIECE_ITEMS as u64 {
         let mut piece = Piece::new(1);
         for _ in 0..PIECE_ITEMS {
             seed = next_seed(seed);
-            piece.push(item_of(seed, first)).ok()?;
+            piece.push(item_of(seed, number)).ok()?;
         }
         replica = replica.take(&piece).ok()?;
     }

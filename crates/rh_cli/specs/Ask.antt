@@ -17,6 +17,7 @@ run_app = with_rule (new_app (codes "run")) file_rule
 abbrev pub rheap_top : App
 rheap_top = let new = new_app (codes "rheap") in record new { top = record new.top { has_version = true; subcommand_required = true } }
 
+-- the program with its command
 abbrev pub rheap_app : App
 rheap_app = with_subcommand rheap_top run_app.top
 
@@ -25,6 +26,7 @@ abbrev pub with_file : Text → Option Text → Option (Text × Text)
 with_file name None = None
 with_file name (Some file) = Some (name, file)
 
+-- the command and the file that a parse holds: the command that it found, and the first value of its file
 abbrev pub held : Option (Text × List Row) → Option (Text × Text)
 held None = None
 held (Some found) = with_file found.0 (first_of (codes "FILE") found.1)

@@ -19,6 +19,6 @@ abbrev pub IsStatus : Result Summary RunFault → ℕ → Type 0
 IsStatus (Ok summary) status = (status ≡ 0) ⊎ (status ≡ 1)
 IsStatus (Err fault) status = status ≡ fault_status fault
 
--- the run ends by what is due for its input, and the status tells how
+-- the run ended in a way that fits what is due for its input and what was written, and the status is that ending's
 abbrev pub Concludes : Result (List ℕ × Summary) RunFault → ℕ → Option (List ℕ) → Option (List ℕ) → Type 0
 Concludes due status old new = (outcome : Result Summary RunFault) × Ends due outcome old new × IsStatus outcome status

@@ -1,20 +1,22 @@
 //! Doing what was asked, between a reader and two writers.
 
-ghost use Rattle.std.specs.Prelude.{◌≡◌, List, ℕ, IfSome};
+ghost use Rattle.std.specs.Prelude.{◌≡◌, ◌⊎◌, List, ℕ, IfSome};
 ghost use Rattle.std.specs.Io.KnownBytes.{Consumes};
 ghost use Rattle.rh_trace.specs.Run.{run_of};
 ghost use Rattle.rh_cli.specs.Drive.{Concludes, IsStatus, fault_status};
 ghost use Rattle.rh_cli.specs.Fault.{status_of, status_after};
+ghost use Rattle.rh_cli.specs.declared.fault.LineFault.TheVariants as faults;
 
 use crate::ask::{Ask, Subcommand};
 use crate::fault::LineFault;
 use rh_core::ConfigFault;
 use rh_trace::{Kind, RunFault, Summary, run_trace};
 use std::alloc::Allocator;
-use std::io::{Read, Write};
+use std::io::{self, Read, Write};
 
 /// Does what is asked with the file's bytes, which `reader` gives: answers go to `out`, which is flushed at the end, and
-/// one line on failure to `err`. Answers the status that the program ends with.
+/// one line on failure to `err`. Answers the status that the program ends with: 0 where it is done, 3 where memory was
+/// refused, and else 1.
 pub fn drive<A: Allocator + Copy, R: Read, O: Write, E: Write>(
     alloc: A,
     ask: &Ask<'_>,
@@ -42,11 +44,26 @@ pub fn drive<A: Allocator + Copy, R: Read, O: Write, E: Write>(
 pub fn tell<E: Write>(fault: &LineFault, err: &mut E) -> u8
     ensures { result ≡ status_of fault.now }
 {
-    let _ = match fault {
-        LineFault::Words(error) => write!(err, "{error}"),
-        _ => writeln!(err, "{fault}"),
-    };
+    let _ = write_text(fault, err);
     fault.status()
+}
+
+/// Writes the text of help or the version, and answers its status; where that fails, it is told as a failed write.
+pub(crate) fn show<O: Write, E: Write>(fault: &LineFault, out: &mut O, err: &mut E) -> u8
+    ensures { (result ≡ status_of fault.now) ⊎ (result ≡ status_of faults.Write) }
+{
+    match write_text(fault, out) {
+        Ok(()) => fault.status(),
+        Err(_) => tell(&LineFault::Write, err),
+    }
+}
+
+/// Writes a fault's text: one line, or clap's.
+fn write_text<W: Write>(fault: &LineFault, writer: &mut W) -> io::Result<()> {
+    match fault {
+        LineFault::Words(error) => write!(writer, "{error}"),
+        _ => writeln!(writer, "{fault}"),
+    }
 }
 
 /// Runs a trace. A failed flush is a failed write.

@@ -33,13 +33,13 @@ pub enum LineFault {
     /// The file can't be opened.
     #[error("rheap: open failed")]
     Open,
-    /// A read failed.
+    /// A read failed, or 33,554,432 reads didn't come to the end.
     #[error("rheap: read failed")]
     Read,
-    /// A write failed.
+    /// A write failed, or took no byte, or the last flush failed.
     #[error("rheap: write failed")]
     Write,
-    /// The file has too many bytes.
+    /// The file has more than 16,777,216 bytes.
     #[error("rheap: too long")]
     TooLong,
     /// Memory was refused.

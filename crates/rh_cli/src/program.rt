@@ -1,7 +1,7 @@
 //! The program from its command line to its status.
 
 use crate::ask::Ask;
-use crate::driving::{drive, tell};
+use crate::driving::{drive, show, tell};
 use crate::fault::LineFault;
 use crate::words::read_words;
 use std::env;
@@ -17,7 +17,7 @@ const OUTPUT_BYTES: usize = 65_536;
 pub fn play<R: Env + Files + Input + Print + AllocGlobal, E: Write>(rt: &R, err: &mut E) -> u8 {
     match carry_out(rt, err) {
         Ok(status) => status,
-        Err(fault) if fault.status() == 0 => tell(&fault, &mut io::writer(rt)),
+        Err(fault) if fault.status() == 0 => show(&fault, &mut io::writer(rt), err),
         Err(fault) => tell(&fault, err),
     }
 }
@@ -40,7 +40,7 @@ fn carry_out<R: Env + Files + Input + Print + AllocGlobal, E: Write>(
 }
 
 /// Carries out a request with its file.
-fn with_file<R: Files + Input + Print + AllocGlobal, E: Write>(
+pub(crate) fn with_file<R: Files + Input + Print + AllocGlobal, E: Write>(
     rt: &R,
     ask: &Ask<'_>,
     err: &mut E,

@@ -1,4 +1,6 @@
 use super::*;
+use crate::driving::show;
+use crate::program::with_file;
 use refusing::RefusingAllocator;
 use std::io;
 use std::process::Abort;
@@ -83,7 +85,6 @@ fn statuses_and_texts_of_runs(rt: HostRuntime) {
         b"",
         b"rheap: line 3: Cut\n",
     );
-    runs_to(&rt, b"", 1, b"", b"rheap: line 1: Empty\n");
     runs_to(&rt, b"heap 7 0 0 0 0\n", 1, b"", b"rheap: heap: BadSpace\n");
     runs_to(
         &rt,
@@ -100,6 +101,82 @@ fn statuses_and_texts_of_runs(rt: HostRuntime) {
         b"rheap: heap: BadRoots\n",
     );
     runs_to(&rt, b"heap 16 8 0 2 2\n", 1, b"", b"rheap: heap: BadLog\n");
+}
+
+#[test]
+fn each_kind_of_fault_is_told(rt: HostRuntime) -> Result<(), Fail> {
+    let mut long = Vec::new(rt.alloc());
+    for _ in 0..257 {
+        long.push(b'9')?;
+    }
+    let table: [(&[u8], &[u8]); 8] = [
+        (b"", b"rheap: line 1: Empty\n"),
+        (&long, b"rheap: line 1: Long\n"),
+        (b"heap 16 8 4 2 2", b"rheap: line 1: Cut\n"),
+        (b"heap 16 8 4 2 2\n1\n", b"rheap: line 2: Form\n"),
+        (b"heap 16 8 4 2\n", b"rheap: line 1: Header\n"),
+        (b"heap 16 8 4 2 2\nbegin\n", b"rheap: line 2: Word\n"),
+        (b"heap 16 8 4 2 02\n", b"rheap: line 1: Number\n"),
+        (b"heap 16 8 4 2 2\n1 drop 10\n", b"rheap: line 2: Root\n"),
+    ];
+    for (text, told) in table {
+        runs_to(&rt, text, 1, b"", told);
+    }
+    let too_long = vec![in rt.alloc(); b'9'; 16_777_217]?;
+    runs_to(&rt, &too_long, 1, b"", b"rheap: too long\n");
+    Ok(())
+}
+
+#[test]
+fn faults_before_a_run_are_told(rt: HostRuntime) {
+    let table: [(LineFault, u8, &[u8]); 3] = [
+        (LineFault::Open, 1, b"rheap: open failed\n"),
+        (
+            LineFault::NoText,
+            2,
+            b"rheap: the command line is no text\n",
+        ),
+        (LineFault::Incomplete, 2, b"rheap: no command and file\n"),
+    ];
+    for (fault, status, text) in table {
+        let mut err = Vec::new(rt.alloc());
+        assert_eq!(rt; tell(&fault, &mut err), status);
+        assert_eq!(rt; err.as_slice(), text);
+    }
+}
+
+#[test]
+fn help_that_cannot_be_written_is_a_failed_write(rt: HostRuntime) -> Result<(), Fail> {
+    let mut out = Vec::new(rt.alloc());
+    let mut err = Vec::new(rt.alloc());
+    let version = read_words(rt.alloc(), &["rheap", "--version"]).err();
+    let version = version.ok_or("the version is no request")?;
+    assert_eq!(rt; show(&version, &mut out, &mut err), 0);
+    assert_eq!(rt; out.as_slice(), b"rheap 0.1.0\n".as_slice());
+    assert_eq!(rt; err.len(), 0);
+    assert_eq!(rt; show(&version, &mut Broken, &mut err), 1);
+    assert_eq!(rt; err.as_slice(), b"rheap: write failed\n".as_slice());
+    Ok(())
+}
+
+/// A request to run this file.
+fn run_of(file: &str) -> Ask<'_> {
+    Ask {
+        subcommand: Subcommand::Run,
+        file,
+    }
+}
+
+#[test]
+fn files_are_opened(rt: HostRuntime) {
+    let mut err = Vec::new(rt.alloc());
+    let missing = with_file(&rt, &run_of("no such file"), &mut err);
+    assert!(rt; matches!(missing, Err(LineFault::Open)));
+    assert_eq!(rt; err.len(), 0);
+    // A file without a byte.
+    let empty = with_file(&rt, &run_of("/dev/null"), &mut err);
+    assert!(rt; matches!(empty, Ok(1)));
+    assert_eq!(rt; err.as_slice(), b"rheap: line 1: Empty\n".as_slice());
 }
 
 /// A reader and a writer that fail at each call.

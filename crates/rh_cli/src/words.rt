@@ -22,7 +22,7 @@ fn command_line<'a>(alloc: Global) -> Result<Command<'a>, AllocError>
         .about("Runs a trace, and prints an answer for each of its lines")
         .arg(file)?;
     Command::new(alloc, "rheap")
-        .about("A managed heap with a replication-copying collector")
+        .about("A managed heap, proved to answer as one that never moves its objects")
         .version("0.1.0")
         .subcommand_required(true)
         .subcommand(run)
@@ -30,7 +30,8 @@ fn command_line<'a>(alloc: Global) -> Result<Command<'a>, AllocError>
 
 /// What the words ask for. The first word is the program's name.
 ///
-/// `Words` where clap refuses the words, or they ask for help or the version; `OutOfMemory` where memory was refused.
+/// `Words` where clap refuses the words, or they ask for help or the version; `Incomplete` where clap takes them and they
+/// hold no command or no file; `OutOfMemory` where memory was refused. Clap takes its memory from the global allocator.
 pub fn read_words<'a>(alloc: Global, words: &'a [&'a str]) -> Result<Ask<'a>, LineFault>
     // The request has the command and the file that clap's parse of the words holds.
     ensures asked { IfOk result (λ ask. given (map (λ w. w.now) words.now) ≡ Some (asked ask)) }
