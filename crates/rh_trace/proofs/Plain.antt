@@ -11,7 +11,7 @@ use Rattle.rh_core.specs.declared.config.Config.{Config}
 use Rattle.rh_core.specs.declared.config.ConfigFault.{ConfigFault}
 use Rattle.rh_core.specs.Config.{fault_of}
 use Rattle.rh_core.specs.Heap.{HeapState, new_heap, heap_step, StandsFor}
-use Rattle.rh_core.specs.Run.{is_limit, AnswersAs, plain_unless}
+use Rattle.rh_core.specs.Run.{is_limit_answer, AnswersAs, plain_unless}
 use Rattle.rh_trace.specs.declared.fault.TraceFault.{TraceFault}
 use Rattle.rh_trace.specs.declared.run_fault.RunFault.{RunFault}
 use Rattle.rh_trace.specs.declared.run_fault.RunFault.TheVariants as faults
@@ -26,8 +26,8 @@ use Rattle.rh_trace.proofs.Takes.{trace_takes}
 -- a heap that stands for a plain heap answers as it does, and goes on to stand for it
 abbrev pub Steps : Type 0
 Steps = (h : HeapState) (p : PlainHeap) → StandsFor h p → (owner : ℕ) (command : Command)
-    → AnswersAs (is_limit (heap_step h owner command).1) (heap_step h owner command).1 (step p owner command).1
-    × StandsFor (heap_step h owner command).0 (plain_unless (is_limit (heap_step h owner command).1) p owner command)
+    → AnswersAs (is_limit_answer (heap_step h owner command).1) (heap_step h owner command).1 (step p owner command).1
+    × StandsFor (heap_step h owner command).0 (plain_unless (is_limit_answer (heap_step h owner command).1) p owner command)
 
 -- a new heap stands for the empty plain heap
 abbrev pub Begins : Type 0
@@ -37,7 +37,7 @@ answers-transparent : Steps → (lines : List Line) (h : HeapState) (p : PlainHe
 answers-transparent steps [] h p stands = tt
 answers-transparent steps (line ∷ lines) h p stands =
     let one = steps h p stands (owner_of line) (command_of line) in
-    (one.0, answers-transparent steps lines (line_step h line).0 (plain_unless (is_limit (line_step h line).1) p (owner_of line) (command_of line)) one.1)
+    (one.0, answers-transparent steps lines (line_step h line).0 (plain_unless (is_limit_answer (line_step h line).1) p (owner_of line) (command_of line)) one.1)
 
 -- a trace that was read, with its answers
 plain_run : Begins → Steps → (input : List ℕ) (script : Script) (old new : Option (List ℕ)) → Consumes old new input → trace_of input ≡ Ok script → IsPlainRun script (answers_of script) old new

@@ -10,7 +10,7 @@ use Rattle.rh_core.specs.declared.config.Config.{Config}
 use Rattle.rh_core.specs.declared.config.ConfigFault.{ConfigFault}
 use Rattle.rh_core.specs.Config.{fault_of}
 use Rattle.rh_core.specs.Heap.{HeapState, new_heap, heap_step}
-use Rattle.rh_core.specs.Run.{is_limit, AnswersAs, plain_unless}
+use Rattle.rh_core.specs.Run.{is_limit_answer, AnswersAs, plain_unless}
 use Rattle.rh_model.specs.Plain.{PlainHeap, empty_plain, step}
 use Rattle.rh_trace.specs.declared.fault.TraceFault.{TraceFault}
 use Rattle.rh_trace.specs.declared.run_fault.RunFault.{RunFault}
@@ -106,8 +106,8 @@ AreTransparent p [] [] = Unit {0}
 AreTransparent p [] (answer ∷ answers) = ⊥
 AreTransparent p (line ∷ lines) [] = ⊥
 AreTransparent p (line ∷ lines) (answer ∷ answers) =
-    AnswersAs (is_limit answer) answer (step p (owner_of line) (command_of line)).1
-    × AreTransparent (plain_unless (is_limit answer) p (owner_of line) (command_of line)) lines answers
+    AnswersAs (is_limit_answer answer) answer (step p (owner_of line) (command_of line)).1
+    × AreTransparent (plain_unless (is_limit_answer answer) p (owner_of line) (command_of line)) lines answers
 
 -- The bytes that a reader gave spell this trace, and the answers to its lines are those of a plain heap that begins empty, but for limits.
 pub record IsPlainRun (script : Script) (answers : List (Result Reply Refusal)) (old new : Option (List ℕ)) : Type 0 where

@@ -1,4 +1,4 @@
-use Rattle.rh_model.specs.SameGraphLaws.{refusal_of-same, reply_to-same}
+use Rattle.rh_model.specs.lemmas.SameGraph.{refusal_of-same, reply_to-same}
 use Rattle.rh_model.proofs.laws.same_graphs_answer_alike.Goals as goal
 
 pub returns-clause-refusals : goal.returns-clause-refusals

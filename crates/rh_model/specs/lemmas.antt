@@ -1,0 +1,2 @@
+pub mod SameGraph
+pub mod Step
