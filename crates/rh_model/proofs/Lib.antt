@@ -1,5 +1,10 @@
-mod Reaching
-mod Following
-mod GoingBack
-mod PlainStored
+mod ReachedPaired
+mod SameGraphTransitive
+mod SameGraphSymmetric
+mod PlainAsDefined
 mod RefusalOrder
+mod SameGraphReflexive
+mod ReachedLeast
+mod SameValueEqual
+mod CommandEffects
+mod StaysWellFormed

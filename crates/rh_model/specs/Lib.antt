@@ -3,5 +3,7 @@ pub mod Refusals
 pub mod Plain
 pub mod SameGraph
 pub mod Reach
-pub mod PlainFields
+pub mod Effects
+pub mod PlainValue
+pub mod CommandError
 pub mod lemmas

@@ -1,2 +1,4 @@
+pub mod Elements
+pub mod RootValue
 pub mod SameGraph
 pub mod Step

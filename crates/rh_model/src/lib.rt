@@ -9,6 +9,3 @@ mod plain_value;
 pub use errors::{CommandError, PlainError};
 pub use plain::Plain;
 pub use plain_value::PlainValue;
-
-#[cfg(test)]
-mod tests;

@@ -1,6 +1,7 @@
 //! What a field or a root of the plain heap holds.
 
-/// What a field or a root of the plain heap holds. An object is named by its position, since objects never move.
+/// What a field or a root of the plain heap holds. An object's name is its position, since objects
+/// never move.
 #[derive(Clone, Copy, Debug, PartialEq, Eq)]
 pub enum PlainValue {
     /// No object and no number: a field as allocated.

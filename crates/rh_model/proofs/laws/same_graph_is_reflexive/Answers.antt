@@ -1,0 +1,5 @@
+use Rattle.rh_model.proofs.SameGraphReflexive.{SameGraph-reflexive}
+use Rattle.rh_model.proofs.laws.same_graph_is_reflexive.Goals as goal
+
+pub returns : goal.returns
+returns c = SameGraph-reflexive

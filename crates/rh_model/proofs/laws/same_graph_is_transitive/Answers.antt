@@ -1,0 +1,5 @@
+use Rattle.rh_model.proofs.SameGraphTransitive.{SameGraph-transitive}
+use Rattle.rh_model.proofs.laws.same_graph_is_transitive.Goals as goal
+
+pub returns : goal.returns
+returns c = SameGraph-transitive

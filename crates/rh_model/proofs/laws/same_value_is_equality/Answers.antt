@@ -1,0 +1,5 @@
+use Rattle.rh_model.proofs.SameValueEqual.{same_value-exact}
+use Rattle.rh_model.proofs.laws.same_value_is_equality.Goals as goal
+
+pub returns : goal.returns
+returns c = same_value-exact
