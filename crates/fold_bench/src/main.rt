@@ -1,36 +1,56 @@
-//! Folds items into a partial replica, piece by piece, and prints how many places it has: what `bench/fold` times.
+//! Folds items, piece by piece, into a partial replica of many places or, by refilling, of few, and
+//! prints how many places it has: what `bench/fold` times.
 #![tactic(auto)]
 
 use rh_layout::Value;
-use rh_partial::{Item, PIECE_ITEMS, PartialReplica, Piece};
+use rh_partial::{Item, MAX_PIECE_ITEMS, PartialReplica, Piece};
 use std::alloc::Global;
 use std::env;
 use std::process::ExitCode;
 use std::rt::Env;
 
-/// The places that the items are spread over.
-const PLACES: u64 = 4_096;
+/// The places that the items of a fold are spread over.
+const FOLD_PLACES: u64 = 4_096;
 
-/// How many items are asked for: the first argument, or 64.
-fn item_count(rt: &(impl Env + AllocGlobal)) -> u64 {
-    let Ok(mut args) = env::args(rt) else {
-        return 64;
-    };
-    match args.nth(1) {
-        Some(text) => text.as_str().parse::<u64>().unwrap_or(64),
-        None => 64,
-    }
+/// The places that the items of a refill are spread over.
+const REFILL_PLACES: u64 = 64;
+
+/// What is timed: the first argument, `fold` or `refill`, and how many items: the second.
+struct Asked {
+    refills: bool,
+    items: u64,
 }
 
-/// The next of a sequence of numbers that look random (Knuth's linear congruential generator for 64 bits).
+/// What the arguments ask for; a fold of 64 items where they ask for nothing.
+fn asked(rt: &(impl Env + AllocGlobal)) -> Asked {
+    let mut asked = Asked {
+        refills: false,
+        items: 64,
+    };
+    let Ok(mut args) = env::args(rt) else {
+        return asked;
+    };
+    if let Some(what) = args.nth(1) {
+        asked.refills = what.as_str() == "refill";
+    }
+    if let Some(items) = args.next() {
+        asked.items = items.as_str().parse::<u64>().unwrap_or(64);
+    }
+    asked
+}
+
+/// The next of a sequence of numbers that look random (Knuth's linear congruential generator for 64
+/// bits).
 fn next_seed(seed: u64) -> u64 {
     seed.wrapping_mul(6_364_136_223_846_793_005)
         .wrapping_add(1_442_695_040_888_963_407)
 }
 
-/// The item of a seed, with this number.
-fn item_of(seed: u64, number: u64) -> Item {
-    let place = (seed >> 33) % PLACES;
+/// The item of a seed, with this number, at one of the first `places` places.
+fn item_of(seed: u64, number: u64, places: u64) -> Item
+    requires { 0 < places }
+{
+    let place = (seed >> 33) % places;
     Item {
         object: (place / 64) as u32,
         field: (place % 64) as u32,
@@ -39,24 +59,54 @@ fn item_of(seed: u64, number: u64) -> Item {
     }
 }
 
-/// Folds so many items, rounded down to whole pieces, and answers how many places the replica has; nothing where memory
-/// was refused.
+/// A full piece of epoch 1, and the seed after it.
+fn piece_of(seed: u64, number: u64, places: u64) -> (Piece, u64)
+    requires { 0 < places }
+{
+    let mut piece = Piece::new(1);
+    let mut seed = seed;
+    for _ in 0..MAX_PIECE_ITEMS {
+        seed = next_seed(seed);
+        // The piece has room for so many.
+        let _ = piece.push(item_of(seed, number, places));
+    }
+    (piece, seed)
+}
+
+/// Folds so many items, rounded down to whole pieces, and answers how many places the replica has;
+/// nothing where memory was refused.
 fn folded(alloc: Global, items: u64) -> Option<usize> {
     let mut replica = PartialReplica::empty(alloc, 1);
     let mut seed = 1;
-    for number in 1..=items / PIECE_ITEMS as u64 {
-        let mut piece = Piece::new(1);
-        for _ in 0..PIECE_ITEMS {
-            seed = next_seed(seed);
-            piece.push(item_of(seed, number)).ok()?;
-        }
+    for number in 1..=items / MAX_PIECE_ITEMS as u64 {
+        let (piece, next) = piece_of(seed, number, FOLD_PLACES);
+        seed = next;
         replica = replica.take(&piece).ok()?;
     }
     Some(replica.len())
 }
 
+/// Refills one replica with so many items, rounded down to whole pieces, and answers how many places
+/// it has; nothing where memory was refused.
+fn refilled(alloc: Global, items: u64) -> Option<usize> {
+    let mut replica = PartialReplica::reserved(alloc, 1).ok()?;
+    let mut seed = 1;
+    for number in 1..=items / MAX_PIECE_ITEMS as u64 {
+        let (piece, next) = piece_of(seed, number, REFILL_PLACES);
+        seed = next;
+        replica.refill(&piece);
+    }
+    Some(replica.len())
+}
+
 fn main(rt: HostRuntime) -> ExitCode {
-    match folded(rt.alloc(), item_count(&rt)) {
+    let asked = asked(&rt);
+    let places = if asked.refills {
+        refilled(rt.alloc(), asked.items)
+    } else {
+        folded(rt.alloc(), asked.items)
+    };
+    match places {
         Some(places) if println!(rt; "places {places}").is_ok() => ExitCode::SUCCESS,
         _ => ExitCode::FAILURE,
     }
