@@ -4,8 +4,11 @@
 ghost use Rattle.std.specs.Prelude.{◌≡◌, ◌+◌, ◌≤◌, ◌↔◌, IsTrue};
 ghost use Rattle.refusing.specs.RefusedNumber.{refused_number};
 
+mod turns;
+
 use std::alloc::{AllocError, Allocator, Global};
 use std::sync::atomic::{AtomicU64, Ordering};
+pub use turns::refused_in_turn;
 
 /// An allocator for tests: it passes each call on to `inner`, and refuses exactly the nth allocation.
 ///
@@ -93,6 +96,3 @@ unsafe impl<A: Allocator> Allocator for RefusingAllocator<A> {
         self.inner.deallocate(ptr, size, align);
     }
 }
-
-#[cfg(test)]
-mod tests;

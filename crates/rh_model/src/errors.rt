@@ -18,7 +18,7 @@ pub enum PlainError {
 #[derive(Clone, Copy, Debug, PartialEq, Eq, Error)]
 pub enum CommandError {
     /// The command was refused, for what it asks: never for a limit, since the plain heap has none.
-    #[error("{0:?}")]
+    #[error("{0}")]
     Refused(Refusal),
     /// A growth was refused.
     #[error("out of memory")]
