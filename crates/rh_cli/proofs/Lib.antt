@@ -1,2 +1,2 @@
-pub mod Held
-pub mod Ended
+pub mod ClapMatches
+pub mod Flushed

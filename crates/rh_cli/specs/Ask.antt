@@ -27,22 +27,22 @@ with_file name None = None
 with_file name (Some file) = Some (name, file)
 
 -- the command and the file that a parse holds: the command that it found, and the first value of its file
-abbrev pub held : Option (Text × List Row) → Option (Text × Text)
-held None = None
-held (Some found) = with_file found.0 (first_of (codes "FILE") found.1)
+abbrev pub command_and_file_in : Option (Text × List Row) → Option (Text × Text)
+command_and_file_in None = None
+command_and_file_in (Some found) = with_file found.0 (first_of (codes "FILE") found.1)
 
--- the command and the file that clap's parse of the words holds
-unfoldable pub given : List Text → Option (Text × Text)
-given words = held (subcommand_of rheap_app words)
+-- the command and the file that clap's parse of the arguments holds
+unfoldable pub command_and_file_of : List Text → Option (Text × Text)
+command_and_file_of arguments = command_and_file_in (subcommand_of rheap_app arguments)
 
--- whether clap takes the words
+-- whether clap takes the arguments
 unfoldable pub is_taken : List Text → Bool
-is_taken words = takes rheap_app words
+is_taken arguments = takes rheap_app arguments
 
 -- how a command is spelled
 abbrev pub name_of : Subcommand → Text
 name_of Run = codes "run"
 
 -- the command and the file of a request
-abbrev pub asked : Ask → Text × Text
-asked ask = (name_of ask.subcommand, ask.file.now)
+abbrev pub command_and_file : Ask → Text × Text
+command_and_file ask = (name_of ask.subcommand, ask.file.now)

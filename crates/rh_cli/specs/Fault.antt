@@ -7,18 +7,18 @@ use Rattle.rh_cli.specs.declared.fault.LineFault.{LineFault}
 use Rattle.rh_cli.specs.declared.fault.LineFault.TheVariants as faults
 
 -- a request for help or the version is no mistake
-abbrev pub words_status : ErrorKind → ℕ
-words_status DisplayHelp = 0
-words_status DisplayVersion = 0
-words_status kind = 2
+abbrev pub arguments_status : ErrorKind → ℕ
+arguments_status DisplayHelp = 0
+arguments_status DisplayVersion = 0
+arguments_status kind = 2
 
 -- 0 done, 1 a fault in the file or in reading or writing, 2 the command line, 3 want of memory
 abbrev pub status_of : LineFault → ℕ
-status_of (faults.Words error) = words_status (kind_of error)
+status_of (faults.Arguments error) = arguments_status (kind_of error)
 status_of faults.NoText = 2
 status_of faults.Incomplete = 2
 status_of (faults.Line line kind) = 1
-status_of (faults.Heap name) = 1
+status_of (faults.Heap fault) = 1
 status_of faults.Open = 1
 status_of faults.Read = 1
 status_of faults.Write = 1

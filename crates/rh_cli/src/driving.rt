@@ -1,6 +1,6 @@
 //! Doing what was asked, between a reader and two writers.
 
-ghost use Rattle.std.specs.Prelude.{◌≡◌, ◌⊎◌, List, ℕ, IfSome};
+ghost use Rattle.std.specs.Prelude.{◌≡◌, ◌⊎◌, ◌↔◌, List, ℕ, IfSome, IsOk, IsTrue};
 ghost use Rattle.std.specs.Io.KnownBytes.{Consumes};
 ghost use Rattle.rh_trace.specs.Run.{run_of};
 ghost use Rattle.rh_cli.specs.Drive.{Concludes, IsStatus, fault_status};
@@ -9,14 +9,13 @@ ghost use Rattle.rh_cli.specs.declared.fault.LineFault.TheVariants as faults;
 
 use crate::ask::{Ask, Subcommand};
 use crate::fault::LineFault;
-use rh_core::ConfigFault;
-use rh_trace::{Kind, RunFault, Summary, run_trace};
+use rh_trace::{RunFault, Summary, run_trace};
 use std::alloc::Allocator;
 use std::io::{self, Read, Write};
 
-/// Does what is asked with the file's bytes, which `reader` gives: answers go to `out`, which is flushed at the end, and
-/// one line on failure to `err`. Answers the status that the program ends with: 0 where it is done, 3 where memory was
-/// refused, and else 1.
+/// Does what is asked with the file's bytes, which `reader` gives: answers go to `out`, which is
+/// flushed at the end, and one line on failure to `err`. Answers the status that the program ends
+/// with: 0 where it is done, 3 where memory was refused, and else 1.
 pub fn drive<A: Allocator + Copy, R: Read, O: Write, E: Write>(
     alloc: A,
     ask: &Ask<'_>,
@@ -24,11 +23,12 @@ pub fn drive<A: Allocator + Copy, R: Read, O: Write, E: Write>(
     out: &mut O,
     err: &mut E,
 ) -> u8
-    // For a reader that tells its bytes.
+    // For a reader that tells its bytes: by a run of the bytes that it had.
     ensures told { IfSome (R.remaining reader.old) (λ input.
         Concludes (run_of input) result (O.contents out.old) (O.contents out.new)) }
-    // For any reader, of the bytes that it gave.
-    ensures read { (input : List ℕ) × Consumes (R.remaining reader.old) (R.remaining reader.new) input
+    // Of the bytes that were taken; which these are is known of a reader that tells its bytes.
+    ensures read { (input : List ℕ)
+        × Consumes (R.remaining reader.old) (R.remaining reader.new) input
         × Concludes (run_of input) result (O.contents out.old) (O.contents out.new) }
 {
     let done = match ask.subcommand {
@@ -48,7 +48,8 @@ pub fn tell<E: Write>(fault: &LineFault, err: &mut E) -> u8
     fault.status()
 }
 
-/// Writes the text of help or the version, and answers its status; where that fails, it is told as a failed write.
+/// Writes the text of help or the version, and answers its status; where that fails, it is told as
+/// a failed write.
 pub(crate) fn show<O: Write, E: Write>(fault: &LineFault, out: &mut O, err: &mut E) -> u8
     ensures { (result ≡ status_of fault.now) ⊎ (result ≡ status_of faults.Write) }
 {
@@ -61,7 +62,7 @@ pub(crate) fn show<O: Write, E: Write>(fault: &LineFault, out: &mut O, err: &mut
 /// Writes a fault's text: one line, or clap's.
 fn write_text<W: Write>(fault: &LineFault, writer: &mut W) -> io::Result<()> {
     match fault {
-        LineFault::Words(error) => write!(writer, "{error}"),
+        LineFault::Arguments(error) => write!(writer, "{error}"),
         _ => writeln!(writer, "{fault}"),
     }
 }
@@ -74,17 +75,20 @@ fn run<A: Allocator + Copy, R: Read, O: Write>(
 ) -> Result<(), LineFault>
     ensures told { IfSome (R.remaining reader.old) (λ input.
         Concludes (run_of input) (status_after result) (O.contents out.old) (O.contents out.new)) }
-    ensures read { (input : List ℕ) × Consumes (R.remaining reader.old) (R.remaining reader.new) input
+    ensures read { (input : List ℕ)
+        × Consumes (R.remaining reader.old) (R.remaining reader.new) input
         × Concludes (run_of input) (status_after result) (O.contents out.old) (O.contents out.new) }
 {
     let ran = run_trace(alloc, reader, out);
     let flushed = out.flush();
-    concluded(ran, flushed.is_ok())
+    conclude(ran, flushed.is_ok())
 }
 
-/// What a run and the flush behind it come to.
-fn concluded(ran: Result<Summary, RunFault>, flushed: bool) -> Result<(), LineFault>
-    ensures { IsStatus ran (status_after result) }
+/// What a run and the flush after it come to.
+fn conclude(ran: Result<Summary, RunFault>, flushed: bool) -> Result<(), LineFault>
+    ensures status { IsStatus ran (status_after result) }
+    // The status is 0 exactly where the run succeeded and the flush did.
+    ensures done { (status_after result ≡ 0) ↔ (IsOk ran × IsTrue flushed) }
 {
     match ran {
         Ok(_) if flushed => Ok(()),
@@ -102,35 +106,10 @@ fn fault_of_run(fault: RunFault) -> LineFault
         RunFault::Long => LineFault::TooLong,
         RunFault::Trace(fault) => LineFault::Line {
             line: fault.line,
-            kind: kind_name(fault.kind),
+            kind: fault.kind,
         },
-        RunFault::New(fault) => LineFault::Heap(config_name(fault)),
+        RunFault::New(fault) => LineFault::Heap(fault),
         RunFault::Write => LineFault::Write,
         RunFault::OutOfMemory => LineFault::OutOfMemory,
-    }
-}
-
-/// A kind of fault in a trace, as it is told.
-fn kind_name(kind: Kind) -> &'static str {
-    match kind {
-        Kind::Empty => "Empty",
-        Kind::Long => "Long",
-        Kind::Cut => "Cut",
-        Kind::Form => "Form",
-        Kind::Header => "Header",
-        Kind::Word => "Word",
-        Kind::Number => "Number",
-        Kind::Root => "Root",
-    }
-}
-
-/// A fault of a heap's sizes, as it is told.
-fn config_name(fault: ConfigFault) -> &'static str {
-    match fault {
-        ConfigFault::BadSpace => "BadSpace",
-        ConfigFault::BadRatio => "BadRatio",
-        ConfigFault::BadRoots => "BadRoots",
-        ConfigFault::BadLog => "BadLog",
-        ConfigFault::BadNumbers => "BadNumbers",
     }
 }

@@ -4,19 +4,21 @@ ghost use Rattle.std.specs.Prelude.{◌≡◌};
 ghost use Rattle.rh_cli.specs.declared.fault.LineFault.TheVariants.{OutOfMemory};
 ghost use Rattle.rh_cli.specs.Fault.{status_of};
 
+use rh_core::ConfigFault;
+use rh_trace::Kind;
 use std::alloc::{AllocError, AllocFailed};
 use thiserror::Error;
 
 /// Why the program didn't do what it was asked. Its text is one line, or clap's.
 #[derive(Debug, Drop, Error)]
 pub enum LineFault {
-    /// The words aren't a command line of the program, or ask for its help or version.
+    /// The arguments aren't a command line of the program, or ask for its help or version.
     #[error("{0}")]
-    Words(clap::Error),
-    /// The words aren't text.
+    Arguments(clap::Error),
+    /// An argument isn't text.
     #[error("rheap: the command line is no text")]
     NoText,
-    /// The words name no command or no file.
+    /// The arguments name no command or no file.
     #[error("rheap: no command and file")]
     Incomplete,
     /// A line of the file is faulty: its number from 1, and the kind of fault.
@@ -25,18 +27,18 @@ pub enum LineFault {
         /// The line, from 1.
         line: u32,
         /// The kind of fault.
-        kind: &'static str,
+        kind: Kind,
     },
     /// No heap is made with the sizes that the file asks for.
     #[error("rheap: heap: {0}")]
-    Heap(&'static str),
+    Heap(ConfigFault),
     /// The file can't be opened.
     #[error("rheap: open failed")]
     Open,
     /// A read failed, or 33,554,432 reads didn't come to the end.
     #[error("rheap: read failed")]
     Read,
-    /// A write failed, or took no byte, or the last flush failed.
+    /// A write failed or took no byte, or the last flush failed.
     #[error("rheap: write failed")]
     Write,
     /// The file has more than 16,777,216 bytes.
@@ -48,14 +50,14 @@ pub enum LineFault {
 }
 
 impl LineFault {
-    /// The status that the program ends with: 0 for help or the version, 2 for another command line that isn't
-    /// understood, 3 for want of memory, and else 1.
+    /// The status that the program ends with: 0 for help or the version, 2 for another command line
+    /// that isn't understood, 3 for want of memory, and else 1.
     pub fn status(&self) -> u8
         ensures { result ≡ status_of self.now }
     {
         match self {
-            LineFault::Words(error) if !error.use_stderr() => 0,
-            LineFault::Words(_) | LineFault::NoText | LineFault::Incomplete => 2,
+            LineFault::Arguments(error) if !error.use_stderr() => 0,
+            LineFault::Arguments(_) | LineFault::NoText | LineFault::Incomplete => 2,
             LineFault::OutOfMemory => 3,
             _ => 1,
         }

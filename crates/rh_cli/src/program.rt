@@ -1,9 +1,11 @@
 //! The program from its command line to its status.
 
+ghost use Rattle.std.specs.Prelude.{◌≡◌, ◌↔◌, IsTrue, codes};
+
+use crate::arguments::read_words;
 use crate::ask::Ask;
 use crate::driving::{drive, show, tell};
 use crate::fault::LineFault;
-use crate::words::read_words;
 use std::env;
 use std::fs::File;
 use std::io::{self, BufWriter, Write};
@@ -12,8 +14,8 @@ use std::rt::{Env, Files};
 /// How many bytes of answers are gathered before they are written.
 const OUTPUT_BYTES: usize = 65_536;
 
-/// Reads the command line, does what it asks, and answers the status to end with. Answers, help and the version go to
-/// standard output, and what went wrong to `err`.
+/// Reads the command line, does what it asks, and answers the status to end with. Answers, help and
+/// the version go to standard output, and what went wrong to `err`.
 pub fn play<R: Env + Files + Input + Print + AllocGlobal, E: Write>(rt: &R, err: &mut E) -> u8 {
     match carry_out(rt, err) {
         Ok(status) => status,
@@ -34,8 +36,8 @@ fn carry_out<R: Env + Files + Input + Print + AllocGlobal, E: Write>(
         }
         Err(_) => return Err(LineFault::NoText),
     };
-    let words: Vec<&str> = args.iter().map(|word| word.as_str()).collect(rt.alloc())?;
-    let ask = read_words(rt.alloc(), words.as_slice())?;
+    let args: Vec<&str> = args.iter().map(|arg| arg.as_str()).collect(rt.alloc())?;
+    let ask = read_words(rt.alloc(), args.as_slice())?;
     with_file(rt, &ask, err)
 }
 
@@ -49,11 +51,18 @@ pub(crate) fn with_file<R: Files + Input + Print + AllocGlobal, E: Write>(
         Ok(out) => out,
         Err(_) => return Err(LineFault::OutOfMemory),
     };
-    if ask.file == "-" {
+    if is_standard_input(ask.file) {
         return Ok(drive(rt.alloc(), ask, &mut rt.reader(), &mut out, err));
     }
     match File::open(rt, ask.file) {
         Ok(mut file) => Ok(drive(rt.alloc(), ask, &mut file, &mut out, err)),
         Err(_) => Err(LineFault::Open),
     }
+}
+
+/// Whether a file's name says standard input.
+fn is_standard_input(file: &str) -> bool
+    ensures { IsTrue result ↔ (file.now ≡ codes "-") }
+{
+    file == "-"
 }

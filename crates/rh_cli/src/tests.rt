@@ -12,7 +12,7 @@ const RUN: Ask<'static> = Ask {
 };
 
 #[test]
-fn words_that_ask_for_a_run(rt: HostRuntime) {
+fn arguments_that_ask_for_a_run(rt: HostRuntime) {
     let ask = read_words(rt.alloc(), &["rheap", "run", "first.trace"]);
     assert!(rt;
         matches!(
@@ -26,8 +26,8 @@ fn words_that_ask_for_a_run(rt: HostRuntime) {
 }
 
 #[test]
-fn words_that_are_refused(rt: HostRuntime) -> Result<(), Fail> {
-    for (words, status, text) in [
+fn arguments_that_are_refused(rt: HostRuntime) -> Result<(), Fail> {
+    for (arguments, status, text) in [
         (["rheap", "--version"].as_slice(), 0, "rheap 0.1.0\n"),
         (["rheap", "--help"].as_slice(), 0, "A managed heap"),
         (["rheap", "run", "--help"].as_slice(), 0, "Runs a trace"),
@@ -44,12 +44,12 @@ fn words_that_are_refused(rt: HostRuntime) -> Result<(), Fail> {
             "error: unexpected",
         ),
     ] {
-        match read_words(rt.alloc(), words) {
-            Ok(_) => assert!(rt; false, "{words:?} is no request"),
+        match read_words(rt.alloc(), arguments) {
+            Ok(_) => assert!(rt; false, "{arguments:?} is no request"),
             Err(fault) => {
                 let mut err = Vec::new(rt.alloc());
-                assert_eq!(rt; tell(&fault, &mut err), status, "{words:?}");
-                assert!(rt; err.starts_with(text.as_bytes()), "{words:?}");
+                assert_eq!(rt; tell(&fault, &mut err), status, "{arguments:?}");
+                assert!(rt; err.starts_with(text.as_bytes()), "{arguments:?}");
             }
         }
     }
@@ -156,6 +156,18 @@ fn help_that_cannot_be_written_is_a_failed_write(rt: HostRuntime) -> Result<(), 
     assert_eq!(rt; err.len(), 0);
     assert_eq!(rt; show(&version, &mut Broken, &mut err), 1);
     assert_eq!(rt; err.as_slice(), b"rheap: write failed\n".as_slice());
+    Ok(())
+}
+
+#[test]
+fn help_is_no_error(rt: HostRuntime) -> Result<(), Fail> {
+    let mut out = Vec::new(rt.alloc());
+    let mut err = Vec::new(rt.alloc());
+    let help = read_words(rt.alloc(), &["rheap", "run", "--help"]).err();
+    let help = help.ok_or("help is no request")?;
+    assert_eq!(rt; show(&help, &mut out, &mut err), 0);
+    assert!(rt; out.starts_with(b"Runs a trace"));
+    assert_eq!(rt; err.len(), 0);
     Ok(())
 }
 

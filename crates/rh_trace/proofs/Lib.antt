@@ -1,11 +1,6 @@
-pub mod Cutting
-pub mod Forms
-pub mod Numbers
-pub mod Integers
-pub mod Loop
-pub mod Takes
-pub mod Again
-pub mod Output
-pub mod Taken
-pub mod Playing
-pub mod Plain
+pub mod LinesInTurn
+pub mod ReadIsSpelled
+pub mod SpelledIsRead
+pub mod FirstFault
+pub mod AnswersInTurn
+pub mod PlainAnswers

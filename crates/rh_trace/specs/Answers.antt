@@ -28,7 +28,7 @@ refusal_name (SpaceFull need free) = codes "SpaceFull"
 refusal_name LogFull = codes "LogFull"
 refusal_name NumbersSpent = codes "NumbersSpent"
 
--- what a refusal tells behind its name
+-- what a refusal tells after its name
 abbrev pub refusal_parts : Refusal → List ℕ
 refusal_parts NoRoot = []
 refusal_parts NotYours = []
@@ -53,7 +53,7 @@ answer_text (Err refusal) = refused_text refusal
 abbrev pub answer_line : Result Reply Refusal → List ℕ
 answer_line answer = answer_text answer ++ 10 ∷ []
 
--- the line behind the last answer: total commands C refused R flips F rootwords W
+-- the line after the last answer: total commands C refused R flips F rootwords W
 abbrev pub total_line : Summary → List ℕ
 total_line s =
     codes "total commands " ++ (decimal s.commands ++ (codes " refused " ++ (decimal s.refused ++ (codes " flips " ++ (decimal s.flips ++ (codes " rootwords " ++ (decimal s.root_words ++ 10 ∷ [])))))))

@@ -1,7 +1,6 @@
-pub mod Parts
+pub mod Line
 pub mod Spelling
 pub mod Reading
-pub mod Output
+pub mod Faults
 pub mod Answers
-pub mod Input
 pub mod Run

@@ -1,9 +1,16 @@
 -- Reading from left to right, with the first fault that is met.
-use Rattle.std.specs.Prelude.{◌≡◌, ℕ, ◌+◌, List, [], ◌∷◌, length, Option, Some, None, Result, Ok, Err, nat_lt, ◌||◌, not, if◌then◌else◌, codes, ℤ}
+use Rattle.std.specs.Prelude.{◌≡◌, ℕ, ◌+◌, List, [], ◌∷◌, length, Result, Ok, Err, nat_lt, ◌||◌, not, if◌then◌else◌, codes, ℤ}
 use Rattle.std.specs.Str.{bytes_eq}
+use Rattle.rh_layout.specs.declared.command.Command.{Command}
+use Rattle.rh_layout.specs.declared.command.Command.TheVariants.{Alloc, Load, Store, Copy, Same, Drop}
 use Rattle.rh_layout.specs.declared.command.Operand.{Operand}
 use Rattle.rh_layout.specs.declared.command.Operand.TheVariants as operands
 use Rattle.rh_layout.specs.declared.command.RootId.{RootId}
+use Rattle.rh_text.specs.RawLine.{RawLine, lines_of}
+use Rattle.rh_text.specs.Parts.{parts_of, is_formed, has_dot, begins_with_digit, one_part, two_parts, three_parts, six_parts}
+use Rattle.rh_text.specs.Number.{number_of, integer_of}
+use Rattle.rh_text.specs.Root.{root_of}
+use Rattle.rh_text.specs.Steps.{◌>>=◌, or_fault, with_fault}
 use Rattle.rh_trace.specs.declared.fault.Kind.{Kind}
 use Rattle.rh_trace.specs.declared.fault.Kind.TheVariants.{Empty, Long, Cut, Form, Header, Word, Number, Root}
 use Rattle.rh_trace.specs.declared.fault.TraceFault.{TraceFault}
@@ -11,22 +18,10 @@ use Rattle.rh_trace.specs.declared.fault.ParseError.{ParseError}
 use Rattle.rh_trace.specs.declared.fault.ParseError.TheVariants as errors
 use Rattle.rh_trace.specs.declared.line as declared
 use Rattle.rh_trace.specs.declared.line.Line.{Line}
-use Rattle.rh_trace.specs.declared.line.Line.TheVariants.{Alloc, Load, Store, Copy, Same, Drop}
-use Rattle.rh_trace.specs.Parts.{Piece, lines_of, parts_of, is_formed, number_of, integer_of, root_of, has_dot, begins_with_digit, first_and_rest}
+use Rattle.rh_trace.specs.Line.{line_of}
 use Rattle.rh_trace.specs.Spelling.{Script}
 
--- a step that goes on where the one before gave something
-infixl 10 ◌>>=◌
-abbrev pub ◌>>=◌ : {A B E : Type 0} → Result A E → (A → Result B E) → Result B E
-(Ok x) >>= f = f x
-(Err e) >>= f = Err e
-
--- what a function returned, seen by view, is what reading gives
-abbrev pub Shows : {X Y E : Type 0} → (X → Y) → Result X E → Result Y E → Type 0
-Shows view (Ok x) read = read ≡ Ok (view x)
-Shows view (Err e) read = read ≡ Err e
-
--- the same, unless memory ran out
+-- the fault of a call is the one that reading gives, unless memory ran out
 abbrev pub Fails : {Y : Type 0} → ParseError → Result Y TraceFault → Type 0
 Fails errors.OutOfMemory read = Unit {0}
 Fails (errors.Fault f) read = read ≡ Err f
@@ -36,217 +31,167 @@ abbrev pub Gives : {X Y : Type 0} → (X → Y) → Result X ParseError → Resu
 Gives view (Ok x) read = read ≡ Ok (view x)
 Gives view (Err e) read = Fails e read
 
--- what was found, or else this kind of fault
-abbrev pub found : {A : Type 0} → Option A → Kind → Result A Kind
-found (Some x) kind = Ok x
-found None kind = Err kind
-
 -- the number of a part
-abbrev pub number_at : List ℕ → Result ℕ Kind
-number_at part = found (number_of part) Number
+abbrev pub number_or_fault : List ℕ → Result ℕ Kind
+number_or_fault part = or_fault (number_of part) Number
 
 -- the root of a part
-abbrev pub root_at : List ℕ → Result RootId Kind
-root_at part = found (root_of part) Root
+abbrev pub root_or_fault : List ℕ → Result RootId Kind
+root_or_fault part = or_fault (root_of part) Root
 
 -- the whole number of a part
-abbrev pub integer_at : List ℕ → Result ℤ Kind
-integer_at part = found (integer_of part) Number
+abbrev pub integer_or_fault : List ℕ → Result ℤ Kind
+integer_or_fault part = or_fault (integer_of part) Number
 
 -- nil, a root where there is a dot, and else a whole number
-unfoldable pub operand_at : List ℕ → Result Operand Kind
-operand_at part =
+unfoldable pub operand_or_fault : List ℕ → Result Operand Kind
+operand_or_fault part =
     if bytes_eq part (codes "nil") then Ok operands.Nil
-    else if has_dot part then (root_at part >>= λ root. Ok (operands.Root root))
-    else (integer_at part >>= λ n. Ok (operands.Int n))
-
--- the first part, and the others
-abbrev pub next_of : List (List ℕ) → Result (List ℕ × List (List ℕ)) Kind
-next_of parts = found (first_and_rest parts) Form
-
--- no part is left
-abbrev pub end_of : List (List ℕ) → Result (Unit {0}) Kind
-end_of [] = Ok tt
-end_of (part ∷ parts) = Err Form
-
--- just one part
-unfoldable pub one_of : List (List ℕ) → Result (List ℕ) Kind
-one_of parts = do
-  a ← next_of parts
-  end ← end_of a.1
-  Ok a.0
-
--- just two parts
-unfoldable pub two_of : List (List ℕ) → Result (List ℕ × List ℕ) Kind
-two_of parts = do
-  a ← next_of parts
-  b ← next_of a.1
-  end ← end_of b.1
-  Ok (a.0, b.0)
-
--- just three parts
-unfoldable pub three_of : List (List ℕ) → Result (List ℕ × List ℕ × List ℕ) Kind
-three_of parts = do
-  a ← next_of parts
-  b ← next_of a.1
-  c ← next_of b.1
-  end ← end_of c.1
-  Ok (a.0, b.0, c.0)
-
--- just six parts
-unfoldable pub six_of : List (List ℕ) → Result (List ℕ × List ℕ × List ℕ × List ℕ × List ℕ × List ℕ) Kind
-six_of parts = do
-  a ← next_of parts
-  b ← next_of a.1
-  c ← next_of b.1
-  d ← next_of c.1
-  e ← next_of d.1
-  f ← next_of e.1
-  end ← end_of f.1
-  Ok (a.0, b.0, c.0, d.0, e.0, f.0)
+    else if has_dot part then (root_or_fault part >>= λ root. Ok (operands.Root root))
+    else (integer_or_fault part >>= λ n. Ok (operands.Int n))
 
 -- OWNER alloc ROOT FIELDS
-unfoldable pub alloc_at : List ℕ → List (List ℕ) → Result Line Kind
-alloc_at owner args = do
-  parts ← two_of args
-  owner ← number_at owner
-  dst ← root_at parts.0
-  fields ← number_at parts.1
-  Ok (Alloc owner dst fields)
+unfoldable pub alloc_of : List ℕ → List (List ℕ) → Result (ℕ × Command) Kind
+alloc_of owner args = do
+  parts ← or_fault (two_parts args) Form
+  owner ← number_or_fault owner
+  dst ← root_or_fault parts.0
+  fields ← number_or_fault parts.1
+  Ok (owner, Alloc dst fields)
 
 -- OWNER load DST SRC FIELD
-unfoldable pub load_at : List ℕ → List (List ℕ) → Result Line Kind
-load_at owner args = do
-  parts ← three_of args
-  owner ← number_at owner
-  dst ← root_at parts.0
-  src ← root_at parts.1
-  field ← number_at parts.2
-  Ok (Load owner dst src field)
+unfoldable pub load_of : List ℕ → List (List ℕ) → Result (ℕ × Command) Kind
+load_of owner args = do
+  parts ← or_fault (three_parts args) Form
+  owner ← number_or_fault owner
+  dst ← root_or_fault parts.0
+  src ← root_or_fault parts.1
+  field ← number_or_fault parts.2
+  Ok (owner, Load dst src field)
 
 -- OWNER store OBJ FIELD OPERAND
-unfoldable pub store_at : List ℕ → List (List ℕ) → Result Line Kind
-store_at owner args = do
-  parts ← three_of args
-  owner ← number_at owner
-  obj ← root_at parts.0
-  field ← number_at parts.1
-  operand ← operand_at parts.2
-  Ok (Store owner obj field operand)
+unfoldable pub store_of : List ℕ → List (List ℕ) → Result (ℕ × Command) Kind
+store_of owner args = do
+  parts ← or_fault (three_parts args) Form
+  owner ← number_or_fault owner
+  obj ← root_or_fault parts.0
+  field ← number_or_fault parts.1
+  operand ← operand_or_fault parts.2
+  Ok (owner, Store obj field operand)
 
 -- OWNER copy DST SRC
-unfoldable pub copy_at : List ℕ → List (List ℕ) → Result Line Kind
-copy_at owner args = do
-  parts ← two_of args
-  owner ← number_at owner
-  dst ← root_at parts.0
-  src ← root_at parts.1
-  Ok (Copy owner dst src)
+unfoldable pub copy_of : List ℕ → List (List ℕ) → Result (ℕ × Command) Kind
+copy_of owner args = do
+  parts ← or_fault (two_parts args) Form
+  owner ← number_or_fault owner
+  dst ← root_or_fault parts.0
+  src ← root_or_fault parts.1
+  Ok (owner, Copy dst src)
 
 -- OWNER same A B
-unfoldable pub same_at : List ℕ → List (List ℕ) → Result Line Kind
-same_at owner args = do
-  parts ← two_of args
-  owner ← number_at owner
-  a ← root_at parts.0
-  b ← root_at parts.1
-  Ok (Same owner a b)
+unfoldable pub same_of : List ℕ → List (List ℕ) → Result (ℕ × Command) Kind
+same_of owner args = do
+  parts ← or_fault (two_parts args) Form
+  owner ← number_or_fault owner
+  a ← root_or_fault parts.0
+  b ← root_or_fault parts.1
+  Ok (owner, Same a b)
 
 -- OWNER drop ROOT
-unfoldable pub drop_at : List ℕ → List (List ℕ) → Result Line Kind
-drop_at owner args = do
-  part ← one_of args
-  owner ← number_at owner
-  root ← root_at part
-  Ok (Drop owner root)
+unfoldable pub drop_of : List ℕ → List (List ℕ) → Result (ℕ × Command) Kind
+drop_of owner args = do
+  part ← or_fault (one_part args) Form
+  owner ← number_or_fault owner
+  root ← root_or_fault part
+  Ok (owner, Drop root)
 
--- a line that begins with an owner, by its second part
-unfoldable pub command_at : List ℕ → List (List ℕ) → Result Line Kind
-command_at owner [] = Err Form
-command_at owner (word ∷ args) =
-    if bytes_eq word (codes "alloc") then alloc_at owner args
-    else if bytes_eq word (codes "load") then load_at owner args
-    else if bytes_eq word (codes "store") then store_at owner args
-    else if bytes_eq word (codes "copy") then copy_at owner args
-    else if bytes_eq word (codes "same") then same_at owner args
-    else if bytes_eq word (codes "drop") then drop_at owner args
+-- a line that begins with an owner, by the keyword after it
+unfoldable pub command_or_fault : List ℕ → List (List ℕ) → Result (ℕ × Command) Kind
+command_or_fault owner [] = Err Form
+command_or_fault owner (keyword ∷ args) =
+    if bytes_eq keyword (codes "alloc") then alloc_of owner args
+    else if bytes_eq keyword (codes "load") then load_of owner args
+    else if bytes_eq keyword (codes "store") then store_of owner args
+    else if bytes_eq keyword (codes "copy") then copy_of owner args
+    else if bytes_eq keyword (codes "same") then same_of owner args
+    else if bytes_eq keyword (codes "drop") then drop_of owner args
     else Err Word
 
--- a line behind the first
-unfoldable pub line_at : List (List ℕ) → Result Line Kind
-line_at [] = Err Form
-line_at (first ∷ rest) = if begins_with_digit first then command_at first rest else Err Word
+-- the command of a line after the first
+unfoldable pub owned_command : List (List ℕ) → Result (ℕ × Command) Kind
+owned_command [] = Err Form
+owned_command (first ∷ rest) = if begins_with_digit first then command_or_fault first rest else Err Word
+
+-- a line after the first
+abbrev pub line_of_parts : List (List ℕ) → Result Line Kind
+line_of_parts parts = do
+  owned ← owned_command parts
+  Ok (line_of owned.0 owned.1)
 
 -- WORDS RATIO LOG OWNERS SLOTS
-unfoldable pub sizes_at : List ℕ → List ℕ → List ℕ → List ℕ → List ℕ → Result declared.Header.Header Kind
-sizes_at words ratio log owners slots = do
-  words ← number_at words
-  ratio ← number_at ratio
-  log ← number_at log
-  owners ← number_at owners
-  slots ← number_at slots
+unfoldable pub sizes_of : List ℕ → List ℕ → List ℕ → List ℕ → List ℕ → Result declared.Header.Header Kind
+sizes_of words ratio log owners slots = do
+  words ← number_or_fault words
+  ratio ← number_or_fault ratio
+  log ← number_or_fault log
+  owners ← number_or_fault owners
+  slots ← number_or_fault slots
   Ok (record { words = words; ratio = ratio; log = log; owners = owners; slots = slots })
 
--- any fault is this one
-abbrev pub or_header : {A : Type 0} → Result A Kind → Result A Kind
-or_header (Ok x) = Ok x
-or_header (Err kind) = Err Header
-
 -- heap WORDS RATIO LOG OWNERS SLOTS
-unfoldable pub header_at : List (List ℕ) → Result declared.Header.Header Kind
-header_at parts = do
-  six ← or_header (six_of parts)
-  if bytes_eq six.0 (codes "heap") then sizes_at six.1 six.2 six.3 six.4 six.5 else Err Header
+unfoldable pub header_of_parts : List (List ℕ) → Result declared.Header.Header Kind
+header_of_parts parts = do
+  six ← or_fault (six_parts parts) Header
+  if bytes_eq six.0 (codes "heap") then sizes_of six.1 six.2 six.3 six.4 six.5 else Err Header
 
--- the parts of the line of this number, which is within the limits, ended and well formed
-unfoldable pub parts_in : ℕ → Piece → Result (List (List ℕ)) Kind
-parts_in number line =
+-- the parts of the raw line of this number, where it is within the limits, ended and well formed
+unfoldable pub checked_parts : ℕ → RawLine → Result (List (List ℕ)) Kind
+checked_parts number line =
     if nat_lt 1048576 number || nat_lt 256 (length line.bytes) then Err Long
     else if not line.ended then Err Cut
     else if not (is_formed line.bytes) then Err Form
     else Ok (parts_of line.bytes)
 
--- a fault is named with its line
-abbrev pub named : {A : Type 0} → ℕ → Result A Kind → Result A TraceFault
-named number (Ok x) = Ok x
-named number (Err kind) = Err (record { line = number; kind = kind })
+-- a raw line after the first, by its limits, its form and its parts
+unfoldable pub line_or_kind : ℕ → RawLine → Result Line Kind
+line_or_kind number line = do
+  parts ← checked_parts number line
+  line_of_parts parts
 
--- a line behind the first, by its limits, its form and its parts
-unfoldable pub whole_line : ℕ → Piece → Result Line Kind
-whole_line number line = do
-  parts ← parts_in number line
-  line_at parts
+-- the first raw line, by its limits, its form and its parts
+unfoldable pub header_or_kind : RawLine → Result declared.Header.Header Kind
+header_or_kind line = do
+  parts ← checked_parts 1 line
+  header_of_parts parts
 
--- the first line, by its limits, its form and its parts
-unfoldable pub whole_header : Piece → Result declared.Header.Header Kind
-whole_header line = do
-  parts ← parts_in 1 line
-  header_at parts
+-- the fault of the line of this number
+abbrev pub fault_at : ℕ → Kind → TraceFault
+fault_at number kind = record { line = number; kind = kind }
 
--- a line behind the first, its fault named with the line
-abbrev pub line_in : ℕ → Piece → Result Line TraceFault
-line_in number line = named number (whole_line number line)
+-- a raw line after the first, its fault named with the line
+abbrev pub line_or_fault : ℕ → RawLine → Result Line TraceFault
+line_or_fault number line = with_fault (fault_at number) (line_or_kind number line)
 
--- the first line, its fault named with the line
-abbrev pub header_in : Piece → Result declared.Header.Header TraceFault
-header_in line = named 1 (whole_header line)
+-- the first raw line, its fault named with the line
+abbrev pub header_or_fault : RawLine → Result declared.Header.Header TraceFault
+header_or_fault line = with_fault (fault_at 1) (header_or_kind line)
 
 -- the lines from this number on
-unfoldable pub lines_at : ℕ → List Piece → Result (List Line) TraceFault
-lines_at number [] = Ok []
-lines_at number (line ∷ lines) = do
-  first ← line_in number line
-  others ← lines_at (number + 1) lines
+unfoldable pub lines_from : ℕ → List RawLine → Result (List Line) TraceFault
+lines_from number [] = Ok []
+lines_from number (line ∷ lines) = do
+  first ← line_or_fault number line
+  others ← lines_from (number + 1) lines
   Ok (first ∷ others)
 
 -- the header, and then the lines
-unfoldable pub script_at : List Piece → Result Script TraceFault
-script_at [] = Err (record { line = 1; kind = Empty })
-script_at (line ∷ lines) = do
-  header ← header_in line
-  lines ← lines_at 2 lines
+unfoldable pub script_or_fault : List RawLine → Result Script TraceFault
+script_or_fault [] = Err (fault_at 1 Empty)
+script_or_fault (line ∷ lines) = do
+  header ← header_or_fault line
+  lines ← lines_from 2 lines
   Ok (record { header = header; lines = lines })
 
 -- the trace that the text spells, or its first fault
 abbrev pub trace_of : List ℕ → Result Script TraceFault
-trace_of bytes = script_at (lines_of bytes)
+trace_of bytes = script_or_fault (lines_of bytes)

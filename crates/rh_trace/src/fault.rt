@@ -1,35 +1,47 @@
-//! Why a text is no trace, and why one could not be read or written.
+//! Why a text is no trace.
 
 ghost use Rattle.std.specs.Prelude.{◌≡◌};
 ghost use Rattle.rh_trace.specs.declared.fault.ParseError.TheVariants as errors;
 
 use std::alloc::{AllocError, AllocFailed};
+use thiserror::Error;
 
-/// What is wrong with a line. In each line the first of these that holds is named; of `Number` and `Root` the one of the
-/// first faulty part.
-#[derive(Clone, Copy, Debug, PartialEq, Eq)]
+/// What is wrong with a line. In each line the first of these that holds is named, but that a
+/// wrong number of parts comes after `Word`; of `Number` and `Root` it is the one of the first
+/// faulty part.
+#[derive(Clone, Copy, Debug, PartialEq, Eq, Error)]
 pub enum Kind {
     /// The text has no byte. It is the fault of line 1.
+    #[error("Empty")]
     Empty,
     /// The line's number is above 1,048,576, or it has more than 256 bytes before its line end.
+    #[error("Long")]
     Long,
     /// The line has no line end.
+    #[error("Cut")]
     Cut,
-    /// A byte outside 32 to 126, an empty part, or, behind the first line, a wrong number of parts.
+    /// A byte outside 32 to 126, an empty part, or, after the first line, a wrong number of parts.
+    #[error("Form")]
     Form,
     /// The first line doesn't begin with the part `heap`, or hasn't six parts.
+    #[error("Header")]
     Header,
     /// The line's word isn't one of the words at that place.
+    #[error("Word")]
     Word,
-    /// A part that should be a number isn't the decimal of one from 0 to 4,294,967,295, or an operand isn't `nil`, a root or
-    /// the decimal of a whole number of 64 bits with sign.
+    /// A part that should be a number isn't the decimal of one from 0 to 4,294,967,295, or an
+    /// operand without a dot isn't `nil` or the decimal of a whole number of 64 bits with sign.
+    #[error("Number")]
     Number,
-    /// A part that should be a root, or an operand with a dot, isn't `OWNER.SLOT`, two numbers from 0 to 4,294,967,295.
+    /// A part that should be a root, or an operand with a dot, isn't `OWNER.SLOT`, two numbers
+    /// from 0 to 4,294,967,295.
+    #[error("Root")]
     Root,
 }
 
 /// The first faulty line of a text that is no trace.
-#[derive(Clone, Copy, Debug, PartialEq, Eq)]
+#[derive(Clone, Copy, Debug, PartialEq, Eq, Error)]
+#[error("line {line}: {kind}")]
 pub struct TraceFault {
     /// The line's number, from 1.
     pub line: u32,
@@ -38,11 +50,13 @@ pub struct TraceFault {
 }
 
 /// Why `parse` gives no trace.
-#[derive(Clone, Copy, Debug, PartialEq, Eq)]
+#[derive(Clone, Copy, Debug, PartialEq, Eq, Error)]
 pub enum ParseError {
     /// The text is no trace.
+    #[error("{0}")]
     Fault(TraceFault),
     /// The allocator refused memory for the lines.
+    #[error("out of memory")]
     OutOfMemory,
 }
 
@@ -69,8 +83,3 @@ impl<T: Drop> From<AllocFailed<T>> for ParseError {
         ParseError::OutOfMemory
     }
 }
-
-/// A write failed: the writer answered an error or took no byte. A write that was interrupted is made again, for one
-/// line at most 33,554,432 times.
-#[derive(Clone, Copy, Debug, PartialEq, Eq)]
-pub struct Write;

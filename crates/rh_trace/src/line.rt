@@ -1,6 +1,9 @@
 //! The lines of a trace.
 
-use rh_layout::{Operand, RootId};
+ghost use Rattle.std.specs.Prelude.{◌≡◌};
+ghost use Rattle.rh_trace.specs.Line.{owner_of, command_of, line_of};
+
+use rh_layout::{Command, Operand, RootId};
 
 /// The numbers of a trace's first line, `heap WORDS RATIO LOG OWNERS SLOTS`.
 #[derive(Clone, Copy, Debug, PartialEq, Eq)]
@@ -17,7 +20,7 @@ pub struct Header {
     pub slots: u32,
 }
 
-/// A line of a trace behind the first.
+/// A line of a trace after the first.
 #[derive(Clone, Copy, Debug, PartialEq, Eq)]
 pub enum Line {
     /// `OWNER alloc ROOT FIELDS`: the root `dst` names a new object of so many fields.
@@ -29,7 +32,8 @@ pub enum Line {
         /// How many fields the object has.
         fields: u32,
     },
-    /// `OWNER load DST SRC FIELD`: the root `dst` takes the value of a field of the object that `src` names.
+    /// `OWNER load DST SRC FIELD`: the root `dst` takes the value of a field of the object that
+    /// `src` names.
     Load {
         /// Whose command it is.
         owner: u32,
@@ -40,7 +44,8 @@ pub enum Line {
         /// The field, from 0.
         field: u32,
     },
-    /// `OWNER store OBJ FIELD OPERAND`: a field of the object that `obj` names takes the operand's value.
+    /// `OWNER store OBJ FIELD OPERAND`: a field of the object that `obj` names takes the operand's
+    /// value.
     Store {
         /// Whose command it is.
         owner: u32,
@@ -76,4 +81,66 @@ pub enum Line {
         /// The root.
         root: RootId,
     },
+}
+
+impl Line {
+    /// The line of an owner's command.
+    pub fn of(owner: u32, command: Command) -> Line
+        ensures { result ≡ line_of owner command }
+    {
+        match command {
+            Command::Alloc { dst, fields } => Line::Alloc { owner, dst, fields },
+            Command::Load { dst, src, field } => Line::Load {
+                owner,
+                dst,
+                src,
+                field,
+            },
+            Command::Store {
+                obj,
+                field,
+                operand,
+            } => Line::Store {
+                owner,
+                obj,
+                field,
+                operand,
+            },
+            Command::Copy { dst, src } => Line::Copy { owner, dst, src },
+            Command::Same { a, b } => Line::Same { owner, a, b },
+            Command::Drop { root } => Line::Drop { owner, root },
+        }
+    }
+
+    /// Whose command the line is, and which.
+    pub fn command(&self) -> (u32, Command)
+        ensures owner { result.0 ≡ owner_of self.now }
+        ensures command { result.1 ≡ command_of self.now }
+    {
+        match *self {
+            Line::Alloc { owner, dst, fields } => (owner, Command::Alloc { dst, fields }),
+            Line::Load {
+                owner,
+                dst,
+                src,
+                field,
+            } => (owner, Command::Load { dst, src, field }),
+            Line::Store {
+                owner,
+                obj,
+                field,
+                operand,
+            } => (
+                owner,
+                Command::Store {
+                    obj,
+                    field,
+                    operand,
+                },
+            ),
+            Line::Copy { owner, dst, src } => (owner, Command::Copy { dst, src }),
+            Line::Same { owner, a, b } => (owner, Command::Same { a, b }),
+            Line::Drop { owner, root } => (owner, Command::Drop { root }),
+        }
+    }
 }

@@ -2,21 +2,29 @@
 
 use crate::fault::TraceFault;
 use rh_core::ConfigFault;
+use thiserror::Error;
 
-/// Why a run of a trace ended early. `Long`, `Trace` and `New` are faults of the input, in this order; nothing was
-/// written then, and nothing after `Read`. After `Write` and `OutOfMemory` a front of the answers may be written.
-#[derive(Clone, Copy, Debug, PartialEq, Eq)]
+/// Why a run of a trace ended early. `Long`, `Trace` and `New` are faults of the input, in this
+/// order; nothing was written then, and nothing after `Read`. After `Write` and `OutOfMemory` a
+/// prefix of the answers may be written.
+#[derive(Clone, Copy, Debug, PartialEq, Eq, Error)]
 pub enum RunFault {
     /// A read failed, or 33,554,432 reads didn't come to the end.
+    #[error("read failed")]
     Read,
     /// The input has more than 16,777,216 bytes.
+    #[error("too long")]
     Long,
     /// The input is no trace.
+    #[error("{0}")]
     Trace(TraceFault),
     /// The numbers of the first line make no heap.
+    #[error("heap: {0}")]
     New(ConfigFault),
-    /// A write failed, or took no byte.
+    /// A write failed or took no byte, or 33,554,432 writes of one line didn't come to its end.
+    #[error("write failed")]
     Write,
     /// The allocator refused memory.
+    #[error("out of memory")]
     OutOfMemory,
 }

@@ -1,33 +1,31 @@
 //! A trace run on a new heap.
 
-ghost use Rattle.std.specs.Prelude.{◌≡◌, List, ℕ, Result, IfOk, IsErrOf, OnOk, OnErr, IfSome};
+ghost use Rattle.std.specs.Prelude.{◌≡◌, List, ℕ, Result, false, IfOk, IsErrOf, OnOk, OnErr, IfSome};
 ghost use Rattle.std.specs.Io.KnownBytes.{Appends, Consumes};
 ghost use Rattle.rh_layout.specs.declared.command.Reply.{Reply};
 ghost use Rattle.rh_layout.specs.declared.refusal.Refusal.{Refusal};
-ghost use Rattle.rh_trace.specs.Output.{AppendsLess};
+ghost use Rattle.rh_text.specs.Calls.{AreSpent};
+ghost use Rattle.rh_text.specs.Output.{AppendsLess};
 ghost use Rattle.rh_trace.specs.Reading.{trace_of};
 ghost use Rattle.rh_trace.specs.Spelling.{Script};
-ghost use Rattle.rh_trace.specs.Run.{config_of, owner_of, command_of, line_step, answers_to, summary_of, output_of, run_of_trace, run_of, Ends, IsPlainRun};
+ghost use Rattle.rh_trace.specs.Run.{config_of, line_step, answers_to, summary_of, output_of, run_of_trace, run_of, Ends, IsPlainRun};
 
 use crate::answers::{put_answer, put_total};
-use crate::fault::{ParseError, Write};
-use crate::input::{InputFault, read_all};
+use crate::fault::ParseError;
 use crate::line::{Header, Line};
 use crate::run_fault::RunFault;
 use crate::summary::Summary;
 use crate::text::LineText;
 use crate::trace::parse;
-use crate::writing::send;
 use rh_core::laws::heaps_answer_as_plain_heaps;
 use rh_core::{Config, Heap, HeapError};
-use rh_layout::{Command, Refusal, Reply};
+use rh_layout::limits::MAX_NUMBER;
+use rh_layout::{Refusal, Reply};
+use rh_text::{Calls, InputFault, Write, read_all, send};
 use std::alloc::Allocator;
 use std::io;
 
-/// The last store number and the last epoch of a trace's heap, 2^62.
-const LAST: u64 = 4_611_686_018_427_387_904;
-
-/// The heap that a trace's first line asks for.
+/// The heap that a trace's first line asks for; its store numbers and epochs go up to 2^62.
 fn config_of(header: Header) -> Config
     ensures { result ≡ config_of header }
 {
@@ -37,40 +35,8 @@ fn config_of(header: Header) -> Config
         owners: header.owners,
         slots: header.slots,
         log_limit: header.log,
-        last_number: LAST,
-        last_epoch: LAST,
-    }
-}
-
-/// Whose command a line is, and which.
-fn command_of(line: &Line) -> (u32, Command)
-    ensures owner { result.0 ≡ owner_of line.now }
-    ensures command { result.1 ≡ command_of line.now }
-{
-    match *line {
-        Line::Alloc { owner, dst, fields } => (owner, Command::Alloc { dst, fields }),
-        Line::Load {
-            owner,
-            dst,
-            src,
-            field,
-        } => (owner, Command::Load { dst, src, field }),
-        Line::Store {
-            owner,
-            obj,
-            field,
-            operand,
-        } => (
-            owner,
-            Command::Store {
-                obj,
-                field,
-                operand,
-            },
-        ),
-        Line::Copy { owner, dst, src } => (owner, Command::Copy { dst, src }),
-        Line::Same { owner, a, b } => (owner, Command::Same { a, b }),
-        Line::Drop { owner, root } => (owner, Command::Drop { root }),
+        last_number: MAX_NUMBER,
+        last_epoch: MAX_NUMBER,
     }
 }
 
@@ -79,7 +45,7 @@ fn run_line<A: Allocator + Copy>(heap: &mut Heap<A>, line: &Line) -> Result<Repl
     ensures state { heap.new ≡ (line_step heap.old line.now).0 }
     ensures answer { result ≡ (line_step heap.old line.now).1 }
 {
-    let (owner, command) = command_of(line);
+    let (owner, command) = line.command();
     heap.command(owner, &command)
 }
 
@@ -88,10 +54,16 @@ fn play<A: Allocator + Copy, W: io::Write>(
     heap: &mut Heap<A>,
     lines: &[Line],
     writer: &mut W,
+    writes: &mut Calls,
 ) -> Result<Summary, Write>
+    requires { writes.old.failed ≡ false }
     ensures summary { IfOk result (λ s. s ≡ summary_of (answers_to heap.old lines.now)) }
-    ensures ok { OnOk result (Appends (W.contents writer.old) (W.contents writer.new) (output_of (answers_to heap.old lines.now))) }
-    ensures err { OnErr result (AppendsLess (W.contents writer.old) (W.contents writer.new) (output_of (answers_to heap.old lines.now))) }
+    ensures ok { OnOk result (Appends (W.contents writer.old) (W.contents writer.new)
+        (output_of (answers_to heap.old lines.now))) }
+    ensures err { OnErr result (AppendsLess (W.contents writer.old) (W.contents writer.new)
+        (output_of (answers_to heap.old lines.now))) }
+    ensures failed { OnErr result (AreSpent writes.new) }
+    ensures none_failed { OnOk result (writes.new.failed ≡ false) }
 {
     let mut text = LineText::new();
     let mut refused = 0;
@@ -99,7 +71,7 @@ fn play<A: Allocator + Copy, W: io::Write>(
         let answer = run_line(heap, line);
         refused += u64::from(answer.is_err());
         put_answer(&mut text, answer);
-        send(writer, text.as_bytes())?;
+        send(writer, writes, text.as_bytes())?;
     }
     let summary = Summary {
         commands: lines.len() as u64,
@@ -108,7 +80,7 @@ fn play<A: Allocator + Copy, W: io::Write>(
         root_words: 0,
     };
     put_total(&mut text, &summary);
-    send(writer, text.as_bytes())?;
+    send(writer, writes, text.as_bytes())?;
     Ok(summary)
 }
 
@@ -117,8 +89,14 @@ fn run_input<A: Allocator + Copy, W: io::Write>(
     alloc: A,
     input: &[u8],
     writer: &mut W,
+    writes: &mut Calls,
 ) -> Result<Summary, RunFault>
-    ensures { Ends (run_of_trace (trace_of input.now)) result (W.contents writer.old) (W.contents writer.new) }
+    requires { writes.old.failed ≡ false }
+    ensures ends { Ends (run_of_trace (trace_of input.now)) result (W.contents writer.old)
+        (W.contents writer.new) }
+    ensures never_read { ¬ IsErrOf result RunFault.Read }
+    ensures failed { IsErrOf result RunFault.Write → AreSpent writes.new }
+    ensures none_failed { ¬ IsErrOf result RunFault.Write → writes.new.failed ≡ false }
 {
     let trace = match parse(alloc, input) {
         Ok(trace) => trace,
@@ -130,42 +108,96 @@ fn run_input<A: Allocator + Copy, W: io::Write>(
         Err(HeapError::Config(fault)) => return Err(RunFault::New(fault)),
         Err(HeapError::OutOfMemory) => return Err(RunFault::OutOfMemory),
     };
-    match play(&mut heap, trace.lines(), writer) {
+    match play(&mut heap, trace.lines(), writer, writes) {
         Ok(summary) => Ok(summary),
         Err(Write) => Err(RunFault::Write),
     }
 }
 
-/// Reads a trace whole, runs its lines in order on a new heap, and writes a line for each answer and the total line,
-/// one line in each write that the writer takes whole. Nothing is written before the whole trace was read and its
-/// heap made. The answers are those of a heap that never moves its objects, but for refusals by a limit.
-/// A trace has at most 16,777,216 bytes, and must end within 33,554,432 reads.
+/// Reads a trace whole, runs its lines in order on a new heap, and writes a line for each answer
+/// and the total line, one line in each write that the writer takes whole. Nothing is written
+/// before the whole trace was read and its heap made. The answers are those of a heap that never
+/// moves its objects, but for refusals by a limit. A trace has at most 16,777,216 bytes, and must
+/// end within 33,554,432 reads.
 ///
-/// Of the faults of an input the first is answered: `Long`, then `Trace`, then `New`. `Read` comes where a read failed
-/// or was one too many, `Write` where a write failed, `OutOfMemory` where the allocator refused memory.
+/// # Errors
+///
+/// Of the faults of an input the first is answered: `Long`, then `Trace`, then `New`. `Read` comes
+/// where a read failed or was one too many, `Write` where a write failed or 33,554,432 writes of
+/// one line didn't come to its end, `OutOfMemory` where the allocator refused memory.
+/// `run_trace_told` says of Read and Write that they come nowhere else.
 pub fn run_trace<A: Allocator + Copy, R: io::Read, W: io::Write>(
     alloc: A,
     reader: &mut R,
     writer: &mut W,
 ) -> Result<Summary, RunFault>
-    // For a reader that tells its bytes.
-    ensures told { IfSome (R.remaining reader.old) (λ input. Ends (run_of input) result (W.contents writer.old) (W.contents writer.new)) }
-    // For any reader, of the bytes that it gave.
-    ensures read { (input : List ℕ) × Consumes (R.remaining reader.old) (R.remaining reader.new) input
+    // For a reader that tells its bytes: how a run of the bytes that it had ends.
+    ensures told { IfSome (R.remaining reader.old) (λ input. Ends (run_of input) result
+        (W.contents writer.old) (W.contents writer.new)) }
+    // How a run of the bytes that were taken ends; which these are is known of a reader that tells
+    // its bytes.
+    ensures read { (input : List ℕ)
+        × Consumes (R.remaining reader.old) (R.remaining reader.new) input
         × Ends (run_of input) result (W.contents writer.old) (W.contents writer.new) }
-    // Said of the plain heap alone, where the run succeeded: which trace was read, and which answers were written.
-    ensures plain { IfOk result (λ summary. (script : Script) × (answers : List (Result Reply Refusal))
+    // Said of the plain heap alone, where the run succeeded: which trace was read, and which
+    // answers were written.
+    ensures plain { IfOk result (λ summary. (script : Script)
+        × (answers : List (Result Reply Refusal))
         × IsPlainRun script answers (R.remaining reader.old) (R.remaining reader.new)
-        × (summary ≡ summary_of answers) × Appends (W.contents writer.old) (W.contents writer.new) (output_of answers)) }
-    // The same where a write failed: a front of the text of such answers was written.
-    ensures plain_front { IsErrOf result RunFault.Write → (script : Script) × (answers : List (Result Reply Refusal))
+        × (summary ≡ summary_of answers)
+        × Appends (W.contents writer.old) (W.contents writer.new) (output_of answers)) }
+    // The same where a write failed: a prefix of the text of such answers was written.
+    ensures plain_prefix { IsErrOf result RunFault.Write → (script : Script)
+        × (answers : List (Result Reply Refusal))
         × IsPlainRun script answers (R.remaining reader.old) (R.remaining reader.new)
         × AppendsLess (W.contents writer.old) (W.contents writer.new) (output_of answers) }
 {
+    run_trace_told(alloc, reader, &mut Calls::new(), writer, &mut Calls::new())
+}
+
+/// Runs a trace as `run_trace` does, and tells in `reads` and `writes` whether a read and whether a
+/// write failed.
+///
+/// # Errors
+///
+/// As `run_trace`.
+pub fn run_trace_told<A: Allocator + Copy, R: io::Read, W: io::Write>(
+    alloc: A,
+    reader: &mut R,
+    reads: &mut Calls,
+    writer: &mut W,
+    writes: &mut Calls,
+) -> Result<Summary, RunFault>
+    requires no_read_failed { reads.old.failed ≡ false }
+    requires no_write_failed { writes.old.failed ≡ false }
+    // As of `run_trace`.
+    ensures told { IfSome (R.remaining reader.old) (λ input. Ends (run_of input) result
+        (W.contents writer.old) (W.contents writer.new)) }
+    ensures read { (input : List ℕ)
+        × Consumes (R.remaining reader.old) (R.remaining reader.new) input
+        × Ends (run_of input) result (W.contents writer.old) (W.contents writer.new) }
+    ensures plain { IfOk result (λ summary. (script : Script)
+        × (answers : List (Result Reply Refusal))
+        × IsPlainRun script answers (R.remaining reader.old) (R.remaining reader.new)
+        × (summary ≡ summary_of answers)
+        × Appends (W.contents writer.old) (W.contents writer.new) (output_of answers)) }
+    ensures plain_prefix { IsErrOf result RunFault.Write → (script : Script)
+        × (answers : List (Result Reply Refusal))
+        × IsPlainRun script answers (R.remaining reader.old) (R.remaining reader.new)
+        × AppendsLess (W.contents writer.old) (W.contents writer.new) (output_of answers) }
+    // Read is answered only where a read failed or none was left, and no read failed where it
+    // isn't.
+    ensures read_failed { IsErrOf result RunFault.Read → AreSpent reads.new }
+    ensures no_read_failed { ¬ IsErrOf result RunFault.Read → reads.new.failed ≡ false }
+    // Write is answered only where a write failed or none was left, and no write failed where it
+    // isn't.
+    ensures write_failed { IsErrOf result RunFault.Write → AreSpent writes.new }
+    ensures no_write_failed { ¬ IsErrOf result RunFault.Write → writes.new.failed ≡ false }
+{
     // The law from which the clauses on the plain heap follow.
     heaps_answer_as_plain_heaps();
-    match read_all(alloc, reader) {
-        Ok(input) => run_input(alloc, &input, writer),
+    match read_all(alloc, reader, reads) {
+        Ok(input) => run_input(alloc, &input, writer, writes),
         Err(InputFault::Read) => Err(RunFault::Read),
         Err(InputFault::Long) => Err(RunFault::Long),
         Err(InputFault::OutOfMemory) => Err(RunFault::OutOfMemory),

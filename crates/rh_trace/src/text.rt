@@ -1,7 +1,8 @@
 //! A line of text in a buffer of a fixed size, so that writing it takes no memory.
 
 ghost use Rattle.std.specs.Prelude.{◌≡◌, ◌+◌, ◌≤◌, List, [], ◌∷◌, ◌++◌, length, decimal};
-ghost use Rattle.rh_trace.specs.Spelling.{root_text, operand_text};
+ghost use Rattle.rh_text.specs.Root.{root_text};
+ghost use Rattle.rh_trace.specs.Spelling.{operand_text};
 
 use itoa::{Buffer, Integer};
 use rh_layout::{Operand, RootId};

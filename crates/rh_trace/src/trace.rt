@@ -1,18 +1,18 @@
 //! A trace, and a trace read from its text.
 
 ghost use Rattle.std.specs.Prelude.{◌≡◌, ◌<◌, ◌==◌, length, slice_index_or, IfOk, Ok};
-ghost use Rattle.rh_trace.specs.Parts.{lines_of};
-ghost use Rattle.rh_trace.specs.Reading.{Gives, lines_at, script_at, trace_of};
+ghost use Rattle.rh_text.specs.RawLine.{lines_of};
+ghost use Rattle.rh_trace.specs.Reading.{Gives, lines_from, script_or_fault, trace_of};
 ghost use Rattle.rh_trace.specs.Spelling.{Script, IsScript, spelling};
 
 use crate::fault::{Kind, ParseError, TraceFault};
 use crate::line::{Header, Line};
-use crate::parts::first_line;
-use crate::reading::{header_in, line_in};
+use crate::reading::{header_or_fault, line_or_fault};
+use rh_text::first_line;
 use std::alloc::{Allocator, Global};
 use std::marker::Model;
 
-/// A trace: the numbers of its first line, and the lines behind it, at most 1,048,575.
+/// A trace: the numbers of its first line, and the lines after it, at most 1,048,575.
 #[derive(Drop)]
 pub struct Trace<A: Allocator = Global> {
     header: Header,
@@ -20,14 +20,13 @@ pub struct Trace<A: Allocator = Global> {
 }
 
 impl<A: Allocator> Model for Trace<A> {
-    ghost use Rattle.std.specs.Prelude.{◌<◌, length};
-    ghost use Rattle.rh_trace.specs.Spelling.{Script};
+    ghost use Rattle.rh_trace.specs.Spelling.{Script, IsScript};
 
     ghost Value = { Script };
 
     ghost view = { λ t. record { header = t.header; lines = t.lines.items } };
 
-    ghost invariant = { λ t. length t.lines.items < 1048576 };
+    ghost invariant = { λ t. IsScript (record { header = t.header; lines = t.lines.items }) };
 }
 
 impl<A: Allocator> Trace<A> {
@@ -38,22 +37,24 @@ impl<A: Allocator> Trace<A> {
         self.header
     }
 
-    /// How many lines stand behind the first.
+    /// How many lines stand after the first. Each trace fits its text: what it is spelled as is
+    /// read as the same trace, by the law `what_is_spelled_is_read`.
     pub fn len(&self) -> usize
         ensures value { result ≡ length self.now.lines }
         ensures few { result < 1048576 }
+        ensures fits { IsScript self.now }
     {
         self.lines.len()
     }
 
-    /// No line stands behind the first.
+    /// No line stands after the first.
     pub fn is_empty(&self) -> bool
         ensures { result ≡ (length self.now.lines == 0) }
     {
         self.lines.is_empty()
     }
 
-    /// The line `i`, counted from 0 behind the first.
+    /// The line `i`, counted from 0 after the first.
     pub fn line(&self, i: usize) -> Line
         requires { i < length self.now.lines }
         ensures { result ≡ slice_index_or self.now.lines i result }
@@ -61,7 +62,7 @@ impl<A: Allocator> Trace<A> {
         self.lines[i]
     }
 
-    /// The lines behind the first, in order.
+    /// The lines after the first, in order.
     pub fn lines(&self) -> &[Line]
         ensures { result.now ≡ self.now.lines }
     {
@@ -69,25 +70,25 @@ impl<A: Allocator> Trace<A> {
     }
 }
 
-/// The lines behind the first, whose numbers begin at 2.
-fn lines_in<A: Allocator + Copy>(alloc: A, bytes: &[u8]) -> Result<Vec<Line, A>, ParseError>
-    ensures lines { Gives (λ v. v.items) result (lines_at 2 (lines_of bytes.now)) }
+/// The lines after the first, whose numbers begin at 2.
+fn later_lines<A: Allocator + Copy>(alloc: A, bytes: &[u8]) -> Result<Vec<Line, A>, ParseError>
+    ensures lines { Gives (λ v. v.items) result (lines_from 2 (lines_of bytes.now)) }
     ensures few { IfOk result (λ v. length v.items < 1048576) }
 {
     let mut lines = Vec::new(alloc);
     let mut number = 2;
     let mut rest = bytes;
     while !rest.is_empty() {
-        let (line, ended, behind) = first_line(rest);
-        lines.push(line_in(number, line, ended)?)?;
+        let (line, ended, after) = first_line(rest);
+        lines.push(line_or_fault(number, line, ended)?)?;
         number += 1;
-        rest = behind;
+        rest = after;
     }
     Ok(lines)
 }
 
 /// The trace that a text spells, or its first fault.
-#[tactic(auto, unfolding(crate::specs::Reading::script_at))]
+#[tactic(auto, unfolding(crate::specs::Reading::script_or_fault))]
 fn trace_in<A: Allocator + Copy>(alloc: A, bytes: &[u8]) -> Result<Trace<A>, ParseError>
     ensures { Gives (λ t. t) result (trace_of bytes.now) }
 {
@@ -99,18 +100,23 @@ fn trace_in<A: Allocator + Copy>(alloc: A, bytes: &[u8]) -> Result<Trace<A>, Par
         return Err(ParseError::Fault(fault));
     }
     let (line, ended, rest) = first_line(bytes);
-    let header = header_in(line, ended)?;
-    let lines = lines_in(alloc, rest)?;
+    let header = header_or_fault(line, ended)?;
+    let lines = later_lines(alloc, rest)?;
     Ok(Trace { header, lines })
 }
 
-/// Reads a trace from its text, whose bytes it takes whole. A `Fault` names the first faulty line and what is wrong
-/// with it; `OutOfMemory` comes where the allocator refused memory for the lines.
+/// Reads a trace from its text, whose bytes it takes whole.
+///
+/// # Errors
+///
+/// `Fault` where the text is no trace: it names the first faulty line and what is wrong with it.
+/// `OutOfMemory` where the allocator refused memory for the lines.
 pub fn parse<A: Allocator + Copy>(alloc: A, bytes: &[u8]) -> Result<Trace<A>, ParseError>
     // What is found is spelled so.
     ensures found { IfOk result (λ t. IsScript t × (bytes.now ≡ spelling t)) }
     // What is spelled so is read, unless memory runs out.
-    ensures only { (t : Script) → IsScript t → bytes.now ≡ spelling t → Gives (λ x. x) result (Ok t) }
+    ensures only { (t : Script) → IsScript t → bytes.now ≡ spelling t
+        → Gives (λ x. x) result (Ok t) }
     // Which fault it is.
     ensures exact { Gives (λ t. t) result (trace_of bytes.now) }
 {

@@ -1,11 +1,11 @@
 use Rattle.rh_trace.specs.Run.{run_of}
-use Rattle.rh_cli.proofs.Ended.{Ends-flushed, Concludes-told}
+use Rattle.rh_cli.proofs.Flushed.{Ends-flushed, Concludes-told}
 use Rattle.rh_cli.proofs.driving.run.Goals as goal
 
 pub returns-clause-told : goal.returns-clause-told
-returns-clause-told g c = Concludes-told _ c.run_trace-ran.result _ _ _ _ c.run_trace-ran.ensures.told c.flush-flushed.ensures.bytes c.concluded.ensures
+returns-clause-told g c = Concludes-told _ c.run_trace-ran.result _ _ _ _ c.run_trace-ran.ensures.told c.flush-flushed.ensures.bytes c.conclude.ensures.status
 
 pub returns-clause-read : goal.returns-clause-read
 returns-clause-read g c =
     let given = c.run_trace-ran.ensures.read in
-    (given.0, given.1, (c.run_trace-ran.result, Ends-flushed (run_of given.0) c.run_trace-ran.result _ _ _ given.2 c.flush-flushed.ensures.bytes, c.concluded.ensures))
+    (given.0, given.1, (c.run_trace-ran.result, Ends-flushed (run_of given.0) c.run_trace-ran.result _ _ _ given.2 c.flush-flushed.ensures.bytes, c.conclude.ensures.status))

@@ -7,9 +7,9 @@ use Rattle.std.proofs.lemmas.Result.{err_from_is_err_and}
 use Rattle.rh_layout.specs.declared.command.Reply.TheVariants as replies
 use Rattle.rh_trace.specs.Answers.{answer_line, total_line}
 use Rattle.rh_trace.specs.Run.{answers_to, summary_of}
-use Rattle.rh_trace.specs.Output.{AppendsLess}
-use Rattle.rh_trace.proofs.Output.{sent_next, sent_less_of_next, less-more, Appends-less, Appends-then, Appends-at}
-use Rattle.rh_trace.proofs.Playing.{length-answers_to, answers_next, refused_more, bit_le, bit_is, whole_summary}
+use Rattle.rh_text.specs.Output.{AppendsLess}
+use Rattle.rh_text.specs.lemmas.Appends.{sent_next, sent_less_of_next, less-more, Appends-less, Appends-then, Appends-at}
+use Rattle.rh_trace.proofs.AnswersInTurn.{length-answers_to, answers_next, refused_more, bit_le, bit_is, whole_summary}
 use Rattle.rh_trace.proofs.running.play.Goals as goal
 
 pub returns-in_err-send-clause-err : goal.returns-in_err-send-clause-err
@@ -44,6 +44,7 @@ loop-line-preserved g c =
       sent = sent_next answer_line (known c.args.writer.now) (known c.loop-line.writer) (known c.send.new.writer) [] c.as_bytes.result.now all i (Ok replies.Done) lt text c.loop-line.invariant.sent c.in_ok-send.ensures.ok;
       refused = omega (arith, more, from, c.loop-line.invariant.refused);
       few = omega (arith, bit, from, c.loop-line.invariant.few);
+      none_failed = c.in_ok-send.ensures.none_failed;
     }
 
 pub returns-in_err-send-2-clause-err : goal.returns-in_err-send-2-clause-err

@@ -1,4 +1,4 @@
-use Rattle.std.proofs.Common.{◌≡◌, ◌≤◌, take, drop}
+use Rattle.std.proofs.Common.{◌≡◌, ◌≤◌, false, take, drop}
 use Rattle.std.specs.Prelude.{count_by, is_err}
 use Rattle.std.specs.List.{flat_map}
 use Rattle.std.specs.Io.KnownBytes.{Appends}
@@ -12,4 +12,5 @@ invariant-loop-line g l = record {
   sent : Appends (g.W.Write.contents l.fn.writer) (g.W.Write.contents l.writer) (flat_map answer_line (take l.line-index (answers_to l.fn.heap l.lines)));
   refused : l.refused ≡ count_by is_err (take l.line-index (answers_to l.fn.heap l.lines));
   few : l.refused ≤ l.line-index;
+  none_failed : l.writes.failed ≡ false;
 }

@@ -4,13 +4,13 @@ use Rattle.rh_core.specs.Config.{fault_of}
 use Rattle.rh_core.specs.Heap.{new_heap}
 use Rattle.rh_trace.specs.Reading.{trace_of}
 use Rattle.rh_trace.specs.Run.{config_of, answers_to, answers_of, output_of, run_of_trace, text_of}
-use Rattle.rh_trace.specs.Output.{AppendsLess}
-use Rattle.rh_trace.proofs.Output.{Keeps-same}
-use Rattle.rh_trace.proofs.Playing.{run-new, run-made, no_fault, refused_with, not_refused}
+use Rattle.rh_text.specs.Output.{AppendsLess}
+use Rattle.rh_text.specs.lemmas.Appends.{Keeps-same}
+use Rattle.rh_trace.proofs.AnswersInTurn.{run-new, run-made, no_fault, refused_with, not_refused}
 use Rattle.rh_trace.proofs.running.run_input.Goals as goal
 
-pub returns-in-Err-Config : goal.returns-in-Err-Config
-returns-in-Err-Config g c =
+pub returns-in-Err-Config-clause-ends : goal.returns-in-Err-Config-clause-ends
+returns-in-Err-Config-clause-ends g c =
     let script = c.in-Ok.trace in
     let fault = c.in-Err-Config.fault in
     let config_is : c.config_of.result ≡ config_of script.header = c.config_of.ensures ∙ ap config_of c.header.ensures in
@@ -18,8 +18,8 @@ returns-in-Err-Config g c =
     let bad : fault_of (config_of script.header) ≡ Some fault = ap fault_of (sym config_is) ∙ (c.new.ensures.fault fault).0 refused in
     (run-new (trace_of c.args.input.now) script fault c.in-Ok.ensures.exact bad, Keeps-same (g.W.Write.contents c.args.writer.now))
 
-pub returns : goal.returns
-returns g c =
+pub returns-clause-ends : goal.returns-clause-ends
+returns-clause-ends g c =
     let script = c.in-Ok.trace in
     let config_is : c.config_of.result ≡ config_of script.header = c.config_of.ensures ∙ ap config_of c.header.ensures in
     let good : fault_of (config_of script.header) ≡ None =

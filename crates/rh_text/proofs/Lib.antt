@@ -1,0 +1,4 @@
+pub mod Consumes
+pub mod ReadNumber
+pub mod ReadInteger
+pub mod WellFormed

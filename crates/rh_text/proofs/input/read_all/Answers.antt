@@ -1,0 +1,18 @@
+use Rattle.std.proofs.Common.{◌≡◌, ◌++◌, ℕ, Vec, take, length, ap, subst, sym, ◌∙◌, arith}
+use Rattle.std.specs.Io.KnownBytes.{Consumes}
+use Rattle.std.proofs.lemmas.List.{length-append}
+use Rattle.std.proofs.lemmas.Bool.{false_from_ne_true}
+use Rattle.std.proofs.lemmas.Result.{err_from_is_err_and}
+use Rattle.rh_text.proofs.Consumes.{Consumes-then, Consumes-keeps, ends_with}
+use Rattle.rh_text.proofs.input.read_all.Goals as goal
+
+pub returns-in_err-keep-in-Ok-clause-bytes : goal.returns-in_err-keep-in-Ok-clause-bytes
+returns-in_err-keep-in-Ok-clause-bytes g c =
+    let known = g.R.Read.remaining in
+    let p = err_from_is_err_and c.from_residual.result c.from_residual.ensures.1 in
+    let more = take c.in-Ok.n c.read.new.buf in
+    rw (p.1, p.2) (
+      c.loop-chunk.text.items ++ more,
+      Consumes-then (known c.args.reader.now) (known c.loop-chunk.reader) (known c.read.new.reader) c.loop-chunk.text.items more c.loop-chunk.invariant.taken c.in-Ok.ensures.bytes.0,
+      ends_with (λ (v : Vec ℕ g.row.A.Denot). v.items) c.in_err-keep-in-Ok.field-0.0 (c.loop-chunk.text.items ++ more) (known c.read.new.reader) (λ e. omega (arith, c.in_err-keep-in-Ok.ensures.long e, length-append c.loop-chunk.text.items more)),
+    )

@@ -1,0 +1,11 @@
+use Rattle.std.proofs.lemmas.Bool.{false_from_ne_true}
+use Rattle.rh_text.specs.lemmas.Appends.{Sent-more}
+use Rattle.rh_text.proofs.output.send.Goals as goal
+
+pub loop-rest-preserved-in-Ok : goal.loop-rest-preserved-in-Ok
+loop-rest-preserved-in-Ok g c =
+    let known = g.W.Write.contents in
+    record {
+      sent = rw c.split_at.ensures.back (Sent-more (known c.args.writer.now) (known c.loop-rest.writer) (known c.write.new.writer) c.args.text.now c.loop-rest.rest.now c.in-Ok.n c.loop-rest.invariant.sent c.in-Ok.ensures.bytes);
+      none_failed = false_from_ne_true c.write.new.self.failed (λ failed. c.in-Ok.n-test.1 (c.in-Ok.ensures.failed.0 failed).0);
+    }

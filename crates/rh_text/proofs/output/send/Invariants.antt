@@ -1,0 +1,12 @@
+use Rattle.std.proofs.Common.{◌≡◌, false, length}
+use Rattle.rh_text.specs.lemmas.Appends.{Sent}
+use Rattle.rh_text.proofs.output.send.Given as goal
+
+abbrev pub invariant-loop-rest : goal.invariant-loop-rest
+invariant-loop-rest g l = record {
+  sent : Sent (g.W.Write.contents l.fn.writer) (g.W.Write.contents l.writer) l.text l.rest;
+  none_failed : l.writes.failed ≡ false;
+}
+
+abbrev pub decreases-loop-rest : goal.decreases-loop-rest
+decreases-loop-rest g l = l.writes.left

@@ -1,0 +1,10 @@
+pub mod Calls
+pub mod Input
+pub mod Output
+pub mod RawLine
+pub mod Parts
+pub mod Number
+pub mod Root
+pub mod Steps
+pub mod Stages
+pub mod lemmas

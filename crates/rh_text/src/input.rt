@@ -1,0 +1,84 @@
+//! An input read whole.
+
+ghost use Rattle.std.specs.Prelude.{◌≡◌, ◌++◌, ◌+◌, ◌<◌, ◌≤◌, length, false, OnOk, IsErrOf};
+ghost use Rattle.rh_text.specs.Calls.{AreSpent};
+ghost use Rattle.rh_text.specs.Input.{ReadsAll};
+
+use crate::calls::{Calls, is_interrupted};
+use rh_layout::limits::MAX_INPUT_BYTES;
+use std::alloc::Allocator;
+use std::io;
+use thiserror::Error;
+
+/// The bytes that are asked of a reader at once.
+const CHUNK: usize = 65_536;
+
+/// Why an input could not be read whole.
+#[derive(Clone, Copy, Debug, PartialEq, Eq, Error)]
+pub enum InputFault {
+    /// A read failed, or 33,554,432 reads didn't come to the end.
+    #[error("read failed")]
+    Read,
+    /// The input has more than 16,777,216 bytes.
+    #[error("too long")]
+    Long,
+    /// The allocator refused memory for the bytes.
+    #[error("out of memory")]
+    OutOfMemory,
+}
+
+/// Puts bytes after those that were read.
+fn keep<A: Allocator>(text: &mut Vec<u8, A>, bytes: &[u8]) -> Result<(), InputFault>
+    ensures ok { OnOk result (text.new.items ≡ text.old.items ++ bytes.now) }
+    ensures few { OnOk result (length text.new.items ≤ 16777216) }
+    ensures long { IsErrOf result InputFault.Long
+        → 16777216 < length text.old.items + length bytes.now }
+    ensures never_read { ¬ IsErrOf result InputFault.Read }
+{
+    if bytes.len() > MAX_INPUT_BYTES {
+        return Err(InputFault::Long);
+    }
+    if text.len() > MAX_INPUT_BYTES - bytes.len() {
+        return Err(InputFault::Long);
+    }
+    if text.extend_from_slice(bytes).is_err() {
+        return Err(InputFault::OutOfMemory);
+    }
+    Ok(())
+}
+
+/// Reads all that a reader has, at most 16,777,216 bytes. A read that was interrupted is made
+/// again, and counts.
+///
+/// # Errors
+///
+/// `Long` where the reader gave more bytes; `Read` where a read failed, or no more may be made and
+/// none came to the end; `OutOfMemory` where the allocator refused memory for the bytes.
+pub fn read_all<A: Allocator + Copy, R: io::Read>(
+    alloc: A,
+    reader: &mut R,
+    reads: &mut Calls,
+) -> Result<Vec<u8, A>, InputFault>
+    requires { reads.old.failed ≡ false }
+    ensures bytes { ReadsAll (R.remaining reader.old) (R.remaining reader.new) (λ v. v.items)
+        result }
+    // Read is answered only where a read failed or none was left, and no read failed where it
+    // isn't.
+    ensures failed { IsErrOf result InputFault.Read → AreSpent reads.new }
+    ensures none_failed { ¬ IsErrOf result InputFault.Read → reads.new.failed ≡ false }
+{
+    let mut text = Vec::new(alloc);
+    let mut chunk = [0; CHUNK];
+    while reads.left() > 0 {
+        match reads.read(reader, &mut chunk) {
+            Ok(0) => return Ok(text),
+            Ok(n) => keep(&mut text, &chunk[..n])?,
+            Err(error) => {
+                if !is_interrupted(&error) {
+                    return Err(InputFault::Read);
+                }
+            }
+        }
+    }
+    Err(InputFault::Read)
+}

@@ -1,0 +1,23 @@
+//! Texts of lines: an input read whole, its lines, parts and numbers, and a text sent whole.
+//!
+//! What reads and writes is told of in a log of the calls, so that a contract can speak of a call
+//! that failed.
+#![tactic(auto)]
+
+mod calls;
+mod input;
+mod number;
+mod output;
+mod parts;
+mod raw_line;
+mod root;
+
+pub use calls::{Calls, is_interrupted};
+pub use input::{InputFault, read_all};
+pub use number::{read_integer, read_number};
+pub use output::{Write, send};
+pub use parts::{
+    begins_with_digit, has_dot, is_formed, next_part, one_part, six_parts, three_parts, two_parts,
+};
+pub use raw_line::first_line;
+pub use root::read_root;

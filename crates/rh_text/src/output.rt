@@ -1,0 +1,51 @@
+//! A text sent whole.
+
+ghost use Rattle.std.specs.Prelude.{◌≡◌, false, OnOk, OnErr};
+ghost use Rattle.std.specs.Io.KnownBytes.{Appends};
+ghost use Rattle.rh_text.specs.Calls.{AreSpent};
+ghost use Rattle.rh_text.specs.Output.{AppendsLess};
+
+use crate::calls::{Calls, is_interrupted};
+use std::io;
+use thiserror::Error;
+
+/// A write failed: the writer answered an error or took no byte, or 33,554,432 writes of one text,
+/// those that were interrupted among them, didn't come to its end.
+#[derive(Clone, Copy, Debug, PartialEq, Eq, Error)]
+#[error("write failed")]
+pub struct Write;
+
+/// Writes all of a text, in one write where the writer takes it whole, and else again from where it
+/// stopped. A write that was interrupted is made again.
+///
+/// # Errors
+///
+/// `Write` where a write failed, or 33,554,432 of them were made and some of the text is left. A
+/// prefix of the text was written then.
+pub fn send<W: io::Write>(writer: &mut W, writes: &mut Calls, text: &[u8]) -> Result<(), Write>
+    requires { writes.old.failed ≡ false }
+    ensures ok { OnOk result (Appends (W.contents writer.old) (W.contents writer.new) text.now) }
+    ensures err { OnErr result
+        (AppendsLess (W.contents writer.old) (W.contents writer.new) text.now) }
+    // It is refused only where a write failed or none was left, and no write failed where it isn't.
+    ensures failed { OnErr result (AreSpent writes.new) }
+    ensures none_failed { OnOk result (writes.new.failed ≡ false) }
+{
+    writes.renew();
+    let mut rest = text;
+    while !rest.is_empty() {
+        if writes.left() == 0 {
+            return Err(Write);
+        }
+        match writes.write(writer, rest) {
+            Ok(0) => return Err(Write),
+            Ok(n) => rest = rest.split_at(n).1,
+            Err(error) => {
+                if !is_interrupted(&error) {
+                    return Err(Write);
+                }
+            }
+        }
+    }
+    Ok(())
+}

@@ -1,0 +1,31 @@
+use Rattle.std.proofs.Common.{[], refl, sym, subst, ◌∙◌}
+use Rattle.std.specs.Io.KnownBytes.{Consumes}
+use Rattle.rh_text.specs.lemmas.Appends.{Appends-none}
+use Rattle.rh_trace.specs.Run.{run_of, text_of}
+use Rattle.rh_trace.proofs.AnswersInTurn.{nothing_written}
+use Rattle.rh_trace.proofs.PlainAnswers.{plain, plain_prefix}
+use Rattle.rh_trace.proofs.running.run_trace_told.Goals as goal
+
+pub returns-in-Err-OutOfMemory-clause-told : goal.returns-in-Err-OutOfMemory-clause-told
+returns-in-Err-OutOfMemory-clause-told g c = nothing_written (g.R.Read.remaining c.args.reader.now) (g.W.Write.contents c.args.writer.now)
+
+pub returns-in-Err-OutOfMemory-clause-read : goal.returns-in-Err-OutOfMemory-clause-read
+returns-in-Err-OutOfMemory-clause-read g c =
+    let given = c.read_all.ensures.bytes in
+    (given.0, given.1, ([], text_of (run_of given.0), refl, Appends-none (g.W.Write.contents c.args.writer.now)))
+
+pub returns-in-Ok-clause-plain : goal.returns-in-Ok-clause-plain
+returns-in-Ok-clause-plain g c =
+    let known = g.R.Read.remaining in
+    let law = c.heaps_answer_as_plain_heaps.ensures in
+    let read : Consumes (known c.args.reader.now) (known c.read_all.new.reader) c.deref.result.now =
+    subst (Consumes (known c.args.reader.now) (known c.read_all.new.reader)) (sym (c.deref.ensures.value ∙ c.in-Ok.ensures.bytes.2.0)) c.in-Ok.ensures.bytes.1 in
+    plain law.new law.step c.deref.result.now (known c.args.reader.now) (known c.read_all.new.reader) (g.W.Write.contents c.args.writer.now) (g.W.Write.contents c.run_input.new.writer) read c.run_input.result c.run_input.ensures.ends
+
+pub returns-in-Ok-clause-plain_prefix : goal.returns-in-Ok-clause-plain_prefix
+returns-in-Ok-clause-plain_prefix g c =
+    let known = g.R.Read.remaining in
+    let law = c.heaps_answer_as_plain_heaps.ensures in
+    let read : Consumes (known c.args.reader.now) (known c.read_all.new.reader) c.deref.result.now =
+    subst (Consumes (known c.args.reader.now) (known c.read_all.new.reader)) (sym (c.deref.ensures.value ∙ c.in-Ok.ensures.bytes.2.0)) c.in-Ok.ensures.bytes.1 in
+    plain_prefix law.new law.step c.deref.result.now (known c.args.reader.now) (known c.read_all.new.reader) (g.W.Write.contents c.args.writer.now) (g.W.Write.contents c.run_input.new.writer) read c.run_input.result c.run_input.ensures.ends
