@@ -2,6 +2,8 @@
 //! prints how many places it has: what `bench/fold` times.
 #![tactic(auto)]
 
+ghost use Rattle.std.specs.Prelude.{◌<◌};
+
 use rh_layout::Value;
 use rh_partial::{Item, MAX_PIECE_ITEMS, PartialReplica, Piece};
 use std::alloc::Global;
@@ -15,14 +17,15 @@ const FOLD_PLACES: u64 = 4_096;
 /// The places that the items of a refill are spread over.
 const REFILL_PLACES: u64 = 64;
 
-/// What is timed: the first argument, `fold` or `refill`, and how many items: the second.
+/// What is timed, by the first argument, `fold` or `refill`, and how many items, by the second.
+#[derive(Clone, Copy)]
 struct Asked {
     refills: bool,
     items: u64,
 }
 
 /// What the arguments ask for; a fold of 64 items where they ask for nothing.
-fn asked(rt: &(impl Env + AllocGlobal)) -> Asked {
+fn read_arguments(rt: &(impl Env + AllocGlobal)) -> Asked {
     let mut asked = Asked {
         refills: false,
         items: 64,
@@ -100,7 +103,7 @@ fn refilled(alloc: Global, items: u64) -> Option<usize> {
 }
 
 fn main(rt: HostRuntime) -> ExitCode {
-    let asked = asked(&rt);
+    let asked = read_arguments(&rt);
     let places = if asked.refills {
         refilled(rt.alloc(), asked.items)
     } else {
