@@ -10,14 +10,16 @@ use std::alloc::{AllocError, Allocator, Global};
 use std::sync::atomic::{AtomicU64, Ordering};
 pub use turns::refused_in_turn;
 
-/// An allocator for tests: it passes each call on to `inner`, and refuses exactly the nth allocation.
+/// An allocator for tests: it passes each call on to `inner`, and refuses exactly the nth
+/// allocation.
 ///
-/// A `&` to it is an allocator too, and is `Copy`. So a test makes one for n = 1, 2, .., lends it to the code
-/// that it tests, and ends at the first n at which nothing was refused. A block that is grown or shrunk counts
-/// as one allocation. Threads may share it, since each request gets a number of its own.
+/// A `&` to it is an allocator too, and is `Copy`. So a test makes one for n = 1, 2, .., lends it
+/// to the code that it tests, and ends at the first n at which nothing was refused, as
+/// [`refused_in_turn`] does. A block that is grown or shrunk counts as one allocation. Threads may
+/// share it, since each request gets a number of its own.
 ///
-/// What is proved is that it is an allocator, whichever allocation it refuses. An atomic's content stands in
-/// no clause, so that it refuses the nth one, and says so, is shown by tests.
+/// What is proved is that it is an allocator, whichever allocation it refuses. An atomic's content
+/// stands in no clause, so that it refuses the nth one, and says so, is shown by tests.
 #[derive(Drop)]
 pub struct RefusingAllocator<A: Allocator = Global> {
     inner: A,
@@ -56,7 +58,8 @@ impl Requests {
 }
 
 impl<A: Allocator> RefusingAllocator<A> {
-    /// An allocator that refuses the `nth` allocation from now on, counted from 1; at 0 it refuses none.
+    /// An allocator that refuses the `nth` allocation from now on, counted from 1; at 0 it refuses
+    /// none.
     pub fn new(inner: A, nth: u64) -> RefusingAllocator<A>
         ensures { refused_number result ≡ nth }
     {

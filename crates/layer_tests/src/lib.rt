@@ -1,0 +1,25 @@
+//! Tests of the layers of a heap, and of the heap, by their public calls.
+#![tactic(auto)]
+
+#[cfg(test)]
+mod commands;
+#[cfg(test)]
+mod expectations;
+#[cfg(test)]
+mod joins;
+#[cfg(test)]
+mod layout;
+#[cfg(test)]
+mod log;
+#[cfg(test)]
+mod partial_replicas;
+#[cfg(test)]
+mod plain_heap;
+#[cfg(test)]
+mod refusals;
+#[cfg(test)]
+mod roots;
+#[cfg(test)]
+mod space;
+#[cfg(test)]
+mod work;

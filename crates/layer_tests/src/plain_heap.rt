@@ -1,0 +1,95 @@
+//! The plain heap.
+
+use crate::commands::{
+    Line, alloc, copy, drop_root, load, order_of_refusals, root, sharing, store,
+    whole_number_range, without_fields,
+};
+use crate::expectations::{expect_equal, expect_refusals, expect_text};
+use refusing::refused_in_turn;
+use rh_layout::{Operand, Refusal, Reply};
+use rh_model::{CommandError, Plain, PlainError};
+use std::alloc::Allocator;
+use std::process::Abort;
+
+/// Checks the answers to commands of owner 1. A command that memory was refused to is played again.
+/// Answers whether there was one.
+fn play<A: Allocator + Copy>(rt: &impl Abort, plain: &mut Plain<A>, lines: &[Line]) -> bool {
+    let mut met_refusal = false;
+    for (command, answer) in lines {
+        let mut given = plain.command(1, command);
+        if given == Err(CommandError::OutOfMemory) {
+            met_refusal = true;
+            given = plain.command(1, command);
+        }
+        expect_equal(rt, given, answer.map_err(CommandError::Refused));
+    }
+    met_refusal
+}
+
+#[test]
+fn answers_to_commands(rt: HostRuntime) {
+    for lines in [
+        without_fields().as_slice(),
+        sharing().as_slice(),
+        whole_number_range().as_slice(),
+        order_of_refusals().as_slice(),
+    ] {
+        let mut plain = Plain::new(rt.alloc(), 3, 3).expect(&rt, "a plain heap");
+        assert!(rt; !play(&rt, &mut plain, lines));
+    }
+    let mut plain = Plain::new(rt.alloc(), 3, 2).expect(&rt, "a plain heap");
+    let answer = plain.command(3, &drop_root(root(0, 0)));
+    expect_equal(&rt, answer, Err(CommandError::Refused(Refusal::NoRoot)));
+}
+
+#[test]
+fn limits(rt: HostRuntime) {
+    for (owners, slots) in [(0, 1), (17, 1), (1, 0), (1, 257)] {
+        let bad = Plain::new(rt.alloc(), owners, slots).err();
+        expect_equal(&rt, bad, Some(PlainError::BadRoots));
+    }
+    for (owners, slots) in [(1, 1), (16, 256)] {
+        assert!(rt; Plain::new(rt.alloc(), owners, slots).is_ok());
+    }
+}
+
+#[test]
+fn texts_of_errors(rt: HostRuntime) {
+    expect_text(&rt, PlainError::BadRoots, "BadRoots");
+    expect_text(&rt, PlainError::OutOfMemory, "out of memory");
+    expect_text(&rt, CommandError::Refused(Refusal::NoRoot), "NoRoot");
+    expect_text(&rt, CommandError::OutOfMemory, "out of memory");
+}
+
+#[test]
+fn refused_memory(rt: HostRuntime) {
+    let refused = refused_in_turn(rt.alloc(), |memory| match Plain::new(memory, 2, 3) {
+        Ok(mut plain) => play(&rt, &mut plain, &sharing()),
+        Err(error) => {
+            expect_equal(&rt, error, PlainError::OutOfMemory);
+            true
+        }
+    });
+    // The roots, two lists of fields and the list of objects.
+    expect_refusals(&rt, refused, 4);
+}
+
+#[test]
+fn a_hundred_thousand_objects(rt: HostRuntime) {
+    let mut plain = Plain::new(rt.alloc(), 2, 2).expect(&rt, "a plain heap");
+    let (last, next) = (root(1, 0), root(1, 1));
+    // A list of objects, each with a reference to the one made before it.
+    let lines = [
+        (alloc(next, 1), Ok(Reply::Object(1))),
+        (store(next, 0, Operand::Root(last)), Ok(Reply::Done)),
+        (copy(last, next), Ok(Reply::Object(1))),
+    ];
+    for _ in 0..100_000 {
+        assert!(rt; !play(&rt, &mut plain, &lines));
+    }
+    let step = [(load(last, last, 0), Ok(Reply::Object(1)))];
+    for _ in 1..100_000 {
+        assert!(rt; !play(&rt, &mut plain, &step));
+    }
+    assert!(rt; !play(&rt, &mut plain, &[(load(last, last, 0), Ok(Reply::Nil))]));
+}
