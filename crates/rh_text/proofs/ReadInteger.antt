@@ -1,18 +1,15 @@
 -- A whole number read by the library's parser, and shown again.
-use Rattle.std.proofs.Common.{◌≡◌, ℕ, suc, ◌-◌, ◌^◌, ◌<◌, Bool, true, false, cond, ◌&&◌, List, [], ◌∷◌, ℤ, pos, negsuc, neg_ℤ, FitsSigned, int_le, Option, Some, None, Result, Ok, Err, IsUtf8, refl, sym, ap, ◌∙◌, arith}
+use Rattle.std.proofs.Common.{◌≡◌, ℕ, true, false, List, ℤ, FitsSigned, Option, Some, None, Result, Ok, Err, IsUtf8, refl, sym, ap, ◌∙◌}
 use Rattle.std.specs.Int.{w64}
-use Rattle.std.specs.Fmt.{decimal, signed_decimal}
-use Rattle.std.specs.Int.Signed.{mag}
+use Rattle.std.specs.Fmt.{signed_decimal}
 use Rattle.std.specs.Str.{bytes_eq}
-use Rattle.std.specs.Str.Parse.{IsNumeral, ParsesSigned, digits_value, signed_digits_value, without_leading_sign}
-use Rattle.std.proofs.lemmas.Bool.{false≢true, and_parts, and_from, cond-true, le-leb, ne_eqb}
-use Rattle.std.proofs.lemmas.Int.{ints}
+use Rattle.std.specs.Str.Parse.{IsNumeral, ParsesSigned, signed_digits_value, without_leading_sign}
+use Rattle.std.proofs.lemmas.Bool.{false≢true}
 use Rattle.std.proofs.lemmas.Slice.Eq.{bytes_eq-Decides}
 use Rattle.std.proofs.lemmas.Str.{IsUtf8-from_ascii}
-use Rattle.std.proofs.lemmas.Str.Parse.{digit_from_value}
-use Rattle.std.proofs.lemmas.Fmt.{decimal_is_IsNumeral, IsAscii-signed, parse-signed_decimal}
-use Rattle.rh_text.specs.Number.{is_i64, IsI64, integer_of}
-use Rattle.rh_text.specs.lemmas.Integers.{i64_size, i64_fits, Means, means, integer_here}
+use Rattle.std.proofs.lemmas.Fmt.{IsAscii-signed, parse-signed_decimal}
+use Rattle.rh_text.specs.Number.{integer_of}
+use Rattle.rh_text.specs.lemmas.Integers.{i64_size, i64_fits, means, integer_here}
 
 -- reading: another text than UTF-8, no number, a number with another spelling, and a number
 none_from : (o : Option ℤ) → ((n : ℤ) → o ≡ Some n → ⊥) → None ≡ o

@@ -1,11 +1,10 @@
 -- The fault that reading finds comes first in the order of the format.
-use Rattle.std.proofs.Common.{◌≡◌, ℕ, ℤ, zero, suc, ◌+◌, ◌<◌, ◌≤◌, ◌⊎◌, Bool, true, false, cond, ltb, leb, eqb, not, ◌||◌, ◌&&◌, List, [], ◌∷◌, length, Option, Some, None, Result, Ok, Err, refl, sym, ap, subst, ◌∙◌, arith, inl, inr}
+use Rattle.std.proofs.Common.{◌≡◌, ℕ, ℤ, ◌+◌, ◌<◌, ◌≤◌, ◌⊎◌, Bool, true, false, cond, ltb, leb, eqb, not, ◌||◌, ◌&&◌, List, [], ◌∷◌, length, Option, Some, None, Result, Ok, Err, refl, sym, ap, subst, ◌∙◌, arith, inl, inr}
 use Rattle.std.specs.Bool.{Decides}
-use Rattle.std.specs.Prelude.{codes, decimal, ⊤}
-use Rattle.std.specs.Fmt.{signed_decimal}
+use Rattle.std.specs.Prelude.{codes, ⊤}
 use Rattle.std.specs.List.{AllByRecursion, list_all}
 use Rattle.std.specs.Str.{bytes_eq}
-use Rattle.std.proofs.lemmas.Bool.{false≢true, and_parts, and_from, leb-true, le-leb, eqb-true, eq-eqb, or_right}
+use Rattle.std.proofs.lemmas.Bool.{false≢true, and_parts, and_from, leb-true, le-leb}
 use Rattle.std.proofs.lemmas.Bool.Decides.{Decides-or, Decides-ltb, Decides-not, not_from_Decides, Decides-eqb}
 use Rattle.std.proofs.lemmas.Slice.Eq.{bytes_eq-Decides}
 use Rattle.rh_layout.specs.declared.command.Command.{Command}
@@ -16,7 +15,7 @@ use Rattle.rh_text.specs.Number.{number_of, integer_of}
 use Rattle.rh_text.specs.Parts.{parts_of, is_formed, is_printable, is_filled, has_dot, begins_with_digit, one_part, two_parts, three_parts, six_parts}
 use Rattle.rh_text.specs.RawLine.{RawLine, lines_of, raw_text}
 use Rattle.rh_text.specs.Root.{root_of}
-use Rattle.rh_text.specs.Stages.{◌when◌, no_fault, ◌▸◌, in_lines, IsLeast, IsFirst}
+use Rattle.rh_text.specs.Stages.{◌when◌, ◌▸◌, in_lines, IsFirst}
 use Rattle.rh_text.specs.Steps.{◌>>=◌, or_fault, with_fault}
 use Rattle.rh_text.specs.lemmas.Integers.{integer_means, integer_of-decimal}
 use Rattle.rh_text.specs.lemmas.Numbers.{number_means, number_of-decimal}
@@ -29,7 +28,7 @@ use Rattle.rh_trace.specs.declared.line as declared
 use Rattle.rh_trace.specs.declared.line.Line.{Line}
 use Rattle.rh_trace.specs.Faults.{Sort, keyword, number, root, operand, header_form, command_forms, lookup, IsPrintable, IsWellFormed, IsNumber, IsRoot, IsInteger, HasDot, IsDigitFirst, each_part, form_faults, BeginsWithOwner, LacksKeyword, form_of, line_part_faults, IsFirstPart, header_part_faults, raw_line_faults, header_faults, line_faults, trace_faults}
 use Rattle.rh_trace.specs.Line.{line_of}
-use Rattle.rh_trace.specs.Reading.{number_or_fault, integer_or_fault, root_or_fault, operand_or_fault, alloc_of, load_of, store_of, copy_of, same_of, drop_of, command_or_fault, owned_command, line_of_parts, sizes_of, header_of_parts, checked_parts, fault_at, line_or_kind, header_or_kind, line_or_fault, header_or_fault, lines_from, script_or_fault, trace_of}
+use Rattle.rh_trace.specs.Reading.{number_or_fault, integer_or_fault, root_or_fault, operand_or_fault, alloc_of, load_of, store_of, copy_of, same_of, drop_of, command_or_fault, owned_command, line_of_parts, sizes_of, header_of_parts, checked_parts, fault_at, line_or_kind, header_or_kind, lines_from, script_or_fault, trace_of}
 use Rattle.rh_trace.specs.Spelling.{Script, spell_line, spell_header, LineFits, HeaderFits}
 use Rattle.rh_trace.proofs.ReadIsSpelled.{line_or_fault-means, header_or_fault-means}
 

@@ -1,5 +1,5 @@
 -- What is read is spelled so, and fits.
-use Rattle.std.proofs.Common.{◌≡◌, ℕ, ℤ, ◌+◌, ◌≤◌, Bool, true, false, cond, ltb, eqb, not, ◌||◌, List, [], ◌∷◌, ◌++◌, length, Option, Some, None, Result, Ok, Err, refl, sym, ap, subst, ◌∙◌, arith}
+use Rattle.std.proofs.Common.{◌≡◌, ℕ, ℤ, ◌+◌, ◌≤◌, Bool, true, false, cond, ltb, not, ◌||◌, List, [], ◌∷◌, ◌++◌, length, Option, Some, None, Result, Ok, Err, refl, sym, ap, subst, ◌∙◌, arith}
 use Rattle.std.specs.Prelude.{codes, decimal, IfOk}
 use Rattle.std.specs.Fmt.{signed_decimal}
 use Rattle.std.specs.List.{flat_map, join_with_byte, AllByRecursion}
@@ -28,7 +28,7 @@ use Rattle.rh_trace.specs.declared.fault.ParseError.{ParseError}
 use Rattle.rh_trace.specs.declared.fault.TraceFault.{TraceFault}
 use Rattle.rh_trace.specs.declared.line as declared
 use Rattle.rh_trace.specs.declared.line.Line.{Line}
-use Rattle.rh_trace.specs.Line.{owner_of, command_of, line_of}
+use Rattle.rh_trace.specs.Line.{line_of}
 use Rattle.rh_trace.specs.Spelling.{Script, operand_text, command_parts, line_parts, header_parts, spell_line, spell_header, spelling, OperandFits, CommandFits, LineFits, HeaderFits, IsScript}
 use Rattle.rh_trace.specs.Reading.{number_or_fault, integer_or_fault, root_or_fault, operand_or_fault, alloc_of, load_of, store_of, copy_of, same_of, drop_of, command_or_fault, owned_command, line_of_parts, sizes_of, header_of_parts, checked_parts, fault_at, line_or_kind, header_or_kind, line_or_fault, header_or_fault, lines_from, script_or_fault, trace_of, Gives}
 use Rattle.rh_trace.proofs.LinesInTurn.{number_within}

@@ -1,11 +1,10 @@
 -- What a trace is spelled as is read as that trace.
-use Rattle.std.proofs.Common.{◌≡◌, ℕ, ℤ, pos, negsuc, suc, ◌+◌, ◌*◌, ◌^◌, ◌<◌, ◌≤◌, Bool, true, false, cond, ltb, leb, eqb, not, ◌||◌, List, [], ◌∷◌, ◌++◌, length, Option, Some, Result, Ok, Err, refl, sym, ap, ◌∙◌, append_assoc, arith}
+use Rattle.std.proofs.Common.{◌≡◌, ℕ, ℤ, pos, negsuc, suc, ◌+◌, ◌^◌, ◌<◌, ◌≤◌, Bool, true, false, cond, ltb, eqb, not, List, [], ◌∷◌, ◌++◌, length, Option, Result, Ok, Err, refl, sym, ap, ◌∙◌, append_assoc, arith}
 use Rattle.std.specs.Prelude.{codes, decimal}
 use Rattle.std.specs.Fmt.{signed_decimal}
 use Rattle.std.specs.List.{flat_map, join_with_byte, AllByRecursion, list_all}
 use Rattle.std.specs.Str.{bytes_eq}
 use Rattle.std.proofs.lemmas.Bool.{false≢true, false_from_ne_true, or_right, and_parts, le-ltb, ne_eqb, or_from}
-use Rattle.std.proofs.lemmas.List.{length-append}
 use Rattle.std.proofs.lemmas.List.Folds.{list_any-append}
 use Rattle.std.proofs.lemmas.Slice.Eq.{bytes_eq-Decides}
 use Rattle.rh_layout.specs.declared.command.Command.{Command}
@@ -15,8 +14,8 @@ use Rattle.rh_layout.specs.declared.command.Operand.TheVariants as operands
 use Rattle.rh_layout.specs.declared.command.RootId.{RootId}
 use Rattle.rh_text.specs.Number.{IsU32, IsI64}
 use Rattle.rh_text.specs.Parts.{parts_of, is_filled, is_formed, has_dot, begins_with_digit, spell_parts, one_part, two_parts, three_parts, six_parts}
-use Rattle.rh_text.specs.RawLine.{RawLine, lines_of}
-use Rattle.rh_text.specs.Root.{root_text, root_of, RootFits}
+use Rattle.rh_text.specs.RawLine.{lines_of}
+use Rattle.rh_text.specs.Root.{root_text, RootFits}
 use Rattle.rh_text.specs.Steps.{◌>>=◌, or_fault, with_fault}
 use Rattle.rh_text.specs.lemmas.Integers.{i64_size, integer_of-decimal}
 use Rattle.rh_text.specs.lemmas.Numbers.{number_of-decimal}
@@ -29,7 +28,7 @@ use Rattle.rh_trace.specs.declared.line as declared
 use Rattle.rh_trace.specs.declared.line.Line.{Line}
 use Rattle.rh_trace.specs.declared.line.Line.TheVariants as lines
 use Rattle.rh_trace.specs.Line.{owner_of, command_of, line_of}
-use Rattle.rh_trace.specs.Spelling.{Script, operand_text, command_parts, line_parts, header_parts, spell_line, spelling, OperandFits, CommandFits, LineFits, HeaderFits, IsScript}
+use Rattle.rh_trace.specs.Spelling.{Script, operand_text, command_parts, header_parts, spell_line, spelling, OperandFits, CommandFits, LineFits, HeaderFits, IsScript}
 use Rattle.rh_trace.specs.Reading.{number_or_fault, integer_or_fault, root_or_fault, operand_or_fault, alloc_of, load_of, store_of, copy_of, same_of, drop_of, command_or_fault, owned_command, line_of_parts, sizes_of, header_of_parts, checked_parts, fault_at, line_or_kind, header_or_kind, line_or_fault, header_or_fault, lines_from, script_or_fault, trace_of}
 
 -- ---- what the parts of a spelled line are like

@@ -1,16 +1,15 @@
 -- A part says a whole number exactly where it is the decimal of one of 64 bits with sign.
-use Rattle.std.proofs.Common.{◌≡◌, ℕ, suc, ◌-◌, ◌^◌, ◌<◌, Bool, true, false, cond, ◌&&◌, List, [], ◌∷◌, ℤ, pos, negsuc, neg_ℤ, FitsSigned, int_le, Option, Some, None, Result, Ok, Err, IsUtf8, refl, sym, ap, ◌∙◌, arith}
+use Rattle.std.proofs.Common.{◌≡◌, ℕ, suc, ◌-◌, ◌^◌, ◌<◌, Bool, true, false, cond, ◌&&◌, List, [], ◌∷◌, ℤ, pos, negsuc, neg_ℤ, FitsSigned, int_le, Some, None, refl, sym, ap, ◌∙◌, arith}
 use Rattle.std.specs.Int.{w64}
 use Rattle.std.specs.Fmt.{decimal, signed_decimal}
 use Rattle.std.specs.Int.Signed.{mag}
 use Rattle.std.specs.Str.{bytes_eq}
-use Rattle.std.specs.Str.Parse.{IsNumeral, ParsesSigned, digits_value, signed_digits_value, without_leading_sign}
-use Rattle.std.proofs.lemmas.Bool.{false≢true, and_parts, and_from, cond-true, le-leb, ne_eqb}
+use Rattle.std.specs.Str.Parse.{IsNumeral, digits_value, signed_digits_value}
+use Rattle.std.proofs.lemmas.Bool.{and_parts, and_from, cond-true, le-leb, ne_eqb}
 use Rattle.std.proofs.lemmas.Int.{ints}
 use Rattle.std.proofs.lemmas.Slice.Eq.{bytes_eq-Decides}
-use Rattle.std.proofs.lemmas.Str.{IsUtf8-from_ascii}
 use Rattle.std.proofs.lemmas.Str.Parse.{digit_from_value}
-use Rattle.std.proofs.lemmas.Fmt.{decimal_is_IsNumeral, IsAscii-signed, parse-signed_decimal}
+use Rattle.std.proofs.lemmas.Fmt.{decimal_is_IsNumeral}
 use Rattle.rh_text.specs.Number.{is_i64, IsI64, integer_of}
 
 -- the range, said in three ways

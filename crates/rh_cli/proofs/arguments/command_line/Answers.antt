@@ -1,8 +1,8 @@
-use Rattle.std.proofs.Common.{rules, ap, ap₂, codes, true, ◌≡◌, ◌∙◌}
+use Rattle.std.proofs.Common.{ap, ap₂, codes, true, ◌≡◌, ◌∙◌}
 use Rattle.std.proofs.lemmas.Result.{IfOk-weaker}
 use Rattle.clap.specs.Words.{App, Shape, app_of, new_app, with_subcommand}
 use Rattle.clap.specs.Simple.{app_of_fields, on_top}
-use Rattle.rh_cli.specs.Ask.{run_app, rheap_top}
+use Rattle.rh_cli.specs.Ask.{rheap_top}
 use Rattle.rh_cli.proofs.arguments.command_line.Goals as goal
 
 abbrev versioned : App → App

@@ -1,9 +1,7 @@
-use Rattle.std.proofs.Common.{◌≡◌, ◌++◌, ℕ, Vec, take, length, ap, subst, sym, ◌∙◌, arith}
-use Rattle.std.specs.Io.KnownBytes.{Consumes}
+use Rattle.std.proofs.Common.{◌++◌, ℕ, Vec, take, arith}
 use Rattle.std.proofs.lemmas.List.{length-append}
-use Rattle.std.proofs.lemmas.Bool.{false_from_ne_true}
 use Rattle.std.proofs.lemmas.Result.{err_from_is_err_and}
-use Rattle.rh_text.proofs.Consumes.{Consumes-then, Consumes-keeps, ends_with}
+use Rattle.rh_text.proofs.Consumes.{Consumes-then, ends_with}
 use Rattle.rh_text.proofs.input.read_all.Goals as goal
 
 pub returns-in_err-keep-in-Ok-clause-bytes : goal.returns-in_err-keep-in-Ok-clause-bytes

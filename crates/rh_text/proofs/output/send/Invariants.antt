@@ -1,4 +1,4 @@
-use Rattle.std.proofs.Common.{◌≡◌, false, length}
+use Rattle.std.proofs.Common.{◌≡◌, false}
 use Rattle.rh_text.specs.lemmas.Appends.{Sent}
 use Rattle.rh_text.proofs.output.send.Given as goal
 
