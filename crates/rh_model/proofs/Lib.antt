@@ -8,3 +8,4 @@ mod ReachedLeast
 mod SameValueEqual
 mod CommandEffects
 mod StaysWellFormed
+mod SameGraphReached

@@ -27,6 +27,7 @@ ghost use Rattle.rh_layout.specs.declared.value.Value.{Value};
 ghost use Rattle.rh_layout.specs.declared.value.Value.TheVariants.{Nil, Int, Ref};
 ghost use Rattle.rh_layout.specs.Refusal.{number_of};
 ghost use Rattle.rh_model.specs.Effects.{
+  IsObject,
   RefersToObjects,
   IsWellFormed,
   HoldsField,
@@ -37,7 +38,7 @@ ghost use Rattle.rh_model.specs.Effects.{
   StoresField,
   TellsSame,
 };
-ghost use Rattle.rh_model.specs.Graph.{Graph, root_value, refusal_of, reply_to, same_value};
+ghost use Rattle.rh_model.specs.Graph.{Graph, root_value, fields_at, refusal_of, reply_to, same_value};
 ghost use Rattle.rh_model.specs.Plain.{PlainHeap, empty_plain, graph_of, step};
 ghost use Rattle.rh_model.specs.SameGraph.{SameGraph, IsPairing};
 ghost use Rattle.rh_model.specs.Reach.{Reached};
@@ -69,6 +70,19 @@ pub fn pairs_what_is_reached()
 /// well-formed plain heap is such a graph.
 pub fn same_graph_is_reflexive()
     ensures { (g : Graph) → RefersToObjects g → SameGraph g g }
+{}
+
+/// Two graphs are the same where each root holds one value in both, and the objects of a set of
+/// names have the same fields in both, if the set has each name that a root refers to, and each that
+/// a field of its objects refers to. So how many owners and slots there are, and what isn't reached,
+/// play no part.
+pub fn same_graph_speaks_of_what_is_reached()
+    ensures { (g h : Graph) (set : ℕ → Bool)
+        → ((r : RootId) → root_value g r ≡ root_value h r)
+        → ((r : RootId) (a : ℕ) → root_value g r ≡ Ref a → IsTrue (set a))
+        → ((a f b : ℕ) → IsTrue (set a) → HoldsField g a f (Ref b) → IsTrue (set b))
+        → ((a : ℕ) → IsTrue (set a) → IsObject g a × (g.fields a ≡ h.fields a))
+        → SameGraph g h }
 {}
 
 /// A graph that is the same as a second, which is the same as a third, is the same as the third.
@@ -116,6 +130,27 @@ pub fn refused_commands_change_nothing()
     ensures accepted { (p q : PlainHeap) (owner : ℕ) (command : Command) (reply : Reply)
         → step p owner command ≡ (q, Ok reply)
         → (refusal : Refusal) → ¬ RefusalHolds (graph_of p) owner command refusal }
+{}
+
+/// A new plain heap has the owners and slots that it was made with; each root is nil, and there is no
+/// object. New plain heaps are the same graph, however many owners and slots they have.
+pub fn a_new_plain_heap_is_empty()
+    ensures owners { (owners slots : ℕ) → (empty_plain owners slots).owners ≡ owners }
+    ensures slots { (owners slots : ℕ) → (empty_plain owners slots).slots ≡ slots }
+    ensures roots { (owners slots : ℕ) (r : RootId)
+        → root_value (graph_of (empty_plain owners slots)) r ≡ Nil }
+    ensures objects { (owners slots a : ℕ)
+        → (graph_of (empty_plain owners slots)).fields a ≡ None }
+    ensures alike { (owners slots more_owners more_slots : ℕ)
+        → SameGraph (graph_of (empty_plain owners slots))
+        (graph_of (empty_plain more_owners more_slots)) }
+{}
+
+/// A value has fields exactly where it refers to an object, and then they are that object's.
+pub fn a_reference_has_its_objects_fields()
+    ensures { (g : Graph) (v : Value) (fields : List Value)
+        → (fields_at g v ≡ Some fields)
+        ↔ ((a : ℕ) × (v ≡ Ref a) × (g.fields a ≡ Some fields)) }
 {}
 
 /// A new plain heap is well formed, and each command of each owner leaves a well-formed one so.
