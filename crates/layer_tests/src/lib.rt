@@ -6,6 +6,8 @@ mod commands;
 #[cfg(test)]
 mod expectations;
 #[cfg(test)]
+mod heap;
+#[cfg(test)]
 mod joins;
 #[cfg(test)]
 mod layout;

@@ -88,11 +88,19 @@ fn the_greatest_log_is_filled(rt: HostRuntime) {
 
 #[test]
 fn texts_of_errors(rt: HostRuntime) {
-    expect_text(&rt, LogError::BadLog, "BadLog");
-    expect_text(&rt, LogError::BadNumbers, "BadNumbers");
-    expect_text(&rt, LogError::OutOfMemory, "out of memory");
-    expect_text(&rt, PushError::LogFull, "LogFull");
-    expect_text(&rt, PushError::NumbersSpent, "NumbersSpent");
+    for (error, text) in [
+        (LogError::BadLog, "BadLog"),
+        (LogError::BadNumbers, "BadNumbers"),
+        (LogError::OutOfMemory, "out of memory"),
+    ] {
+        expect_text(&rt, error, text);
+    }
+    for (error, text) in [
+        (PushError::LogFull, "LogFull"),
+        (PushError::NumbersSpent, "NumbersSpent"),
+    ] {
+        expect_text(&rt, error, text);
+    }
     expect_text(&rt, NumbersSpent, "NumbersSpent");
 }
 

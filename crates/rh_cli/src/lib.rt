@@ -12,6 +12,3 @@ pub use ask::{Ask, Subcommand};
 pub use driving::{drive, tell};
 pub use fault::LineFault;
 pub use program::play;
-
-#[cfg(test)]
-mod tests;

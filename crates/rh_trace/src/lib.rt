@@ -24,8 +24,3 @@ pub use run_fault::RunFault;
 pub use running::{run_trace, run_trace_told};
 pub use summary::Summary;
 pub use trace::{Trace, parse};
-
-#[cfg(test)]
-mod tests;
-#[cfg(test)]
-mod tests_lines;

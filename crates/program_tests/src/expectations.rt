@@ -1,0 +1,30 @@
+//! What a test expects. These stand in the place of `assert_eq!`, which would make the proof of a
+//! test three times as long.
+
+use std::fmt::{Debug, Display};
+use std::process::Abort;
+
+/// Ends the test unless the two are equal, and shows both then.
+pub fn expect_equal<T: PartialEq + Debug + Drop>(rt: &impl Abort, left: T, right: T) {
+    assert_eq!(rt; left, right);
+}
+
+/// Ends the test unless so many allocations or more were refused in turn.
+pub fn expect_refusals(rt: &impl Abort, refused: Result<u64, u64>, least: u64) {
+    assert!(rt; refused.is_ok_and(|n| n >= least), "{refused:?}");
+}
+
+/// Ends the test unless the text begins so.
+pub fn expect_prefix(rt: &impl Abort, text: &[u8], prefix: &[u8]) {
+    assert!(rt; text.starts_with(prefix), "{text:?}");
+}
+
+/// Ends the test unless the value is shown as this text.
+pub fn expect_text<R, D>(rt: &R, value: D, text: &str)
+where
+    R: AllocGlobal + Abort,
+    D: Display + Drop,
+{
+    let shown = format!(in rt.alloc(); "{value}").expect(rt, "memory is ample");
+    expect_equal(rt, shown.as_str(), text);
+}

@@ -1,0 +1,63 @@
+//! The logs of reads and writes, which tell whether one failed.
+
+use crate::devices::{InterruptedReader, SlowReader, SlowWriter};
+use crate::expectations::expect_equal;
+use crate::texts::WITHOUT_FIELDS;
+use rh_text::Calls;
+use rh_trace::{RunFault, Write, parse, print_told, run_trace_told};
+use std::test::Fail;
+
+#[test]
+fn runs_tell_which_call_failed(rt: HostRuntime) {
+    // The read and the write that fail, how the run ends, and whether each log tells a failed call.
+    for (read, write, fault, told) in [
+        (0, 0, None, (false, false)),
+        (3, 0, Some(RunFault::Read), (true, false)),
+        (0, 2, Some(RunFault::Write), (false, true)),
+    ] {
+        let mut reader = SlowReader::new(WITHOUT_FIELDS, read);
+        let mut writer = SlowWriter::new(&rt, 1000, write);
+        let (mut reads, mut writes) = (Calls::new(), Calls::new());
+        let outcome = run_trace_told(
+            rt.alloc(),
+            &mut reader,
+            &mut reads,
+            &mut writer,
+            &mut writes,
+        );
+        expect_equal(&rt, outcome.err(), fault);
+        expect_equal(&rt, (reads.has_failed(), writes.has_failed()), told);
+    }
+}
+
+#[test]
+fn reads_that_run_out_are_no_failed_read(rt: HostRuntime) {
+    let mut reader = InterruptedReader {
+        reads: 0,
+        ends_at: 0,
+    };
+    let mut writer = SlowWriter::new(&rt, 1000, 0);
+    let (mut reads, mut writes) = (Calls::new(), Calls::new());
+    let outcome = run_trace_told(
+        rt.alloc(),
+        &mut reader,
+        &mut reads,
+        &mut writer,
+        &mut writes,
+    );
+    expect_equal(&rt, outcome.err(), Some(RunFault::Read));
+    expect_equal(&rt, (reads.has_failed(), reads.left()), (false, 0));
+    expect_equal(&rt, writer.writes, 0);
+}
+
+#[test]
+fn prints_tell_a_failed_write(rt: HostRuntime) -> Result<(), Fail> {
+    let trace = parse(rt.alloc(), WITHOUT_FIELDS).ok().ok_or("a trace")?;
+    for (most, nth, outcome) in [(1000, 0, Ok(())), (1000, 2, Err(Write)), (0, 0, Err(Write))] {
+        let mut writer = SlowWriter::new(&rt, most, nth);
+        let mut writes = Calls::new();
+        expect_equal(&rt, print_told(&trace, &mut writer, &mut writes), outcome);
+        expect_equal(&rt, writes.has_failed(), outcome.is_err());
+    }
+    Ok(())
+}

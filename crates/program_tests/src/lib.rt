@@ -1,0 +1,21 @@
+//! Tests of traces and of the program, by their public calls.
+#![tactic(auto)]
+
+#[cfg(test)]
+mod command_line;
+#[cfg(test)]
+mod devices;
+#[cfg(test)]
+mod expectations;
+#[cfg(test)]
+mod failed_calls;
+#[cfg(test)]
+mod faults;
+#[cfg(test)]
+mod reading;
+#[cfg(test)]
+mod running;
+#[cfg(test)]
+mod terminal;
+#[cfg(test)]
+mod texts;

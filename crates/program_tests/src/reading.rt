@@ -1,0 +1,270 @@
+//! Reading and printing traces.
+
+use crate::devices::SlowWriter;
+use crate::expectations::{expect_equal, expect_refusals};
+use crate::texts::{
+    BOUNDARY, CUT, KEYWORDS, LONG_HEADER, LONG_LINE, OPERANDS, WITHOUT_FIELDS, repeated,
+};
+use refusing::refused_in_turn;
+use rh_layout::{Operand, RootId};
+use rh_trace::{Header, Kind, Line, ParseError, TraceFault, Write, parse, print};
+use std::process::Abort;
+use std::test::Fail;
+
+const A: RootId = RootId { owner: 1, slot: 0 };
+
+const B: RootId = RootId { owner: 1, slot: 1 };
+
+/// The fault that a text has, and its line.
+fn fault_of(rt: &impl AllocGlobal, text: &[u8]) -> Option<TraceFault> {
+    match parse(rt.alloc(), text) {
+        Err(ParseError::Fault(fault)) => Some(fault),
+        _ => None,
+    }
+}
+
+#[test]
+fn reads_each_keyword(rt: HostRuntime) -> Result<(), Fail> {
+    let trace = parse(rt.alloc(), KEYWORDS).ok().ok_or("a trace")?;
+    let header = Header {
+        words: 16,
+        ratio: 8,
+        log: 4,
+        owners: 2,
+        slots: 2,
+    };
+    let lines = [
+        Line::Alloc {
+            owner: 1,
+            dst: A,
+            fields: 2,
+        },
+        Line::Load {
+            owner: 1,
+            dst: B,
+            src: A,
+            field: 0,
+        },
+        Line::Store {
+            owner: 1,
+            obj: A,
+            field: 0,
+            operand: Operand::Int(5),
+        },
+        Line::Copy {
+            owner: 1,
+            dst: B,
+            src: RootId { owner: 0, slot: 0 },
+        },
+        Line::Same {
+            owner: 1,
+            a: A,
+            b: B,
+        },
+        Line::Drop { owner: 1, root: A },
+    ];
+    expect_equal(&rt, trace.header(), header);
+    expect_equal(&rt, trace.lines(), lines.as_slice());
+    expect_equal(&rt, (trace.len(), trace.is_empty()), (6, false));
+    assert!(rt; trace.len() == 6 && trace.line(5) == lines[5]);
+    assert!(rt; size_of::<Line>() <= 40);
+    Ok(())
+}
+
+#[test]
+fn reads_each_operand(rt: HostRuntime) -> Result<(), Fail> {
+    let trace = parse(rt.alloc(), OPERANDS).ok().ok_or("a trace")?;
+    let operands = [
+        Operand::Nil,
+        Operand::Int(0),
+        Operand::Int(-1),
+        Operand::Int(9_223_372_036_854_775_807),
+        Operand::Int(-9_223_372_036_854_775_808),
+        Operand::Root(RootId {
+            owner: 15,
+            slot: 255,
+        }),
+    ];
+    expect_equal(&rt, trace.len(), 10);
+    for (line, operand) in trace.lines().iter().zip(operands.iter()) {
+        let store = Line::Store {
+            owner: 1,
+            obj: A,
+            field: 1,
+            operand: *operand,
+        };
+        expect_equal(&rt, *line, store);
+    }
+    Ok(())
+}
+
+#[test]
+fn prints_what_was_parsed(rt: HostRuntime) -> Result<(), Fail> {
+    for text in [KEYWORDS, OPERANDS, BOUNDARY] {
+        let trace = parse(rt.alloc(), text).ok().ok_or("a trace")?;
+        let mut printed = Vec::new(rt.alloc());
+        expect_equal(&rt, print(&trace, &mut printed), Ok(()));
+        expect_equal(&rt, printed.as_slice(), text);
+        let mut writer = SlowWriter::new(&rt, 3, 4);
+        expect_equal(&rt, print(&trace, &mut writer), Err(Write));
+        expect_equal(
+            &rt,
+            writer.text.as_slice(),
+            text.split_at(9.min(text.len())).0,
+        );
+    }
+    Ok(())
+}
+
+/// Texts, each with the line and the kind of its first fault.
+const FAULTS_OF_TEXTS: [(&[u8], u32, Kind); 16] = [
+    (b"", 1, Kind::Empty),
+    (b"\n", 1, Kind::Form),
+    (b"1 drop 1.0\n", 1, Kind::Header),
+    (b"heap 16 8 4 2\n", 1, Kind::Header),
+    (b"heap 16 8 4 2 2", 1, Kind::Cut),
+    (b"heap  16", 1, Kind::Cut),
+    (b"heap  16\n", 1, Kind::Form),
+    (b"heap  16 8 4 2 2\n", 1, Kind::Form),
+    (b"heap 16 8 4 2 2 \n", 1, Kind::Form),
+    (b"heap\t16 8 4 2 2\n", 1, Kind::Form),
+    (b"heap 16 8 4 2 02\n", 1, Kind::Number),
+    (b"heap 16 8 4 2 4294967296\n", 1, Kind::Number),
+    (b"heap 16 8 4 -2 2\n", 1, Kind::Number),
+    (b"heap 16 8 4 +2 2\n", 1, Kind::Number),
+    (b"pile 16 8 4 2 02\n1 grow\n", 1, Kind::Header),
+    (CUT, 3, Kind::Cut),
+];
+
+/// Second lines, each with the kind of its fault.
+const FAULTS_OF_LINES: [(&[u8], Kind); 57] = [
+    (b"\n", Kind::Form),
+    (b"1\n", Kind::Form),
+    (b"1 grow 1.0\n", Kind::Word),
+    (b"1 begin\n", Kind::Word),
+    (b"begin\n", Kind::Word),
+    (b"alloc 1 1.0 2\n", Kind::Word),
+    (b"1 alloc 1.0\n", Kind::Form),
+    (b"1 alloc 1.0 2 3\n", Kind::Form),
+    (b"1 alloc 1 x\n", Kind::Root),
+    (b"1x alloc 1 x\n", Kind::Number),
+    (b"1 alloc 1.0 x\n", Kind::Number),
+    (b"1 alloc 1.0.0 2\n", Kind::Root),
+    (b"1 alloc 1.00 2\n", Kind::Root),
+    (b"1 load 1.0 1.1\n", Kind::Form),
+    (b"1 load 1.0 1. 0\n", Kind::Root),
+    (b"1 drop 10\n", Kind::Root),
+    (b"1 drop 1.0 1.1\n", Kind::Form),
+    (b"1 drop 1.4294967296\n", Kind::Root),
+    (b"1 drop 4294967296.0\n", Kind::Root),
+    (b"1 store 1.0 0\n", Kind::Form),
+    (b"1 store x 0\n", Kind::Form),
+    (b"1 store 1.0 0 5 5\n", Kind::Form),
+    (b"1 store 1.0 0 \n", Kind::Form),
+    (b"1 store 1.0 0 x\n", Kind::Number),
+    (b"1 store 1.0 0 1.x\n", Kind::Root),
+    (b"1 store 1.0 0 -1.0\n", Kind::Root),
+    (b"1 store 1.0 0 1.\n", Kind::Root),
+    (b"1 store 1.0 0 .\n", Kind::Root),
+    (b"1 store 1.0 0 nil.\n", Kind::Root),
+    (b"1 store 1 0 5\n", Kind::Root),
+    (b"1 store 1 x 1.x\n", Kind::Root),
+    (b"1 store 1.0 x 1.x\n", Kind::Number),
+    (b"1x store 1 0 1.x\n", Kind::Number),
+    (b"1 store 1.0 -1 5\n", Kind::Number),
+    (b"1 store 1.0 0 9223372036854775808\n", Kind::Number),
+    (b"1 store 1.0 0 -9223372036854775809\n", Kind::Number),
+    (b"1 store 1.0 0 18446744073709551616\n", Kind::Number),
+    (b"1 store 1.0 0 +5\n", Kind::Number),
+    (b"1 store 1.0 0 05\n", Kind::Number),
+    (b"1 store 1.0 0 -05\n", Kind::Number),
+    (b"1 store 1.0 0 -0\n", Kind::Number),
+    (b"1 store 1.0 0 00\n", Kind::Number),
+    (b"1 store 1.0 0 -\n", Kind::Number),
+    (b"1 store 1.0 0 --1\n", Kind::Number),
+    (b"1 store 1.0 0 Nil\n", Kind::Number),
+    (b"1 stores 1.0 0 5\n", Kind::Word),
+    (b"1 copy 1.0\n", Kind::Form),
+    (b"1 copy 7 1.0 1.1\n", Kind::Form),
+    (b"1 copy 7 1.0\n", Kind::Root),
+    (b"1 copy 1.0 nil\n", Kind::Root),
+    (b"1 same 1.0 7\n", Kind::Root),
+    (b"1 same 1.0\n", Kind::Form),
+    (b"1 same 1.0 1.1", Kind::Cut),
+    // Of two faults the one that stands first in the order of the format.
+    (b"x alloc 1.0\n", Kind::Word),
+    (b"02 alloc 1.0\n", Kind::Form),
+    (b"02 alloc 1 x\n", Kind::Number),
+    (b"1 store 1 x 1.\n", Kind::Root),
+];
+
+#[test]
+fn first_faults(rt: HostRuntime) -> Result<(), Fail> {
+    for (text, line, kind) in FAULTS_OF_TEXTS {
+        expect_equal(&rt, fault_of(&rt, text), Some(TraceFault { line, kind }));
+    }
+    for (second, kind) in FAULTS_OF_LINES {
+        let text = repeated(&rt, b"heap 16 8 4 2 2\n", second, 1)?;
+        expect_equal(
+            &rt,
+            fault_of(&rt, &text),
+            Some(TraceFault { line: 2, kind }),
+        );
+    }
+    Ok(())
+}
+
+#[test]
+fn long_lines(rt: HostRuntime) -> Result<(), Fail> {
+    for (bytes, end, kind) in [
+        (256, b"".as_slice(), Kind::Cut),
+        (256, b"\n".as_slice(), Kind::Header),
+        (257, b"".as_slice(), Kind::Long),
+        (257, b"\n".as_slice(), Kind::Long),
+    ] {
+        let mut text = repeated(&rt, b"", b"9", bytes)?;
+        text.extend_from_slice(end)?;
+        expect_equal(
+            &rt,
+            fault_of(&rt, &text),
+            Some(TraceFault { line: 1, kind }),
+        );
+    }
+    Ok(())
+}
+
+#[test]
+fn the_greatest_trace(rt: HostRuntime) -> Result<(), Fail> {
+    let mut text = repeated(&rt, LONG_HEADER, LONG_LINE, 1_048_575)?;
+    expect_equal(&rt, text.len(), 16_777_216);
+    let trace = parse(rt.alloc(), &text).ok().ok_or("a trace")?;
+    expect_equal(&rt, trace.len(), 1_048_575);
+    let mut printed = Vec::new(rt.alloc());
+    expect_equal(&rt, print(&trace, &mut printed), Ok(()));
+    assert!(rt; printed.as_slice() == text.as_slice());
+    text.extend_from_slice(b"\n")?;
+    let long = TraceFault {
+        line: 1_048_577,
+        kind: Kind::Long,
+    };
+    expect_equal(&rt, fault_of(&rt, &text), Some(long));
+    Ok(())
+}
+
+#[test]
+fn refused_memory(rt: HostRuntime) -> Result<(), Fail> {
+    let text = repeated(&rt, LONG_HEADER, LONG_LINE, 48)?;
+    let refused = refused_in_turn(rt.alloc(), |memory| match parse(memory, &text) {
+        Ok(trace) => {
+            expect_equal(&rt, trace.len(), 48);
+            false
+        }
+        Err(error) => {
+            assert!(rt; matches!(error, ParseError::OutOfMemory));
+            true
+        }
+    });
+    expect_refusals(&rt, refused, 5);
+    assert!(rt; parse(rt.alloc(), WITHOUT_FIELDS).is_ok());
+    Ok(())
+}
