@@ -45,8 +45,7 @@ impl Spaces {
 
     /// Places the object at `a`, where there is one that isn't placed. Answers whether it did.
     pub fn place(&mut self, a: u32) -> bool {
-        self.space.is_object(a)
-            && matches!(self.joint.place(&mut self.space, a), Placing::Placed)
+        self.space.is_object(a) && matches!(self.joint.place(&mut self.space, a), Placing::Placed)
     }
 
     /// Holds a reference to the object itself in the next field that wasn't dealt. Answers whether there was one.
