@@ -16,6 +16,8 @@ mod log;
 #[cfg(test)]
 mod partial_replicas;
 #[cfg(test)]
+mod place;
+#[cfg(test)]
 mod plain_heap;
 #[cfg(test)]
 mod refusals;

@@ -3,7 +3,7 @@
 use crate::devices::{Broken, Unflushed};
 use crate::expectations::{expect_equal, expect_prefix, expect_refusals};
 use crate::terminal::Terminal;
-use crate::texts::{WITHOUT_FIELDS, WITHOUT_FIELDS_ANSWERS, repeated};
+use crate::texts::{CUT, WITHOUT_FIELDS, WITHOUT_FIELDS_ANSWERS, repeated};
 use refusing::refused_in_turn;
 use rh_cli::{Ask, LineFault, Subcommand, drive, play, read_words, tell};
 use std::cell::RefCell;
@@ -129,7 +129,8 @@ fn runs_to<R: AllocGlobal + Abort>(rt: &R, text: &[u8], status: u8, answers: &[u
 }
 
 /// Traces that can't be run, each with what is told.
-const FAULTS: [(&[u8], &[u8]); 11] = [
+const FAULTS: [(&[u8], &[u8]); 12] = [
+    (CUT, b"rheap: line 3: Cut\n"),
     (b"", b"rheap: line 1: Empty\n"),
     (b"heap 16 8 4 2 2", b"rheap: line 1: Cut\n"),
     (b"heap 16 8 4 2 2\n1\n", b"rheap: line 2: Form\n"),

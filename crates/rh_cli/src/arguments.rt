@@ -20,9 +20,10 @@ Faults of a line, of which the first that holds is told:
   Empty   the file has no byte
   Long    the line's number is above 1,048,576, or it has more than 256 bytes
   Cut     the line has no line end
-  Form    a byte isn't printable, a part is empty, or the number of parts is wrong
-  Header  the first line isn't `heap` and five numbers
-  Word    no line is asked for so
+  Form    a byte isn't printable, or a part is empty
+  Header  the first line doesn't begin with `heap`, or hasn't six parts
+  Word    the line's keyword isn't that of a command
+  Form    no keyword follows the owner, or the number of parts is wrong
   Number  a part isn't the number that it should be
   Root    a part isn't the root that it should be, as 1.0
 

@@ -6,6 +6,7 @@
 
 mod calls;
 mod input;
+pub mod laws;
 mod number;
 mod output;
 mod parts;

@@ -4,3 +4,4 @@ pub mod SpelledIsRead
 pub mod FirstFault
 pub mod AnswersInTurn
 pub mod PlainAnswers
+pub mod WorkedTraces

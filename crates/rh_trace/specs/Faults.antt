@@ -103,7 +103,8 @@ form_of [] = None
 form_of (owner ∷ []) = None
 form_of (owner ∷ word ∷ args) = lookup word command_forms
 
--- the faults of the parts of a line after the first
+-- the faults of the parts of a line after the first; no keyword begins a line today, so a line
+-- without an owner is Word
 abbrev pub line_part_faults : List (List ℕ) → ℕ → Kind → Type 0
 line_part_faults parts =
     Form when LacksKeyword parts

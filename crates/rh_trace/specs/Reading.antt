@@ -1,4 +1,4 @@
--- Reading from left to right, with the first fault that is met.
+-- What a text is read as: the trace that it spells, or its first fault.
 use Rattle.std.specs.Prelude.{◌≡◌, ℕ, ◌+◌, List, [], ◌∷◌, length, Result, Ok, Err, nat_lt, ◌||◌, not, if◌then◌else◌, codes, ℤ}
 use Rattle.std.specs.Str.{bytes_eq}
 use Rattle.rh_layout.specs.declared.command.Command.{Command}

@@ -1,6 +1,6 @@
 //! A trace, and a trace read from its text.
 
-ghost use Rattle.std.specs.Prelude.{◌≡◌, ◌<◌, ◌==◌, length, slice_index_or, IfOk, Ok};
+ghost use Rattle.std.specs.Prelude.{◌≡◌, ◌<◌, ◌==◌, length, slice_get, IfOk, Ok, Some};
 ghost use Rattle.rh_text.specs.RawLine.{lines_of};
 ghost use Rattle.rh_trace.specs.Reading.{Gives, lines_from, script_or_fault, trace_of};
 ghost use Rattle.rh_trace.specs.Spelling.{Script, IsScript, spelling};
@@ -57,7 +57,7 @@ impl<A: Allocator> Trace<A> {
     /// The line `i`, counted from 0 after the first.
     pub fn line(&self, i: usize) -> Line
         requires { i < length self.now.lines }
-        ensures { result ≡ slice_index_or self.now.lines i result }
+        ensures { slice_get self.now.lines i ≡ Some result }
     {
         self.lines[i]
     }
