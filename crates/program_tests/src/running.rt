@@ -138,7 +138,7 @@ fn reads_end(rt: HostRuntime) {
 fn interrupted_writes_are_made_again(rt: HostRuntime) {
     for (always, fault, answers, writes) in [
         (false, None, WITHOUT_FIELDS_ANSWERS, 6),
-        (true, Some(RunFault::Write), b"".as_slice(), 33_554_433),
+        (true, Some(RunFault::Write), b"".as_slice(), 33_554_432),
     ] {
         let mut reader = WITHOUT_FIELDS;
         let mut writer = InterruptedWriter {
