@@ -89,8 +89,8 @@ fn folded(alloc: Global, items: u64) -> Option<usize> {
     Some(replica.len())
 }
 
-/// Refills one replica with so many items, rounded down to whole pieces, and answers how many places
-/// it has; nothing where memory was refused.
+/// Refills one replica with so many items, rounded down to whole pieces, and answers how many
+/// places it has; nothing where memory was refused.
 fn refilled(alloc: Global, items: u64) -> Option<usize> {
     let mut replica = PartialReplica::reserved(alloc, 1).ok()?;
     let mut seed = 1;

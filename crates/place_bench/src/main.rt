@@ -1,4 +1,5 @@
-//! Places the objects of a space, holds each of their fields, and exchanges the two spaces: what `bench/place` times.
+//! Places the objects of a space, holds each of their fields, and exchanges the two spaces: what
+//! `bench/place` times.
 #![tactic(auto)]
 
 mod spaces;
@@ -24,8 +25,9 @@ fn word_count(rt: &(impl Env + AllocGlobal)) -> u32 {
     }
 }
 
-/// Fills a space of so many words with objects, places them, holds their fields, and exchanges the spaces. Answers how
-/// many pairs were held; nothing where memory was refused, the words are out of range, or a pair went missing.
+/// Fills a space of so many words with objects, places them, holds their fields, and exchanges the
+/// spaces. Answers how many pairs were held; nothing where memory was refused, the words are out of
+/// range, or a pair went missing.
 fn collected(alloc: Global, words: u32) -> Option<u32> {
     let mut spaces = Spaces::new(alloc, words)?;
     let objects = words / size_of(FIELDS);

@@ -27,7 +27,8 @@ impl Model for Spaces {
 }
 
 impl Spaces {
-    /// Two spaces of so many words, without an object; nothing where the words are out of range or memory was refused.
+    /// Two spaces of so many words, without an object; nothing where the words are out of range or
+    /// memory was refused.
     pub fn new(alloc: Global, words: u32) -> Option<Spaces> {
         let space = Space::new(alloc, words).ok()?;
         let joint = Joint::new(alloc, words).ok()?;
@@ -48,7 +49,8 @@ impl Spaces {
         self.space.is_object(a) && matches!(self.joint.place(&mut self.space, a), Placing::Placed)
     }
 
-    /// Holds a reference to the object itself in the next field that wasn't dealt. Answers whether there was one.
+    /// Holds a reference to the object itself in the next field that wasn't dealt. Answers whether
+    /// there was one.
     pub fn hold_next(&mut self) -> bool {
         let Some(Place { object, field }) = self.joint.next() else {
             return false;

@@ -73,9 +73,9 @@ pub fn same_graph_is_reflexive()
 {}
 
 /// Two graphs are the same where each root holds one value in both, and the objects of a set of
-/// names have the same fields in both, if the set has each name that a root refers to, and each that
-/// a field of its objects refers to. So how many owners and slots there are, and what isn't reached,
-/// play no part.
+/// names have the same fields in both, if the set has each name that a root refers to, and each
+/// that a field of its objects refers to. So how many owners and slots there are, and what isn't
+/// reached, play no part.
 pub fn same_graph_speaks_of_what_is_reached()
     ensures { (g h : Graph) (set : ℕ → Bool)
         → ((r : RootId) → root_value g r ≡ root_value h r)
@@ -132,8 +132,8 @@ pub fn refused_commands_change_nothing()
         → (refusal : Refusal) → ¬ RefusalHolds (graph_of p) owner command refusal }
 {}
 
-/// A new plain heap has the owners and slots that it was made with; each root is nil, and there is no
-/// object. New plain heaps are the same graph, however many owners and slots they have.
+/// A new plain heap has the owners and slots that it was made with; each root is nil, and there is
+/// no object. New plain heaps are the same graph, however many owners and slots they have.
 pub fn a_new_plain_heap_is_empty()
     ensures owners { (owners slots : ℕ) → (empty_plain owners slots).owners ≡ owners }
     ensures slots { (owners slots : ℕ) → (empty_plain owners slots).slots ≡ slots }

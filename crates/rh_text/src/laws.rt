@@ -8,8 +8,8 @@ ghost use Rattle.rh_text.specs.Number.{IsI64, IsU32, integer_of, number_of};
 ghost use Rattle.rh_text.specs.RawLine.{lines_of, raw_text};
 ghost use Rattle.rh_text.specs.Root.{RootFits, root_of, root_text};
 
-/// A part says a number exactly where it is the one decimal of a number that fits, and so with whole
-/// numbers and roots.
+/// A part says a number exactly where it is the one decimal of a number that fits, and so with
+/// whole numbers and roots.
 pub fn parts_say_what_they_spell()
     ensures number { (part : List ℕ) (n : ℕ)
         → (number_of part ≡ Some n) ↔ ((part ≡ decimal n) × IsU32 n) }

@@ -20,7 +20,7 @@ use Rattle.rh_text.specs.Steps.{◌>>=◌, or_fault, with_fault}
 use Rattle.rh_text.specs.lemmas.Integers.{i64_size, integer_of-decimal}
 use Rattle.rh_text.specs.lemmas.Numbers.{number_of-decimal}
 use Rattle.rh_text.specs.lemmas.Roots.{root_of-text, root_part}
-use Rattle.rh_text.specs.lemmas.Joins.{IsPart, is_decimal_digit, bounds, filled-decimal, decimal_digits, wide_digits, wide_filled, number_part, integer_part, parts_of-join, printable-join, length-join, is_formed-join, ended_line, lines_of-front}
+use Rattle.rh_text.specs.lemmas.Joins.{IsPart, is_decimal_digit, bounds, filled-decimal, decimal_digits, wide_digits, wide_filled, number_part, integer_part, parts_of-join, printable-join, length-join, is_formed-join, ended_line, lines_of-prefix}
 use Rattle.rh_trace.specs.declared.fault.Kind.{Kind}
 use Rattle.rh_trace.specs.declared.fault.Kind.TheVariants.{Long, Form, Word, Number, Root}
 use Rattle.rh_trace.specs.declared.fault.TraceFault.{TraceFault}
@@ -235,7 +235,7 @@ header_of_parts-spelled h fits = rw (number_or_fault-decimal h.words fits.0, num
 
 lines_of-parts : (first : List ℕ) (others : List (List ℕ)) (rest : List ℕ) → AreParts first others → lines_of (spell_parts (first ∷ others) ++ rest) ≡ ended_line (join_with_byte 32 (first ∷ others)) ∷ lines_of rest
 lines_of-parts first others rest are =
-    ap lines_of (append_assoc (join_with_byte 32 (first ∷ others)) (10 ∷ []) rest) ∙ lines_of-front (join_with_byte 32 (first ∷ others)) rest (printable-join first others are.each)
+    ap lines_of (append_assoc (join_with_byte 32 (first ∷ others)) (10 ∷ []) rest) ∙ lines_of-prefix (join_with_byte 32 (first ∷ others)) rest (printable-join first others are.each)
 
 line_or_fault-join : (number : ℕ) (line : Line) (first : List ℕ) (others : List (List ℕ)) → number ≤ 1048576 → AreParts first others → line_of_parts (first ∷ others) ≡ Ok line → line_or_fault number (ended_line (join_with_byte 32 (first ∷ others))) ≡ Ok line
 unfolding line_or_kind

@@ -105,12 +105,12 @@ integer_part (negsuc k) fits = record {
 
 -- a line that is cut where it was joined
 
-parts_of-front : (part rest : List ℕ) → list_all is_glyph part ≡ true → parts_of (part ++ 32 ∷ rest) ≡ part ∷ parts_of rest
-parts_of-front [] rest h = refl
-parts_of-front (b ∷ part) rest h =
+parts_of-prefix : (part rest : List ℕ) → list_all is_glyph part ≡ true → parts_of (part ++ 32 ∷ rest) ≡ part ∷ parts_of rest
+parts_of-prefix [] rest h = refl
+parts_of-prefix (b ∷ part) rest h =
     let p = and_parts (is_glyph b) (list_all is_glyph part) h in
     let other : eqb b 32 ≡ false = ne_eqb b 32 (λ e. omega (arith, (bounds 33 126 b p.0).0, e)) in
-    ap (λ (t : Bool). cond t ([] ∷ parts_of (part ++ 32 ∷ rest)) (onto_first b (parts_of (part ++ 32 ∷ rest)))) other ∙ ap (onto_first b) (parts_of-front part rest p.1)
+    ap (λ (t : Bool). cond t ([] ∷ parts_of (part ++ 32 ∷ rest)) (onto_first b (parts_of (part ++ 32 ∷ rest)))) other ∙ ap (onto_first b) (parts_of-prefix part rest p.1)
 
 parts_of-part : (part : List ℕ) → list_all is_glyph part ≡ true → parts_of part ≡ part ∷ []
 parts_of-part [] h = refl
@@ -121,7 +121,7 @@ parts_of-part (b ∷ part) h =
 
 pub parts_of-join : (first : List ℕ) (others : List (List ℕ)) → AllByRecursion IsPart (first ∷ others) → parts_of (join_with_byte 32 (first ∷ others)) ≡ first ∷ others
 parts_of-join first [] h = parts_of-part first h.0.glyphs
-parts_of-join first (second ∷ others) h = parts_of-front first (join_with_byte 32 (second ∷ others)) h.0.glyphs ∙ ap (λ (ps : List (List ℕ)). first ∷ ps) (parts_of-join second others h.1)
+parts_of-join first (second ∷ others) h = parts_of-prefix first (join_with_byte 32 (second ∷ others)) h.0.glyphs ∙ ap (λ (ps : List (List ℕ)). first ∷ ps) (parts_of-join second others h.1)
 
 glyph-printable : (b : ℕ) → is_glyph b ≡ true → is_printable b ≡ true
 glyph-printable b h = let r = bounds 33 126 b h in within 32 126 b (omega (arith, r.0)) r.1
@@ -149,9 +149,9 @@ is_formed-join first others h =
 abbrev pub ended_line : List ℕ → RawLine
 ended_line bytes = record { bytes = bytes; ended = true }
 
-pub lines_of-front : (line rest : List ℕ) → list_all is_printable line ≡ true → lines_of (line ++ 10 ∷ rest) ≡ ended_line line ∷ lines_of rest
-lines_of-front [] rest h = refl
-lines_of-front (b ∷ line) rest h =
+pub lines_of-prefix : (line rest : List ℕ) → list_all is_printable line ≡ true → lines_of (line ++ 10 ∷ rest) ≡ ended_line line ∷ lines_of rest
+lines_of-prefix [] rest h = refl
+lines_of-prefix (b ∷ line) rest h =
     let p = and_parts (is_printable b) (list_all is_printable line) h in
     let other : eqb b 10 ≡ false = ne_eqb b 10 (λ e. omega (arith, (bounds 32 126 b p.0).0, e)) in
-    ap (λ (t : Bool). cond t (ended_line [] ∷ lines_of (line ++ 10 ∷ rest)) (onto_line b (lines_of (line ++ 10 ∷ rest)))) other ∙ ap (onto_line b) (lines_of-front line rest p.1)
+    ap (λ (t : Bool). cond t (ended_line [] ∷ lines_of (line ++ 10 ∷ rest)) (onto_line b (lines_of (line ++ 10 ∷ rest)))) other ∙ ap (onto_line b) (lines_of-prefix line rest p.1)
