@@ -9,3 +9,4 @@ mod SameValueEqual
 mod CommandEffects
 mod StaysWellFormed
 mod SameGraphReached
+mod Stored

@@ -6,7 +6,7 @@ use thiserror::Error;
 /// Why there is no plain heap.
 #[derive(Clone, Copy, Debug, PartialEq, Eq, Error)]
 pub enum PlainError {
-    /// The owners aren't 1 to 16, or the slots of each aren't 1 to 256.
+    /// The owners aren't 1 to `MAX_OWNERS`, or the slots of each aren't 1 to `MAX_SLOTS`.
     #[error("BadRoots")]
     BadRoots,
     /// A growth was refused.
