@@ -1,0 +1,6 @@
+use Rattle.std.proofs.lemmas.Slice.Eq.{slice_eq-Decides}
+use Rattle.rh_dump.proofs.SameValues.{value_eq-Decides}
+use Rattle.rh_dump.proofs.comparing.same_values.Goals as goal
+
+pub returns : goal.returns
+returns c = slice_eq-Decides value_eq-Decides c.args.a.now c.args.b.now c.eq.result c.eq.ensures

@@ -1,0 +1,10 @@
+use Rattle.std.proofs.Common.{rules, ◌≡◌, length, sym, ap, ◌∙◌}
+use Rattle.rh_dump.specs.Dump.{GraphState}
+use Rattle.rh_dump.proofs.ObjectsIn.{length-objects_in}
+use Rattle.rh_dump.proofs.graph.Graph.objects.Goals as goal
+
+pub returns : goal.returns
+returns g c =
+    let i = c.self.inside in
+    let e : c.len.result ≡ length i.counts.items = search rules in
+    e ∙ sym (length-objects_in i.counts.items i.values.items) ∙ ap (λ (x : GraphState). length x.objects) c.self.view_is

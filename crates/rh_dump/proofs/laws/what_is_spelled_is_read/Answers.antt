@@ -1,0 +1,9 @@
+use Rattle.rh_dump.proofs.SpelledIsRead.{graph_within-text}
+use Rattle.rh_dump.proofs.ReadIsSpelled.{graph_within-means}
+use Rattle.rh_dump.proofs.laws.what_is_spelled_is_read.Goals as goal
+
+pub returns-clause-spelled : goal.returns-clause-spelled
+returns-clause-spelled c = graph_within-text 268435456
+
+pub returns-clause-read : goal.returns-clause-read
+returns-clause-read c = graph_within-means 268435456

@@ -1,0 +1,9 @@
+pub mod Dump
+pub mod Graph
+pub mod Numbering
+pub mod Meeting
+pub mod HeapDump
+pub mod Line
+pub mod Part
+pub mod Reading
+pub mod Faults

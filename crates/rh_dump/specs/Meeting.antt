@@ -1,0 +1,116 @@
+-- A dump as it is put together: each value is numbered as it is met.
+use Rattle.std.specs.Prelude.{◌≡◌, ◌<◌, ◌≤◌, ℕ, zero, suc, List, [], ◌∷◌, ◌++◌, map, length, slice_get, Option, Some, None}
+use Rattle.rh_layout.specs.declared.value.Value.{Value}
+use Rattle.rh_layout.specs.declared.value.Value.TheVariants.{Nil, Int, Ref}
+use Rattle.rh_layout.specs.declared.command.RootId.{RootId}
+use Rattle.rh_layout.specs.Word.{IsWhole}
+use Rattle.rh_model.specs.Graph.{Graph, root_value}
+use Rattle.rh_model.specs.Effects.{IsObject}
+use Rattle.rh_dump.specs.Graph.{FlatGraph, empty_flat}
+use Rattle.rh_dump.specs.Numbering.{roots_of, with_value, with_values, values_in, values_at, names_after, numbered_value, numbered_root}
+
+-- values as they are numbered when they are met, after these names
+abbrev pub met_values : List ℕ → List Value → List Value
+met_values names [] = []
+met_values names (v ∷ vs) =
+    numbered_value (with_value names v) v ∷ met_values (with_value names v) vs
+
+-- the same of roots
+abbrev pub met_roots : List ℕ → List (RootId × Value) → List (RootId × Value)
+met_roots names [] = []
+met_roots names (root ∷ roots) =
+    numbered_root (with_value names root.1) root ∷ met_roots (with_value names root.1) roots
+
+-- how many fields each object has, once so many were looked at
+abbrev pub counts_after : Graph → ℕ → List ℕ
+counts_after g zero = []
+counts_after g (suc n) =
+    counts_after g n ++ length (values_at g (slice_get (names_after g n) n)) ∷ []
+
+-- what their fields hold, numbered, one object after the other
+abbrev pub values_after : Graph → ℕ → List Value
+values_after g zero = []
+values_after g (suc n) =
+    values_after g n ++ met_values (names_after g n) (values_at g (slice_get (names_after g n) n))
+
+-- what is stored once so many objects were looked at
+abbrev pub flat_after : Graph → ℕ → FlatGraph
+flat_after g n = record {
+  roots = met_roots [] (roots_of g);
+  counts = counts_after g n;
+  values = values_after g n;
+}
+
+-- the number at each place of the list stands at its name
+abbrev pub IsIndexOf : List ℕ → List ℕ → Type 0
+IsIndexOf numbers names = (k a : ℕ) → slice_get names k ≡ Some a → slice_get numbers a ≡ Some k
+
+-- what a dump can say of a value of a graph: a whole number has a word, a reference is to an object
+abbrev pub IsTellable : Graph → Value → Type 0
+IsTellable g Nil = Unit {0}
+IsTellable g (Int n) = IsWhole n
+IsTellable g (Ref a) = IsObject g a
+
+-- What every heap keeps that is dumped, where all names are below a limit.
+pub record IsDumpable (limit : ℕ) (g : Graph) : Type 0 where
+  pub few : limit ≤ 16777216
+  pub owners : g.owners ≤ 16
+  pub slots : g.slots ≤ 256
+  pub roots : (r : RootId) → IsTellable g (root_value g r)
+  pub names : (a : ℕ) (fields : List Value) → g.fields a ≡ Some fields → a < limit
+  pub counts : (a : ℕ) (fields : List Value) → g.fields a ≡ Some fields → length fields ≤ 4095
+  pub fields : (a f : ℕ) (fields : List Value) (v : Value)
+      → g.fields a ≡ Some fields → slice_get fields f ≡ Some v → IsTellable g v
+
+-- what is known of a dump that is being put together: what all names are below, the names that were
+-- met, and what is stored
+pub record NumberingState : Type 0 where
+  pub limit : ℕ
+  pub names : List ℕ
+  pub flat : FlatGraph
+
+-- nothing was met
+abbrev pub empty_numbering : ℕ → NumberingState
+empty_numbering limit = record { limit = limit; names = []; flat = empty_flat }
+
+-- these roots are put, and what they hold is met
+abbrev pub with_roots : NumberingState → List (RootId × Value) → NumberingState
+with_roots s roots = record {
+  limit = s.limit;
+  names = with_values s.names (map (λ (root : RootId × Value). root.1) roots);
+  flat = record {
+    roots = s.flat.roots ++ met_roots s.names roots;
+    counts = s.flat.counts;
+    values = s.flat.values;
+  };
+}
+
+-- an object of so many fields begins
+abbrev pub with_count : NumberingState → ℕ → NumberingState
+with_count s count = record {
+  limit = s.limit;
+  names = s.names;
+  flat = record { roots = s.flat.roots; counts = s.flat.counts ++ count ∷ []; values = s.flat.values };
+}
+
+-- these values are put, which fields hold, and met
+abbrev pub with_fields : NumberingState → List Value → NumberingState
+with_fields s vs = record {
+  limit = s.limit;
+  names = with_values s.names vs;
+  flat = record {
+    roots = s.flat.roots;
+    counts = s.flat.counts;
+    values = s.flat.values ++ met_values s.names vs;
+  };
+}
+
+-- the roots and so many objects were looked at
+abbrev pub numbering_after : ℕ → Graph → ℕ → NumberingState
+numbering_after limit g n = record { limit = limit; names = names_after g n; flat = flat_after g n }
+
+-- a value refers to a name below the limit, if to any
+abbrev pub IsBelow : ℕ → Value → Type 0
+IsBelow limit Nil = Unit {0}
+IsBelow limit (Int n) = Unit {0}
+IsBelow limit (Ref a) = a < limit

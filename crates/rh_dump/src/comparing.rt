@@ -1,0 +1,43 @@
+//! Whether two graphs have equal dump texts.
+
+ghost use Rattle.std.specs.Prelude.{◌≡◌, ◌↔◌, IsTrue};
+ghost use Rattle.rh_dump.specs.Line.{text_of};
+
+use crate::graph::Graph;
+use rh_layout::{RootId, Value};
+use std::alloc::Allocator;
+
+/// The roots and what they hold are equal, place by place.
+fn same_roots(a: &[(RootId, Value)], b: &[(RootId, Value)]) -> bool
+    ensures { IsTrue result ↔ (a.now ≡ b.now) }
+{
+    a == b
+}
+
+/// The numbers are equal, place by place.
+fn same_counts(a: &[u32], b: &[u32]) -> bool
+    ensures { IsTrue result ↔ (a.now ≡ b.now) }
+{
+    a == b
+}
+
+/// The values are equal, place by place.
+fn same_values(a: &[Value], b: &[Value]) -> bool
+    ensures { IsTrue result ↔ (a.now ≡ b.now) }
+{
+    a == b
+}
+
+/// Whether two graphs have equal dump texts, which is whether they have the same roots and objects.
+/// It writes no text and takes no memory.
+pub fn same_text<A: Allocator, B: Allocator>(a: &Graph<A>, b: &Graph<B>) -> bool
+    ensures { IsTrue result ↔ (text_of a.now ≡ text_of b.now) }
+{
+    if !same_roots(&a.roots, &b.roots) {
+        return false;
+    }
+    if !same_counts(&a.counts, &b.counts) {
+        return false;
+    }
+    same_values(&a.values, &b.values)
+}

@@ -1,0 +1,39 @@
+//! What the next line of a dump must be.
+
+use rh_layout::RootId;
+
+/// What the next line of a dump must be, by the lines before it.
+#[derive(Clone, Copy, Debug)]
+pub enum Due {
+    /// `rheap 1`, the first line.
+    Header,
+    /// `roots R`.
+    Roots,
+    /// The line of a root.
+    Root {
+        /// How many further root lines are due after this one.
+        left: u32,
+        /// The root of the line before, where that is a root's.
+        last: Option<RootId>,
+        /// How many objects were met.
+        met: u32,
+    },
+    /// `objects N`.
+    Objects {
+        /// How many objects were met.
+        met: u32,
+    },
+    /// The line of an object.
+    Object {
+        /// The object's number.
+        number: u32,
+        /// How many objects there are.
+        count: u32,
+        /// How many objects were met.
+        met: u32,
+    },
+    /// `end`.
+    End,
+    /// No line.
+    Nothing,
+}

@@ -1,0 +1,105 @@
+//! A graph that is being put together.
+
+ghost use Rattle.std.specs.Prelude.{◌≡◌, ◌++◌, ◌∷◌, [], OnOk, OnErr};
+ghost use Rattle.rh_dump.specs.Dump.{IsGraph};
+ghost use Rattle.rh_dump.specs.Graph.{empty_flat, graph_in, IsFilled};
+
+use crate::graph::Graph;
+use rh_layout::{OutOfMemory, RootId, Value};
+use std::alloc::{Allocator, Global};
+use std::marker::Model;
+
+/// A graph that is being put together: its roots, how many fields each object has, and what the
+/// fields hold, one after the other. In between it needn't be a graph.
+#[derive(Drop)]
+pub struct GraphBuilder<A: Allocator = Global> {
+    roots: Vec<(RootId, Value), A>,
+    counts: Vec<u32, A>,
+    values: Vec<Value, A>,
+}
+
+impl<A: Allocator> Model for GraphBuilder<A> {
+    ghost use Rattle.rh_dump.specs.Graph.{FlatGraph};
+
+    ghost Value = { FlatGraph };
+
+    ghost view = { λ g. record {
+      roots = g.roots.items;
+      counts = g.counts.items;
+      values = g.values.items;
+    } };
+}
+
+impl<A: Allocator + Copy> GraphBuilder<A> {
+    /// A graph to which nothing was put.
+    pub(crate) fn new(alloc: A) -> GraphBuilder<A>
+        ensures { result ≡ empty_flat }
+    {
+        GraphBuilder {
+            roots: Vec::new(alloc),
+            counts: Vec::new(alloc),
+            values: Vec::new(alloc),
+        }
+    }
+
+    /// Puts a root and what it holds at the end.
+    ///
+    /// # Errors
+    ///
+    /// The allocator refused memory. Nothing has changed then.
+    pub(crate) fn push_root(&mut self, root: RootId, value: Value) -> Result<(), OutOfMemory>
+        ensures ok { OnOk result
+            (self.new ≡ record self.old { roots = self.old.roots ++ (root, value) ∷ [] }) }
+        ensures err { OnErr result (self.new ≡ self.old) }
+    {
+        if self.roots.push((root, value)).is_err() {
+            return Err(OutOfMemory);
+        }
+        Ok(())
+    }
+
+    /// Begins the next object, which has so many fields.
+    ///
+    /// # Errors
+    ///
+    /// The allocator refused memory. Nothing has changed then.
+    pub(crate) fn begin_object(&mut self, fields: u32) -> Result<(), OutOfMemory>
+        ensures ok { OnOk result
+            (self.new ≡ record self.old { counts = self.old.counts ++ fields ∷ [] }) }
+        ensures err { OnErr result (self.new ≡ self.old) }
+    {
+        if self.counts.push(fields).is_err() {
+            return Err(OutOfMemory);
+        }
+        Ok(())
+    }
+
+    /// Puts what the next field holds at the end.
+    ///
+    /// # Errors
+    ///
+    /// The allocator refused memory. Nothing has changed then.
+    pub(crate) fn push_value(&mut self, value: Value) -> Result<(), OutOfMemory>
+        ensures ok { OnOk result
+            (self.new ≡ record self.old { values = self.old.values ++ value ∷ [] }) }
+        ensures err { OnErr result (self.new ≡ self.old) }
+    {
+        if self.values.push(value).is_err() {
+            return Err(OutOfMemory);
+        }
+        Ok(())
+    }
+
+    /// The graph, where one was put together.
+    pub(crate) fn finish(self) -> Graph<A>
+        requires filled { IsFilled self }
+        requires graph { IsGraph (graph_in self) }
+        ensures { result ≡ graph_in self }
+    {
+        Graph {
+            roots: self.roots,
+            counts: self.counts,
+            values: self.values,
+        }
+    }
+}

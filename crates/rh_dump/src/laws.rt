@@ -1,0 +1,87 @@
+//! Laws of the definitions alone. Each function does nothing: its contract is the law.
+
+ghost use Rattle.std.specs.Prelude.{◌≡◌, ◌↔◌, ◌≤◌, ℕ, List, Some, Ok, Err, length, slice_get};
+ghost use Rattle.rh_text.specs.RawLine.{lines_of};
+ghost use Rattle.rh_text.specs.Stages.{IsFaultless, IsFirst};
+ghost use Rattle.rh_model.specs.Graph.{Graph};
+ghost use Rattle.rh_model.specs.Reach.{Reached};
+ghost use Rattle.rh_model.specs.SameGraph.{SameGraph};
+ghost use Rattle.rh_model.specs.Plain as plain;
+ghost use Rattle.rh_model.specs.Plain.{PlainHeap, IsPlain};
+ghost use Rattle.rh_core.specs.Mutator.{StandsFor, graph_of};
+ghost use Rattle.rh_core.specs.Heap.{HeapState, IsHeap};
+ghost use Rattle.rh_dump.specs.HeapDump.{dump_of, plain_dump_of};
+ghost use Rattle.rh_dump.specs.Numbering.{names_after, dump_below, ReachesObjectsBelow};
+ghost use Rattle.rh_dump.specs.Dump.{GraphState, IsGraph};
+ghost use Rattle.rh_dump.specs.Faults.{dump_faults};
+ghost use Rattle.rh_dump.specs.Line.{text_of};
+ghost use Rattle.rh_dump.specs.Reading.{graph_of_text};
+ghost use Rattle.rh_dump.specs.declared.fault.DumpFault.{DumpFault as FaultOf};
+
+use rh_model::laws::pairs_what_is_reached;
+
+/// Two graphs have equal dumps exactly where they are the same graph, up to the names of their
+/// objects. The graphs reach finitely many names, all objects'; how many owners and slots they
+/// have plays no part, nor which limits are taken.
+pub fn equal_dumps_are_same_graphs()
+    ensures { (g h : Graph) (m n : ℕ) → ReachesObjectsBelow m g → ReachesObjectsBelow n h
+        → (dump_below m g ≡ dump_below n h) ↔ SameGraph g h }
+{}
+
+/// The objects that have numbers are exactly those that are reached from the roots, and each has
+/// one number.
+pub fn what_is_reached_is_numbered_once()
+    ensures reached { (g : Graph) (limit : ℕ) → ReachesObjectsBelow limit g
+        → (a : ℕ) → Reached g a ↔ ((k : ℕ) × (slice_get (names_after g limit) k ≡ Some a)) }
+    ensures once { (g : Graph) (limit i j a : ℕ)
+        → slice_get (names_after g limit) i ≡ Some a
+        → slice_get (names_after g limit) j ≡ Some a → i ≡ j }
+{}
+
+/// Two heaps have equal dumps exactly where they are the same graph, and so have two plain heaps,
+/// and a plain heap and a heap.
+pub fn equal_dumps_of_heaps_are_same_graphs()
+    ensures heaps { (h k : HeapState) → IsHeap h → IsHeap k
+        → (dump_of h ≡ dump_of k) ↔ SameGraph (graph_of h.mutators) (graph_of k.mutators) }
+    ensures plain_heaps { (p q : PlainHeap) → IsPlain p → IsPlain q
+        → (plain_dump_of p ≡ plain_dump_of q)
+        ↔ SameGraph (plain.graph_of p) (plain.graph_of q) }
+    ensures both { (p : PlainHeap) (h : HeapState) → IsPlain p → IsHeap h
+        → (plain_dump_of p ≡ dump_of h)
+        ↔ SameGraph (plain.graph_of p) (graph_of h.mutators) }
+{}
+
+/// A heap has the dump of each plain heap that it stands for.
+pub fn a_heap_has_the_dump_of_its_plain_heap()
+    ensures { (h : HeapState) (p : PlainHeap) → StandsFor h.mutators p
+        → dump_of h ≡ plain_dump_of p }
+{
+    // What two graphs pair is reached in both.
+    pairs_what_is_reached();
+}
+
+/// What a graph is spelled as is read as that graph, where it has at most 268,435,456 bytes, and
+/// nothing else is read as it.
+pub fn what_is_spelled_is_read()
+    ensures spelled { (g : GraphState) → IsGraph g → length (text_of g) ≤ 268435456
+        → graph_of_text (text_of g) ≡ Ok g }
+    ensures read { (text : List ℕ) (g : GraphState) → graph_of_text text ≡ Ok g
+        → IsGraph g × (text ≡ text_of g) × (length text ≤ 268435456) }
+{}
+
+/// Graphs with equal texts are equal, however long these are.
+pub fn equal_texts_are_of_equal_graphs()
+    ensures { (a b : GraphState) → IsGraph a → IsGraph b → text_of a ≡ text_of b → a ≡ b }
+{}
+
+/// The fault that reading names is the one that comes first in the order of the format: it holds on
+/// its line, and any other that holds is on a later line or at a later place of this line. What is
+/// read has no fault, and a text without a fault is the dump of a graph.
+pub fn the_first_fault_is_named()
+    ensures first { (text : List ℕ) (fault : FaultOf) → graph_of_text text ≡ Err fault
+        → IsFirst (dump_faults (lines_of text)) fault.line fault.kind }
+    ensures none { (text : List ℕ) (g : GraphState) → graph_of_text text ≡ Ok g
+        → (n : ℕ) → IsFaultless (dump_faults (lines_of text) n) }
+    ensures spelled { (text : List ℕ) → ((n : ℕ) → IsFaultless (dump_faults (lines_of text) n))
+        → (g : GraphState) × IsGraph g × (text ≡ text_of g) }
+{}

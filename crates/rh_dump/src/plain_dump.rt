@@ -1,0 +1,81 @@
+//! The dump of a plain heap.
+
+ghost use Rattle.std.specs.Prelude.{◌≡◌, ◌≤◌, ◌^◌, IfOk, length};
+ghost use Rattle.rh_model.specs.Plain as plain;
+ghost use Rattle.rh_model.specs.PlainValue.{value_of_plain};
+ghost use Rattle.rh_dump.specs.HeapDump.{plain_dump_of};
+ghost use Rattle.rh_dump.specs.Meeting.{IsBelow};
+
+use crate::graph::Graph;
+use crate::numbering::dump_of_source;
+use crate::source::Source;
+use rh_layout::{OutOfMemory, RootId, Value};
+use rh_model::{Plain, PlainValue};
+use std::alloc::Allocator;
+
+impl<A: Allocator + Copy> Source for Plain<A> {
+    ghost graph = { plain.graph_of };
+
+    ghost limit_of = { λ p. length p.objects };
+
+    ghost is_small = { λ p. length p.objects ≤ 16777216 };
+
+    fn limit(&self) -> u32 {
+        self.objects() as u32
+    }
+
+    fn held(&self, id: RootId) -> Value {
+        // Called for what it ensures alone: a reference is to an object.
+        let _ = self.objects();
+        match self.root(id) {
+            Some(value) => value_of(value),
+            None => Value::Nil,
+        }
+    }
+
+    fn count(&self, name: u32) -> u32 {
+        match self.fields(name as usize) {
+            Some(count) => count,
+            None => 0,
+        }
+    }
+
+    fn value(&self, name: u32, field: u32) -> Value {
+        // Called for what it ensures alone: a reference is to an object.
+        let _ = self.objects();
+        match self.field(name as usize, field) {
+            Some(value) => value_of(value),
+            None => Value::Nil,
+        }
+    }
+}
+
+/// The value, whose position fits into 32 bits.
+fn value_of(value: PlainValue) -> Value
+    requires { IsBelow (2 ^ 32) (value_of_plain value) }
+    ensures { result ≡ value_of_plain value }
+{
+    match value {
+        PlainValue::Nil => Value::Nil,
+        PlainValue::Int(number) => Value::Int(number),
+        PlainValue::Object(position) => Value::Ref(position as u32),
+    }
+}
+
+/// What the roots of a plain heap reach, with objects numbered breadth first (Moore, 1959): the
+/// roots in order of owner, then slot, then the fields of object 0, of object 1, and so on. Time and
+/// memory are linear in the plain heap. Beside the graph it takes 8 bytes for each object at most,
+/// while it runs.
+///
+/// # Errors
+///
+/// `OutOfMemory` where a growth was refused.
+pub fn plain_graph<A: Allocator + Copy, B: Allocator + Copy>(
+    alloc: A,
+    heap: &Plain<B>,
+) -> Result<Graph<A>, OutOfMemory>
+    requires { length heap.now.objects ≤ 16777216 }
+    ensures { IfOk result (λ graph. graph ≡ plain_dump_of heap.now) }
+{
+    dump_of_source(alloc, heap)
+}

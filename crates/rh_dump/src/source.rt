@@ -1,0 +1,43 @@
+//! A heap, as the numbering reads it.
+
+ghost use Rattle.std.specs.Prelude.{◌≡◌, ◌<◌, ℕ, length, slice_index_or};
+ghost use Rattle.rh_layout.specs.declared.value.Value.TheVariants.{Nil};
+ghost use Rattle.rh_model.specs.Graph.{Graph, root_value};
+ghost use Rattle.rh_dump.specs.Numbering.{values_in};
+ghost use Rattle.rh_dump.specs.Meeting.{IsDumpable};
+
+use rh_layout::{RootId, Value};
+
+/// A heap whose objects have names below a limit, as the numbering reads it.
+pub(crate) trait Source {
+    /// The heap as a graph.
+    ghost graph: { Self → Graph };
+
+    /// What all names are below.
+    ghost limit_of: { Self → ℕ };
+
+    /// The heap is small enough that its objects can be numbered.
+    ghost is_small: { Self → Type 0 };
+
+    /// What all names are below.
+    fn limit(&self) -> u32
+        requires { is_small self.now }
+        ensures limit { result ≡ limit_of self.now }
+        ensures dumpable { IsDumpable (limit_of self.now) (graph self.now) };
+
+    /// What the root holds; nil where it isn't there.
+    fn held(&self, id: RootId) -> Value
+        requires { is_small self.now }
+        ensures { result ≡ root_value (graph self.now) id };
+
+    /// How many fields the object with this name has.
+    fn count(&self, name: u32) -> u32
+        requires { is_small self.now }
+        ensures { result ≡ length (values_in ((graph self.now).fields name)) };
+
+    /// What the field holds of the object with this name.
+    fn value(&self, name: u32, field: u32) -> Value
+        requires small { is_small self.now }
+        requires field { field < length (values_in ((graph self.now).fields name)) }
+        ensures { result ≡ slice_index_or (values_in ((graph self.now).fields name)) field Nil };
+}

@@ -1,0 +1,59 @@
+//! The texts of a dump's lines.
+
+ghost use Rattle.std.specs.Prelude.{◌≡◌, ◌++◌, ◌∷◌, codes, decimal};
+ghost use Rattle.rh_dump.specs.Line.{spell_line, value_text};
+ghost use Rattle.rh_dump.specs.Line.{header_line, roots_line, root_line, objects_line};
+
+use crate::text::Text;
+use rh_layout::{RootId, Value};
+
+/// The text becomes that of the first two lines, where so many roots aren't nil.
+pub fn put_head(text: &mut Text, roots: usize)
+    ensures { text.new ≡ spell_line header_line ++ spell_line (roots_line roots) }
+{
+    text.clear();
+    text.put(b"rheap 1\nroots ");
+    text.put_integer(roots);
+    text.put(b"\n");
+}
+
+/// The text becomes that of a root's line.
+pub fn put_root_line(text: &mut Text, root: RootId, value: Value)
+    ensures { text.new ≡ spell_line (root_line root value) }
+{
+    text.clear();
+    text.put_root(root);
+    text.put(b" ");
+    text.put_value(value);
+    text.put(b"\n");
+}
+
+/// The text becomes that of the line that tells the number of objects.
+pub fn put_objects_line(text: &mut Text, objects: usize)
+    ensures { text.new ≡ spell_line (objects_line objects) }
+{
+    text.clear();
+    text.put(b"objects ");
+    text.put_integer(objects);
+    text.put(b"\n");
+}
+
+/// The text becomes the first two parts of an object's line.
+pub fn put_object_head(text: &mut Text, number: usize, fields: usize)
+    ensures { text.new ≡ 64 ∷ decimal number ++ 32 ∷ decimal fields }
+{
+    text.clear();
+    text.put(b"@");
+    text.put_integer(number);
+    text.put(b" ");
+    text.put_integer(fields);
+}
+
+/// The text becomes a further part of a line.
+pub fn put_next_value(text: &mut Text, value: Value)
+    ensures { text.new ≡ 32 ∷ value_text value }
+{
+    text.clear();
+    text.put(b" ");
+    text.put_value(value);
+}

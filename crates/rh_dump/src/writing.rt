@@ -1,0 +1,166 @@
+//! A graph written as its dump text.
+
+ghost use Rattle.std.specs.Prelude.{◌≡◌, length, false, OnOk, OnErr};
+ghost use Rattle.std.specs.Io.KnownBytes.{Appends};
+ghost use Rattle.std.specs.List.{flat_map};
+ghost use Rattle.rh_text.specs.Calls.{AreSpent};
+ghost use Rattle.rh_text.specs.Output.{AppendsLess};
+ghost use Rattle.rh_dump.specs.Graph.{graph_in, objects_in, total};
+ghost use Rattle.rh_dump.specs.Line.{spell_line, object_line, root_lines, object_lines, text_of};
+
+use crate::graph::Graph;
+use crate::spelling::{put_head, put_next_value, put_object_head, put_objects_line, put_root_line};
+use crate::text::Text;
+use rh_layout::{RootId, Value};
+use rh_text::{Calls, Write, send};
+use std::alloc::Allocator;
+use std::io;
+
+/// Writes the lines of roots.
+fn write_roots<W: io::Write>(
+    text: &mut Text,
+    writer: &mut W,
+    writes: &mut Calls,
+    roots: &[(RootId, Value)],
+) -> Result<(), Write>
+    requires { writes.old.failed ≡ false }
+    ensures ok { OnOk result (Appends (W.contents writer.old) (W.contents writer.new)
+        (flat_map spell_line (root_lines roots.now))) }
+    ensures err { OnErr result (AppendsLess (W.contents writer.old) (W.contents writer.new)
+        (flat_map spell_line (root_lines roots.now))) }
+    ensures failed { OnErr result (AreSpent writes.new) }
+    ensures none_failed { OnOk result (writes.new.failed ≡ false) }
+{
+    for entry in roots {
+        put_root_line(text, entry.0, entry.1);
+        send(writer, writes, text.as_bytes())?;
+    }
+    Ok(())
+}
+
+/// Writes the line of an object.
+fn write_object<W: io::Write>(
+    text: &mut Text,
+    writer: &mut W,
+    writes: &mut Calls,
+    number: usize,
+    fields: &[Value],
+) -> Result<(), Write>
+    requires { writes.old.failed ≡ false }
+    ensures ok { OnOk result (Appends (W.contents writer.old) (W.contents writer.new)
+        (spell_line (object_line number fields.now))) }
+    ensures err { OnErr result (AppendsLess (W.contents writer.old) (W.contents writer.new)
+        (spell_line (object_line number fields.now))) }
+    ensures failed { OnErr result (AreSpent writes.new) }
+    ensures none_failed { OnOk result (writes.new.failed ≡ false) }
+{
+    put_object_head(text, number, fields.len());
+    send(writer, writes, text.as_bytes())?;
+    for value in fields {
+        put_next_value(text, *value);
+        send(writer, writes, text.as_bytes())?;
+    }
+    send(writer, writes, b"\n")
+}
+
+/// Writes the lines of objects, whose fields stand one after the other.
+fn write_objects<W: io::Write>(
+    text: &mut Text,
+    writer: &mut W,
+    writes: &mut Calls,
+    counts: &[u32],
+    values: &[Value],
+) -> Result<(), Write>
+    requires none_failed { writes.old.failed ≡ false }
+    requires filled { total counts.now ≡ length values.now }
+    ensures ok { OnOk result (Appends (W.contents writer.old) (W.contents writer.new)
+        (flat_map spell_line (object_lines 0 (objects_in counts.now values.now)))) }
+    ensures err { OnErr result (AppendsLess (W.contents writer.old) (W.contents writer.new)
+        (flat_map spell_line (object_lines 0 (objects_in counts.now values.now)))) }
+    ensures failed { OnErr result (AreSpent writes.new) }
+    ensures none_failed { OnOk result (writes.new.failed ≡ false) }
+{
+    let mut rest = values;
+    let mut number = 0;
+    for count in counts {
+        let (fields, others) = rest.split_at(*count as usize);
+        write_object(text, writer, writes, number, fields)?;
+        number += 1;
+        rest = others;
+    }
+    Ok(())
+}
+
+/// Writes the dump text of the graph that is stored so.
+fn write_flat<W: io::Write>(
+    writer: &mut W,
+    writes: &mut Calls,
+    roots: &[(RootId, Value)],
+    counts: &[u32],
+    values: &[Value],
+) -> Result<(), Write>
+    requires none_failed { writes.old.failed ≡ false }
+    requires filled { total counts.now ≡ length values.now }
+    ensures ok { OnOk result (Appends (W.contents writer.old) (W.contents writer.new)
+        (text_of (graph_in (record {
+          roots = roots.now;
+          counts = counts.now;
+          values = values.now;
+        })))) }
+    ensures err { OnErr result (AppendsLess (W.contents writer.old) (W.contents writer.new)
+        (text_of (graph_in (record {
+          roots = roots.now;
+          counts = counts.now;
+          values = values.now;
+        })))) }
+    ensures failed { OnErr result (AreSpent writes.new) }
+    ensures none_failed { OnOk result (writes.new.failed ≡ false) }
+{
+    let mut text = Text::new();
+    put_head(&mut text, roots.len());
+    send(writer, writes, text.as_bytes())?;
+    write_roots(&mut text, writer, writes, roots)?;
+    put_objects_line(&mut text, counts.len());
+    send(writer, writes, text.as_bytes())?;
+    write_objects(&mut text, writer, writes, counts, values)?;
+    send(writer, writes, b"end\n")
+}
+
+/// Writes the dump text of a graph, a line or a part of a line in each write that the writer takes
+/// whole. It takes no memory.
+///
+/// # Errors
+///
+/// `Write` where a write failed, or 33,554,432 writes of one piece didn't come to its end. A prefix
+/// of the text was written then.
+pub fn write_dump<A: Allocator, W: io::Write>(graph: &Graph<A>, writer: &mut W) -> Result<(), Write>
+    ensures ok { OnOk result (Appends (W.contents writer.old) (W.contents writer.new)
+        (text_of graph.now)) }
+    ensures err { OnErr result (AppendsLess (W.contents writer.old) (W.contents writer.new)
+        (text_of graph.now)) }
+{
+    write_dump_told(graph, writer, &mut Calls::new())
+}
+
+/// Writes the dump text of a graph as `write_dump` does, and tells in `writes` whether a write
+/// failed.
+///
+/// # Errors
+///
+/// As `write_dump`.
+pub fn write_dump_told<A: Allocator, W: io::Write>(
+    graph: &Graph<A>,
+    writer: &mut W,
+    writes: &mut Calls,
+) -> Result<(), Write>
+    requires { writes.old.failed ≡ false }
+    ensures ok { OnOk result (Appends (W.contents writer.old) (W.contents writer.new)
+        (text_of graph.now)) }
+    ensures err { OnErr result (AppendsLess (W.contents writer.old) (W.contents writer.new)
+        (text_of graph.now)) }
+    // It is refused only where a write failed or none was left, and no write failed where it isn't.
+    ensures failed { OnErr result (AreSpent writes.new) }
+    ensures none_failed { OnOk result (writes.new.failed ≡ false) }
+{
+    write_flat(writer, writes, &graph.roots, &graph.counts, &graph.values)
+}
