@@ -18,7 +18,8 @@ pub use input::{InputFault, read_all};
 pub use number::{read_integer, read_number};
 pub use output::{Write, send};
 pub use parts::{
-    begins_with_digit, has_dot, is_formed, next_part, one_part, six_parts, three_parts, two_parts,
+    begins_with_digit, cut, has_dot, is_formed, next_part, one_part, six_parts, three_parts,
+    two_parts,
 };
 pub use raw_line::first_line;
 pub use root::read_root;

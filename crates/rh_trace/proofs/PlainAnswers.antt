@@ -10,7 +10,8 @@ use Rattle.rh_model.specs.Plain.{PlainHeap, empty_plain, step}
 use Rattle.rh_core.specs.declared.config.Config.{Config}
 use Rattle.rh_core.specs.declared.config.ConfigFault.{ConfigFault}
 use Rattle.rh_core.specs.Config.{fault_of}
-use Rattle.rh_core.specs.Heap.{HeapState, new_heap, StandsFor}
+use Rattle.rh_core.specs.Mutator.{StandsFor}
+use Rattle.rh_core.specs.Heap.{HeapState, new_heap}
 use Rattle.rh_core.specs.Commands.{heap_step, is_limit_answer, AnswersAs, plain_unless}
 use Rattle.rh_trace.specs.declared.fault.TraceFault.{TraceFault}
 use Rattle.rh_trace.specs.declared.run_fault.RunFault.{RunFault}
@@ -22,19 +23,19 @@ use Rattle.rh_trace.specs.Spelling.{Script}
 use Rattle.rh_trace.specs.Reading.{trace_of}
 use Rattle.rh_trace.specs.Line.{owner_of, command_of}
 use Rattle.rh_trace.specs.Run.{config_of, line_step, answers_to, answers_of, summary_of, output_of, run_of_script, run_of_trace, text_of, Ends, AreTransparent, IsPlainRun}
-use Rattle.rh_trace.proofs.ReadIsSpelled.{trace_of-means}
+use Rattle.rh_trace.specs.lemmas.ReadIsSpelled.{trace_of-means}
 
 -- a heap that stands for a plain heap answers as it does, and goes on to stand for it
 abbrev pub Steps : Type 0
-Steps = (h : HeapState) (p : PlainHeap) → StandsFor h p → (owner : ℕ) (command : Command)
+Steps = (h : HeapState) (p : PlainHeap) → StandsFor h.mutators p → (owner : ℕ) (command : Command)
     → AnswersAs (is_limit_answer (heap_step h owner command).1) (heap_step h owner command).1 (step p owner command).1
-    × StandsFor (heap_step h owner command).0 (plain_unless (is_limit_answer (heap_step h owner command).1) p owner command)
+    × StandsFor (heap_step h owner command).0.mutators (plain_unless (is_limit_answer (heap_step h owner command).1) p owner command)
 
 -- a new heap stands for the empty plain heap
 abbrev pub Begins : Type 0
-Begins = (c : Config) → StandsFor (new_heap c) (empty_plain c.owners c.slots)
+Begins = (c : Config) → StandsFor (new_heap c).mutators (empty_plain c.owners c.slots)
 
-answers-transparent : Steps → (lines : List Line) (h : HeapState) (p : PlainHeap) → StandsFor h p → AreTransparent p lines (answers_to h lines)
+answers-transparent : Steps → (lines : List Line) (h : HeapState) (p : PlainHeap) → StandsFor h.mutators p → AreTransparent p lines (answers_to h lines)
 answers-transparent steps [] h p stands = tt
 answers-transparent steps (line ∷ lines) h p stands =
     let one = steps h p stands (owner_of line) (command_of line) in

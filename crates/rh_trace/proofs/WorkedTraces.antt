@@ -3,7 +3,7 @@ use Rattle.std.proofs.Common.{◌≡◌, ℕ, List, [], ◌∷◌, ◌++◌, Res
 use Rattle.std.specs.Prelude.{codes}
 use Rattle.std.specs.Fmt.{digits}
 use Rattle.std.specs.List.{flat_map}
-use Rattle.rh_core.specs.Commands.{heap_step, limit_of, after}
+use Rattle.rh_core.specs.Commands.{heap_step, heap_after_command, limit_of, after}
 use Rattle.rh_model.specs.Graph.{refusal_of, fault_in, reply_to}
 use Rattle.rh_text.specs.Number.{number_of, integer_of}
 use Rattle.rh_text.specs.Parts.{is_formed, one_part, two_parts, three_parts, six_parts}
@@ -58,5 +58,5 @@ answers : List (List ℕ)
 answers = codes "object 1" ∷ codes "done" ∷ codes "int 5" ∷ codes "object 1" ∷ codes "same yes" ∷ codes "same no" ∷ codes "refused SpaceFull need 14 free 13" ∷ codes "done" ∷ codes "total commands 8 refused 1 flips 0 rootwords 0" ∷ []
 
 run : text_of (run_of (text shared)) ≡ text answers
-unfolding digits script_or_fault header_or_kind line_or_kind lines_from checked_parts is_formed header_of_parts six_parts sizes_of number_of integer_of owned_command command_or_fault alloc_of load_of store_of copy_of same_of drop_of one_part two_parts three_parts root_of operand_or_fault heap_step limit_of after refusal_of fault_in reply_to text shared answers
+unfolding digits script_or_fault header_or_kind line_or_kind lines_from checked_parts is_formed header_of_parts six_parts sizes_of number_of integer_of owned_command command_or_fault alloc_of load_of store_of copy_of same_of drop_of one_part two_parts three_parts root_of operand_or_fault heap_step heap_after_command limit_of after refusal_of fault_in reply_to text shared answers
 run = refl

@@ -103,13 +103,21 @@ form_of [] = None
 form_of (owner ∷ []) = None
 form_of (owner ∷ word ∷ args) = lookup word command_forms
 
--- the faults of the parts of a line after the first; no keyword begins a line today, so a line
--- without an owner is Word
-abbrev pub line_part_faults : List (List ℕ) → ℕ → Kind → Type 0
-line_part_faults parts =
+-- the faults of the parts of a command line: the commands' keywords alone are in the table, and each
+-- stands after an owner
+abbrev pub command_part_faults : List (List ℕ) → ℕ → Kind → Type 0
+command_part_faults parts =
     Form when LacksKeyword parts
     ▸ Word when ((¬ BeginsWithOwner parts) ⊎ (form_of parts ≡ None))
     ▸ form_faults (form_of parts) parts
+
+-- the faults of a single command line, without its line end
+abbrev pub command_faults : List ℕ → ℕ → Kind → Type 0
+command_faults line = Form when (¬ IsWellFormed line) ▸ command_part_faults (parts_of line)
+
+-- the faults of the parts of a line after the first; today each is a command line
+abbrev pub line_part_faults : List (List ℕ) → ℕ → Kind → Type 0
+line_part_faults parts = command_part_faults parts
 
 -- the first part is this word
 abbrev pub IsFirstPart : List ℕ → List (List ℕ) → Type 0

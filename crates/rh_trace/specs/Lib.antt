@@ -4,3 +4,4 @@ pub mod Reading
 pub mod Faults
 pub mod Answers
 pub mod Run
+pub mod lemmas

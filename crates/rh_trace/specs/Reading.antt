@@ -122,6 +122,10 @@ unfoldable pub owned_command : List (List ℕ) → Result (ℕ × Command) Kind
 owned_command [] = Err Form
 owned_command (first ∷ rest) = if begins_with_digit first then command_or_fault first rest else Err Word
 
+-- the owner and the command of a single line, without its line end
+unfoldable pub single_command : List ℕ → Result (ℕ × Command) Kind
+single_command line = if not (is_formed line) then Err Form else owned_command (parts_of line)
+
 -- a line after the first
 abbrev pub line_of_parts : List (List ℕ) → Result Line Kind
 line_of_parts parts = do

@@ -1,7 +1,7 @@
 -- What a trace is, and the one spelling of each.
 use Rattle.std.specs.Prelude.{ℕ, ◌<◌, List, [], ◌∷◌, ◌++◌, length, codes, decimal, ⊤}
 use Rattle.std.specs.Fmt.{signed_decimal}
-use Rattle.std.specs.List.{flat_map, AllByRecursion}
+use Rattle.std.specs.List.{flat_map, join_with_byte, AllByRecursion}
 use Rattle.rh_layout.specs.declared.command.Command.{Command}
 use Rattle.rh_layout.specs.declared.command.Command.TheVariants.{Alloc, Load, Store, Copy, Same, Drop}
 use Rattle.rh_layout.specs.declared.command.Operand.{Operand}
@@ -40,6 +40,10 @@ line_parts line = command_parts (owner_of line) (command_of line)
 -- the parts of the first line
 abbrev pub header_parts : Header → List (List ℕ)
 header_parts header = codes "heap" ∷ decimal header.words ∷ decimal header.ratio ∷ decimal header.log ∷ decimal header.owners ∷ decimal header.slots ∷ []
+
+-- the text of a command line, without its line end
+abbrev pub command_text : ℕ → Command → List ℕ
+command_text owner command = join_with_byte 32 (command_parts owner command)
 
 -- the text of a command line
 abbrev pub spell_command : ℕ → Command → List ℕ

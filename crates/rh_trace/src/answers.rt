@@ -1,7 +1,7 @@
 //! The texts of answers.
 
 ghost use Rattle.std.specs.Prelude.{◌≡◌, ◌≤◌, length};
-ghost use Rattle.rh_trace.specs.Answers.{reply_text, refusal_name, refused_text, answer_line, total_line};
+ghost use Rattle.rh_trace.specs.Answers.{reply_text, refusal_name, refused_text, answer_text, answer_line, total_line};
 
 use crate::summary::Summary;
 use crate::text::LineText;
@@ -50,7 +50,7 @@ fn name_of(refusal: Refusal) -> &'static [u8]
 /// The text becomes that of a refusal: its name, and what it tells.
 fn put_refusal(text: &mut LineText, refusal: Refusal)
     ensures value { text.new ≡ refused_text refusal }
-    ensures len { length text.new ≤ 200 }
+    ensures len { length text.new ≤ 100 }
 {
     text.clear();
     text.put(b"refused ");
@@ -61,14 +61,22 @@ fn put_refusal(text: &mut LineText, refusal: Refusal)
     }
 }
 
-/// The text becomes the line of an answer.
-pub fn put_answer(text: &mut LineText, answer: Result<Reply, Refusal>)
-    ensures { text.new ≡ answer_line answer }
+/// The text becomes that of an answer, without a line end.
+pub fn put_answer_text(text: &mut LineText, answer: Result<Reply, Refusal>)
+    ensures value { text.new ≡ answer_text answer }
+    ensures len { length text.new ≤ 100 }
 {
     match answer {
         Ok(reply) => put_reply(text, reply),
         Err(refusal) => put_refusal(text, refusal),
     }
+}
+
+/// The text becomes the line of an answer.
+pub fn put_answer(text: &mut LineText, answer: Result<Reply, Refusal>)
+    ensures { text.new ≡ answer_line answer }
+{
+    put_answer_text(text, answer);
     text.put(b"\n");
 }
 

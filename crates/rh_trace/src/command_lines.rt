@@ -1,12 +1,12 @@
 //! Command lines, each keyword's reading and spelling side by side.
 
-ghost use Rattle.std.specs.Prelude.{◌≡◌};
+ghost use Rattle.std.specs.Prelude.{◌≡◌, ◌≤◌, length};
 ghost use Rattle.rh_layout.specs.declared.command.Command.TheVariants.{Alloc, Load, Store};
 ghost use Rattle.rh_layout.specs.declared.command.Command.TheVariants.{Copy, Same, Drop};
 ghost use Rattle.rh_text.specs.Parts.{parts_left};
 ghost use Rattle.rh_trace.specs.Reading.{alloc_of, load_of, store_of, copy_of, same_of, drop_of};
 ghost use Rattle.rh_trace.specs.Reading.{command_or_fault, owned_command};
-ghost use Rattle.rh_trace.specs.Spelling.{spell_command};
+ghost use Rattle.rh_trace.specs.Spelling.{command_text, spell_command};
 
 use crate::fault::Kind;
 use crate::text::LineText;
@@ -28,7 +28,8 @@ fn alloc_of(owner: &[u8], rest: Option<&[u8]>) -> Result<(u32, Command), Kind>
 
 /// The text becomes that of an `alloc` line.
 fn put_alloc(text: &mut LineText, owner: u32, dst: RootId, fields: u32)
-    ensures { text.new ≡ spell_command owner (Alloc dst fields) }
+    ensures value { text.new ≡ command_text owner (Alloc dst fields) }
+    ensures len { length text.new ≤ 100 }
 {
     text.clear();
     text.put_integer(owner);
@@ -36,7 +37,6 @@ fn put_alloc(text: &mut LineText, owner: u32, dst: RootId, fields: u32)
     text.put_root(dst);
     text.put(b" ");
     text.put_integer(fields);
-    text.put(b"\n");
 }
 
 /// `OWNER load DST SRC FIELD`, from the owner and what stands after the keyword.
@@ -54,7 +54,8 @@ fn load_of(owner: &[u8], rest: Option<&[u8]>) -> Result<(u32, Command), Kind>
 
 /// The text becomes that of a `load` line.
 fn put_load(text: &mut LineText, owner: u32, dst: RootId, src: RootId, field: u32)
-    ensures { text.new ≡ spell_command owner (Load dst src field) }
+    ensures value { text.new ≡ command_text owner (Load dst src field) }
+    ensures len { length text.new ≤ 100 }
 {
     text.clear();
     text.put_integer(owner);
@@ -64,7 +65,6 @@ fn put_load(text: &mut LineText, owner: u32, dst: RootId, src: RootId, field: u3
     text.put_root(src);
     text.put(b" ");
     text.put_integer(field);
-    text.put(b"\n");
 }
 
 /// `OWNER store OBJ FIELD OPERAND`, from the owner and what stands after the keyword.
@@ -87,7 +87,8 @@ fn store_of(owner: &[u8], rest: Option<&[u8]>) -> Result<(u32, Command), Kind>
 
 /// The text becomes that of a `store` line.
 fn put_store(text: &mut LineText, owner: u32, obj: RootId, field: u32, operand: Operand)
-    ensures { text.new ≡ spell_command owner (Store obj field operand) }
+    ensures value { text.new ≡ command_text owner (Store obj field operand) }
+    ensures len { length text.new ≤ 100 }
 {
     text.clear();
     text.put_integer(owner);
@@ -97,7 +98,6 @@ fn put_store(text: &mut LineText, owner: u32, obj: RootId, field: u32, operand: 
     text.put_integer(field);
     text.put(b" ");
     text.put_operand(operand);
-    text.put(b"\n");
 }
 
 /// `OWNER copy DST SRC`, from the owner and what stands after the keyword.
@@ -114,7 +114,8 @@ fn copy_of(owner: &[u8], rest: Option<&[u8]>) -> Result<(u32, Command), Kind>
 
 /// The text becomes that of a `copy` line.
 fn put_copy(text: &mut LineText, owner: u32, dst: RootId, src: RootId)
-    ensures { text.new ≡ spell_command owner (Copy dst src) }
+    ensures value { text.new ≡ command_text owner (Copy dst src) }
+    ensures len { length text.new ≤ 100 }
 {
     text.clear();
     text.put_integer(owner);
@@ -122,7 +123,6 @@ fn put_copy(text: &mut LineText, owner: u32, dst: RootId, src: RootId)
     text.put_root(dst);
     text.put(b" ");
     text.put_root(src);
-    text.put(b"\n");
 }
 
 /// `OWNER same A B`, from the owner and what stands after the keyword.
@@ -139,7 +139,8 @@ fn same_of(owner: &[u8], rest: Option<&[u8]>) -> Result<(u32, Command), Kind>
 
 /// The text becomes that of a `same` line.
 fn put_same(text: &mut LineText, owner: u32, a: RootId, b: RootId)
-    ensures { text.new ≡ spell_command owner (Same a b) }
+    ensures value { text.new ≡ command_text owner (Same a b) }
+    ensures len { length text.new ≤ 100 }
 {
     text.clear();
     text.put_integer(owner);
@@ -147,7 +148,6 @@ fn put_same(text: &mut LineText, owner: u32, a: RootId, b: RootId)
     text.put_root(a);
     text.put(b" ");
     text.put_root(b);
-    text.put(b"\n");
 }
 
 /// `OWNER drop ROOT`, from the owner and what stands after the keyword.
@@ -163,13 +163,13 @@ fn drop_of(owner: &[u8], rest: Option<&[u8]>) -> Result<(u32, Command), Kind>
 
 /// The text becomes that of a `drop` line.
 fn put_drop(text: &mut LineText, owner: u32, root: RootId)
-    ensures { text.new ≡ spell_command owner (Drop root) }
+    ensures value { text.new ≡ command_text owner (Drop root) }
+    ensures len { length text.new ≤ 100 }
 {
     text.clear();
     text.put_integer(owner);
     text.put(b" drop ");
     text.put_root(root);
-    text.put(b"\n");
 }
 
 /// A line that begins with an owner, by the keyword after it.
@@ -199,7 +199,13 @@ fn command_or_fault(owner: &[u8], rest: Option<&[u8]>) -> Result<(u32, Command),
     Err(Kind::Word)
 }
 
-/// The owner and the command of a line after the first.
+/// The owner and the command of the parts that are left of a line.
+///
+/// # Errors
+///
+/// The first of these that holds: `Form` for no part, or for an owner alone; `Word` where no owner
+/// begins the line, or no command has the keyword; `Form` for a wrong number of parts; from left to
+/// right, `Number` or `Root` for a part that should be one.
 #[tactic(auto, unfolding(crate::specs::Reading::owned_command))]
 pub fn owned_command(rest: Option<&[u8]>) -> Result<(u32, Command), Kind>
     ensures { result ≡ owned_command (parts_left rest.entry) }
@@ -212,9 +218,10 @@ pub fn owned_command(rest: Option<&[u8]>) -> Result<(u32, Command), Kind>
     }
 }
 
-/// The text becomes that of an owner's command.
-pub fn put_command(text: &mut LineText, owner: u32, command: &Command)
-    ensures { text.new ≡ spell_command owner command.now }
+/// The text becomes that of an owner's command, without a line end.
+pub fn put_command_text(text: &mut LineText, owner: u32, command: &Command)
+    ensures value { text.new ≡ command_text owner command.now }
+    ensures len { length text.new ≤ 100 }
 {
     match *command {
         Command::Alloc { dst, fields } => put_alloc(text, owner, dst, fields),
@@ -228,4 +235,12 @@ pub fn put_command(text: &mut LineText, owner: u32, command: &Command)
         Command::Same { a, b } => put_same(text, owner, a, b),
         Command::Drop { root } => put_drop(text, owner, root),
     }
+}
+
+/// The text becomes the line of an owner's command.
+pub fn put_command(text: &mut LineText, owner: u32, command: &Command)
+    ensures { text.new ≡ spell_command owner command.now }
+{
+    put_command_text(text, owner, command);
+    text.put(b"\n");
 }

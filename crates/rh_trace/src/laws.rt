@@ -2,11 +2,14 @@
 
 ghost use Rattle.std.specs.Prelude.{◌≡◌, ℕ, List, Ok, Err};
 ghost use Rattle.rh_text.specs.RawLine.{RawLine, lines_of, raw_text};
-ghost use Rattle.rh_text.specs.Stages.{IsFaultless, IsFirst};
-ghost use Rattle.rh_trace.specs.Faults.{header_faults, line_faults, trace_faults};
-ghost use Rattle.rh_trace.specs.Reading.{trace_of};
+ghost use Rattle.rh_text.specs.Stages.{IsFaultless, IsFirst, IsLeast};
+ghost use Rattle.rh_layout.specs.declared.command.Command.{Command as CommandOf};
+ghost use Rattle.rh_trace.specs.Faults.{command_faults, header_faults, line_faults, trace_faults};
+ghost use Rattle.rh_trace.specs.Reading.{single_command, trace_of};
 ghost use Rattle.rh_trace.specs.Spelling.{Script, IsScript, HeaderFits, LineFits};
+ghost use Rattle.rh_trace.specs.Spelling.{CommandFits, command_text};
 ghost use Rattle.rh_trace.specs.Spelling.{spell_header, spell_line, spelling};
+ghost use Rattle.rh_trace.specs.declared.fault.Kind.{Kind as KindOf};
 ghost use Rattle.rh_trace.specs.declared.fault.TraceFault.{TraceFault as FaultOf};
 ghost use Rattle.rh_trace.specs.declared.line.Header.{Header as HeaderOf};
 ghost use Rattle.rh_trace.specs.declared.line.Line.{Line as LineOf};
@@ -30,4 +33,19 @@ pub fn what_is_spelled_is_read()
     ensures spelled { (script : Script) → IsScript script → trace_of (spelling script) ≡ Ok script }
     ensures read { (bytes : List ℕ) (script : Script) → trace_of bytes ≡ Ok script
         → IsScript script × (bytes ≡ spelling script) }
+{}
+
+/// What a single command line is spelled as is read as that command, and nothing else is read as
+/// it. The fault that reading names is the one that comes first in the order of the format, and what
+/// is read has no fault.
+pub fn a_single_command_is_read_as_spelled()
+    ensures spelled { (owner : ℕ) (command : CommandOf) → CommandFits owner command
+        → single_command (command_text owner command) ≡ Ok (owner, command) }
+    ensures read { (line : List ℕ) (owner : ℕ) (command : CommandOf)
+        → single_command line ≡ Ok (owner, command)
+        → CommandFits owner command × (line ≡ command_text owner command) }
+    ensures first { (line : List ℕ) (kind : KindOf) → single_command line ≡ Err kind
+        → IsLeast (command_faults line) kind }
+    ensures none { (line : List ℕ) (owned : ℕ × CommandOf) → single_command line ≡ Ok owned
+        → IsFaultless (command_faults line) }
 {}

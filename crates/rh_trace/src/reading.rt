@@ -14,9 +14,16 @@ use crate::line::{Header, Line};
 use rh_layout::limits::{MAX_LINE_BYTES, MAX_LINES};
 use rh_text::is_formed;
 
-/// The line's parts, where the line of this number is within the limits, ended and well formed.
+/// The line's parts, where the line of this number (from 1) is within the limits, ended and well
+/// formed.
+///
+/// # Errors
+///
+/// The first of these that holds: `Long` where the number is above 1,048,576 or the line has more
+/// than 256 bytes; `Cut` where it isn't ended; `Form` where it has a byte outside 32 to 126 or an
+/// empty part.
 #[tactic(auto, unfolding(crate::specs::Reading::checked_parts))]
-fn checked_parts(number: u32, bytes: &[u8], ended: bool) -> Result<Option<&[u8]>, Kind>
+pub fn checked_parts(number: u32, bytes: &[u8], ended: bool) -> Result<Option<&[u8]>, Kind>
     ensures { Shows (λ x. parts_left x) result
         (checked_parts number (record { bytes = bytes.now; ended = ended })) }
 {

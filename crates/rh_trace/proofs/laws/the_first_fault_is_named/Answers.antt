@@ -1,4 +1,4 @@
-use Rattle.rh_trace.proofs.FirstFault.{first_fault, no_fault_of_trace, spelled_line, spelled_header}
+use Rattle.rh_trace.specs.lemmas.FirstFault.{first_fault, no_fault_of_trace, spelled_line, spelled_header}
 use Rattle.rh_trace.proofs.laws.the_first_fault_is_named.Goals as goal
 
 pub returns-clause-first : goal.returns-clause-first

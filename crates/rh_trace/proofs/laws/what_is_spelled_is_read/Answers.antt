@@ -1,5 +1,5 @@
-use Rattle.rh_trace.proofs.ReadIsSpelled.{trace_of-means}
-use Rattle.rh_trace.proofs.SpelledIsRead.{trace_of-spelling}
+use Rattle.rh_trace.specs.lemmas.ReadIsSpelled.{trace_of-means}
+use Rattle.rh_trace.specs.lemmas.SpelledIsRead.{trace_of-spelling}
 use Rattle.rh_trace.proofs.laws.what_is_spelled_is_read.Goals as goal
 
 pub returns-clause-spelled : goal.returns-clause-spelled

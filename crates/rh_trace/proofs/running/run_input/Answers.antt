@@ -1,9 +1,10 @@
-use Rattle.std.proofs.Common.{◌≡◌, None, Some, ap, subst, sym, ◌∙◌}
+use Rattle.std.proofs.Common.{◌≡◌, None, Some, Ok, ap, subst, sym, ◌∙◌}
+use Rattle.std.specs.Io.KnownBytes.{Appends}
 use Rattle.rh_core.specs.declared.config.HeapError.TheVariants as errors
 use Rattle.rh_core.specs.Config.{fault_of}
 use Rattle.rh_core.specs.Heap.{new_heap}
 use Rattle.rh_trace.specs.Reading.{trace_of}
-use Rattle.rh_trace.specs.Run.{config_of, answers_to, answers_of, output_of, run_of_trace, text_of}
+use Rattle.rh_trace.specs.Run.{config_of, answers_to, answers_of, summary_of, output_of, run_of_trace, text_of}
 use Rattle.rh_text.specs.Output.{AppendsLess}
 use Rattle.rh_text.specs.lemmas.Appends.{Keeps-same}
 use Rattle.rh_trace.proofs.AnswersInTurn.{run-new, run-made, no_fault, refused_with, not_refused}
@@ -29,3 +30,20 @@ returns-clause-ends g c =
     let output : output_of (answers_to c.in-Ok-new.heap c.lines.result.now) ≡ output_of (answers_of script) =
     ap (λ h. output_of (answers_to h c.lines.result.now)) heap_is ∙ ap (λ lines. output_of (answers_to (new_heap (config_of script.header)) lines)) c.lines.ensures in
     subst (AppendsLess (g.W.Write.contents c.args.writer.now) (g.W.Write.contents c.play.new.writer)) (output ∙ sym text) c.in-Err.ensures.err
+
+pub returns-in-Ok-play-clause-ends : goal.returns-in-Ok-play-clause-ends
+returns-in-Ok-play-clause-ends g c =
+    let script = c.in-Ok.trace in
+    let due = run_of_trace (trace_of c.args.input.now) in
+    let config_is : c.config_of.result ≡ config_of script.header = c.config_of.ensures ∙ ap config_of c.header.ensures in
+    let good : fault_of (config_of script.header) ≡ None =
+    no_fault (fault_of (config_of script.header)) (λ f e. not_refused c.new.result c.in-Ok-new.heap (errors.Config f) c.in-Ok-new.is ((c.new.ensures.fault f).1 (ap fault_of config_is ∙ e))) in
+    let made : due ≡ Ok (output_of (answers_of script), summary_of (answers_of script)) = run-made (trace_of c.args.input.now) script c.in-Ok.ensures.exact good in
+    let text : text_of due ≡ output_of (answers_of script) = ap text_of made in
+    let heap_is : c.in-Ok-new.heap ≡ new_heap (config_of script.header) = c.in-Ok-new.ensures.made ∙ ap new_heap config_is in
+    let answers : answers_to c.in-Ok-new.heap c.lines.result.now ≡ answers_of script =
+    ap (λ h. answers_to h c.lines.result.now) heap_is ∙ ap (λ lines. answers_to (new_heap (config_of script.header)) lines) c.lines.ensures in
+    let summary : c.in-Ok-play.summary ≡ summary_of (answers_of script) = c.in-Ok-play.ensures.summary ∙ ap summary_of answers in (
+      made ∙ ap (λ t. Ok (t, summary_of (answers_of script))) (sym text) ∙ ap (λ s. Ok (text_of due, s)) (sym summary),
+      subst (Appends (g.W.Write.contents c.args.writer.now) (g.W.Write.contents c.play.new.writer)) (ap output_of answers ∙ sym text) c.in-Ok-play.ensures.ok,
+    )

@@ -4,7 +4,7 @@ use Rattle.std.proofs.lemmas.Bool.{eqb-true}
 use Rattle.std.proofs.lemmas.List.{length_push, nil_from_length}
 use Rattle.rh_trace.specs.Reading.{lines_from}
 use Rattle.rh_text.specs.RawLine.{lines_of}
-use Rattle.rh_trace.proofs.LinesInTurn.{goes_on, stops, is_done, number_within}
+use Rattle.rh_trace.specs.lemmas.LinesInTurn.{goes_on, stops, is_done, number_within}
 use Rattle.rh_trace.proofs.trace.later_lines.Goals as goal
 
 pub returns-in_err-line_or_fault-clause-lines : goal.returns-in_err-line_or_fault-clause-lines

@@ -1,7 +1,7 @@
 use Rattle.std.proofs.Common.{◌≡◌, ◌+◌, ◌≤◌, length}
 use Rattle.rh_text.specs.RawLine.{lines_of}
 use Rattle.rh_trace.specs.Reading.{lines_from}
-use Rattle.rh_trace.proofs.LinesInTurn.{after_prefix}
+use Rattle.rh_trace.specs.lemmas.LinesInTurn.{after_prefix}
 use Rattle.rh_trace.proofs.trace.later_lines.Given as goal
 
 abbrev pub invariant-loop-rest : goal.invariant-loop-rest

@@ -2,8 +2,8 @@ use Rattle.std.proofs.Common.{Result, ap, subst, ◌∙◌}
 use Rattle.rh_trace.specs.declared.fault.TraceFault.{TraceFault}
 use Rattle.rh_trace.specs.Spelling.{Script}
 use Rattle.rh_trace.specs.Reading.{Gives, trace_of}
-use Rattle.rh_trace.proofs.ReadIsSpelled.{parsed_is_spelled}
-use Rattle.rh_trace.proofs.SpelledIsRead.{trace_of-spelling}
+use Rattle.rh_trace.specs.lemmas.ReadIsSpelled.{parsed_is_spelled}
+use Rattle.rh_trace.specs.lemmas.SpelledIsRead.{trace_of-spelling}
 use Rattle.rh_trace.proofs.trace.parse.Goals as goal
 
 pub returns-clause-found : goal.returns-clause-found

@@ -1,4 +1,4 @@
-use Rattle.rh_trace.proofs.ReadIsSpelled.{IsScript-made}
+use Rattle.rh_trace.specs.lemmas.ReadIsSpelled.{IsScript-made}
 use Rattle.rh_trace.proofs.trace.trace_in.Goals as goal
 
 pub invariant_of-result : goal.invariant_of-result

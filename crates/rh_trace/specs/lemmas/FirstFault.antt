@@ -15,7 +15,7 @@ use Rattle.rh_text.specs.Number.{number_of, integer_of}
 use Rattle.rh_text.specs.Parts.{parts_of, is_formed, is_printable, is_filled, has_dot, begins_with_digit, one_part, two_parts, three_parts, six_parts}
 use Rattle.rh_text.specs.RawLine.{RawLine, lines_of, raw_text}
 use Rattle.rh_text.specs.Root.{root_of}
-use Rattle.rh_text.specs.Stages.{◌when◌, ◌▸◌, in_lines, IsFirst}
+use Rattle.rh_text.specs.Stages.{◌when◌, ◌▸◌, in_lines, IsFirst, IsLeast}
 use Rattle.rh_text.specs.Steps.{◌>>=◌, or_fault, with_fault}
 use Rattle.rh_text.specs.lemmas.Integers.{integer_means, integer_of-decimal}
 use Rattle.rh_text.specs.lemmas.Numbers.{number_means, number_of-decimal}
@@ -26,21 +26,21 @@ use Rattle.rh_trace.specs.declared.fault.Kind.TheVariants.{Empty, Long, Cut, For
 use Rattle.rh_trace.specs.declared.fault.TraceFault.{TraceFault}
 use Rattle.rh_trace.specs.declared.line as declared
 use Rattle.rh_trace.specs.declared.line.Line.{Line}
-use Rattle.rh_trace.specs.Faults.{Sort, keyword, number, root, operand, header_form, command_forms, lookup, IsPrintable, IsWellFormed, IsNumber, IsRoot, IsInteger, HasDot, IsDigitFirst, each_part, form_faults, BeginsWithOwner, LacksKeyword, form_of, line_part_faults, IsFirstPart, header_part_faults, raw_line_faults, header_faults, line_faults, trace_faults}
+use Rattle.rh_trace.specs.Faults.{Sort, keyword, number, root, operand, header_form, command_forms, lookup, IsPrintable, IsWellFormed, IsNumber, IsRoot, IsInteger, HasDot, IsDigitFirst, each_part, form_faults, BeginsWithOwner, LacksKeyword, form_of, command_part_faults, command_faults, line_part_faults, IsFirstPart, header_part_faults, raw_line_faults, header_faults, line_faults, trace_faults}
 use Rattle.rh_trace.specs.Line.{line_of}
-use Rattle.rh_trace.specs.Reading.{number_or_fault, integer_or_fault, root_or_fault, operand_or_fault, alloc_of, load_of, store_of, copy_of, same_of, drop_of, command_or_fault, owned_command, line_of_parts, sizes_of, header_of_parts, checked_parts, fault_at, line_or_kind, header_or_kind, lines_from, script_or_fault, trace_of}
+use Rattle.rh_trace.specs.Reading.{number_or_fault, integer_or_fault, root_or_fault, operand_or_fault, alloc_of, load_of, store_of, copy_of, same_of, drop_of, command_or_fault, owned_command, single_command, line_of_parts, sizes_of, header_of_parts, checked_parts, fault_at, line_or_kind, header_or_kind, lines_from, script_or_fault, trace_of}
 use Rattle.rh_trace.specs.Spelling.{Script, spell_line, spell_header, LineFits, HeaderFits}
-use Rattle.rh_trace.proofs.ReadIsSpelled.{line_or_fault-means, header_or_fault-means}
+use Rattle.rh_trace.specs.lemmas.ReadIsSpelled.{line_or_fault-means, header_or_fault-means}
 
 -- ---- numbers, roots and operands
 
 none_some : {A : Type 0} (o : Option A) (x : A) → o ≡ None → o ≡ Some x → ⊥
 none_some o x e f = let clash : ◌≡◌ {A = Option _} None (Some x) = sym e ∙ f in absurd cc
 
-no_number : (part : List ℕ) → number_of part ≡ None → ¬ IsNumber part
+pub no_number : (part : List ℕ) → number_of part ≡ None → ¬ IsNumber part
 no_number part e h = none_some (number_of part) h.0 e (ap number_of h.2 ∙ number_of-decimal h.0 h.1)
 
-number_is : (part : List ℕ) (n : ℕ) → number_of part ≡ Some n → IsNumber part
+pub number_is : (part : List ℕ) (n : ℕ) → number_of part ≡ Some n → IsNumber part
 number_is part n e = let m = number_means part n e in (n, m.1, m.0)
 
 judges-number : {A : Type 0} (part : List ℕ) (others : ℕ → Kind → Type 0) (f : ℕ → Result A Kind) → ((n : ℕ) → Judges others (f n)) → Judges (Number when (¬ IsNumber part) ▸ others) (number_or_fault part >>= f)
@@ -73,7 +73,7 @@ nil_dotless : (part : List ℕ) → part ≡ codes "nil" → ¬ HasDot part
 nil_dotless part e h = false≢true (ap has_dot (sym e) ∙ (has_dot-Decides part).1 h)
 
 -- one step after another
-bind_bind : {A B C : Type 0} (r : Result A Kind) (g : A → Result B Kind) (f : B → Result C Kind) → ((r >>= g) >>= f) ≡ (r >>= λ x. g x >>= f)
+pub bind_bind : {A B C : Type 0} (r : Result A Kind) (g : A → Result B Kind) (f : B → Result C Kind) → ((r >>= g) >>= f) ≡ (r >>= λ x. g x >>= f)
 bind_bind (Ok x) g f = refl
 bind_bind (Err kind) g f = refl
 
@@ -204,7 +204,7 @@ judges-keyword owner word args owned =
     (by_keyword parts (bytes_eq word (codes "drop")) _ _ _ _ (known parts _ _ owned (judges-drop owner word args))
     (unknown parts))))))
 
-judges-command : (owner : List ℕ) (rest : List (List ℕ)) → IsDigitFirst owner → Judges (line_part_faults (owner ∷ rest)) (command_or_fault owner rest)
+judges-command : (owner : List ℕ) (rest : List (List ℕ)) → IsDigitFirst owner → Judges (command_part_faults (owner ∷ rest)) (command_or_fault owner rest)
 unfolding command_or_fault
 judges-command owner [] owned = judges-here Form (LacksKeyword (owner ∷ [])) (keyword_faults (owner ∷ []) None) owned
 judges-command owner (word ∷ args) owned =
@@ -214,7 +214,7 @@ no_keyword : (first : List ℕ) (rest : List (List ℕ)) → ¬ IsDigitFirst fir
 no_keyword first [] bare h = bare h
 no_keyword first (word ∷ args) bare h = h
 
-judges-no_owner : (first : List ℕ) (rest : List (List ℕ)) → ¬ IsDigitFirst first → Judges {A = ℕ × Command} (line_part_faults (first ∷ rest)) (Err Word)
+judges-no_owner : (first : List ℕ) (rest : List (List ℕ)) → ¬ IsDigitFirst first → Judges {A = ℕ × Command} (command_part_faults (first ∷ rest)) (Err Word)
 judges-no_owner first rest bare =
     let parts = first ∷ rest in
     judges-later Form (LacksKeyword parts) (keyword_faults parts (form_of parts)) (Err Word) (no_keyword first rest bare)
@@ -230,11 +230,11 @@ begins_with_digit-Decides : (part : List ℕ) → Decides (begins_with_digit par
 begins_with_digit-Decides [] = (λ e. false≢true e, λ h. absurd h)
 begins_with_digit-Decides (b ∷ bs) = in_range_Decides 48 57 b
 
-by_first : (t : Bool) (first : List ℕ) (rest : List (List ℕ)) → Decides t (IsDigitFirst first) → Judges (line_part_faults (first ∷ rest)) (cond t (command_or_fault first rest) (Err Word))
+by_first : (t : Bool) (first : List ℕ) (rest : List (List ℕ)) → Decides t (IsDigitFirst first) → Judges (command_part_faults (first ∷ rest)) (cond t (command_or_fault first rest) (Err Word))
 by_first true first rest decides = judges-command first rest (decides.0 refl)
 by_first false first rest decides = judges-no_owner first rest (not_from_Decides false decides refl)
 
-judges-owned : (parts : List (List ℕ)) → Judges (line_part_faults parts) (owned_command parts)
+pub judges-owned : (parts : List (List ℕ)) → Judges (command_part_faults parts) (owned_command parts)
 unfolding owned_command
 judges-owned [] = judges-here Form ⊤ (keyword_faults [] None) tt
 judges-owned (first ∷ rest) = by_first (begins_with_digit first) first rest (begins_with_digit-Decides first)
@@ -276,7 +276,7 @@ judges-header_parts (a ∷ b ∷ c ∷ d ∷ f ∷ g ∷ h ∷ parts) = wrong_co
 
 -- ---- a raw line
 
-all_Decides : {X : Type 0} (test : X → Bool) (P : X → Type 0) → ((x : X) → Decides (test x) (P x)) → (xs : List X) → Decides (list_all test xs) (AllByRecursion P xs)
+pub all_Decides : {X : Type 0} (test : X → Bool) (P : X → Type 0) → ((x : X) → Decides (test x) (P x)) → (xs : List X) → Decides (list_all test xs) (AllByRecursion P xs)
 all_Decides test P each [] = (λ e. tt, λ h. refl)
 all_Decides test P each (x ∷ xs) =
     let others = all_Decides test P each xs in (
@@ -291,7 +291,7 @@ is_filled-Decides : (part : List ℕ) → Decides (is_filled part) (¬ (part ≡
 is_filled-Decides [] = (λ e. absurd (false≢true e), λ h. absurd (h refl))
 is_filled-Decides (b ∷ bs) = (λ e f. cons_nil b bs f, λ h. refl)
 
-is_formed-Decides : (line : List ℕ) → Decides (is_formed line) (IsWellFormed line)
+pub is_formed-Decides : (line : List ℕ) → Decides (is_formed line) (IsWellFormed line)
 unfolding is_formed
 is_formed-Decides line =
     let bytes = all_Decides is_printable IsPrintable (in_range_Decides 32 126) line in
@@ -300,11 +300,11 @@ is_formed-Decides line =
       λ h. and_from (list_all is_printable line) (list_all is_filled (parts_of line)) (bytes.1 h.0) (filled.1 h.1),
     )
 
-not_ended : (ended : Bool) → Decides (not ended) (ended ≡ false)
+pub not_ended : (ended : Bool) → Decides (not ended) (ended ≡ false)
 not_ended true = (λ e. absurd (false≢true e), λ e. absurd (false≢true (sym e)))
 not_ended false = (λ e. refl, λ e. refl)
 
-judges-raw_line : {A : Type 0} (part_faults : List (List ℕ) → ℕ → Kind → Type 0) (n : ℕ) (line : RawLine) (f : List (List ℕ) → Result A Kind) → Judges (part_faults (parts_of line.bytes)) (f (parts_of line.bytes))
+pub judges-raw_line : {A : Type 0} (part_faults : List (List ℕ) → ℕ → Kind → Type 0) (n : ℕ) (line : RawLine) (f : List (List ℕ) → Result A Kind) → Judges (part_faults (parts_of line.bytes)) (f (parts_of line.bytes))
     → Judges (raw_line_faults part_faults n line) (checked_parts n line >>= f)
 unfolding checked_parts
 judges-raw_line part_faults n line f judged =
@@ -320,6 +320,23 @@ judges-line_or_kind n line = judges-raw_line line_part_faults n line line_of_par
 pub judges-header_or_kind : (line : RawLine) → Judges (header_faults line) (header_or_kind line)
 unfolding header_or_kind
 judges-header_or_kind line = judges-raw_line header_part_faults 1 line header_of_parts (judges-header_parts (parts_of line.bytes))
+
+-- ---- a single line
+
+-- a test that decides the stage, and else what is read
+pub judges-checked : {A : Type 0} (t : Bool) (kind : Kind) (P : Type 0) (others : ℕ → Kind → Type 0) (r : Result A Kind) → Decides t P → Judges others r → Judges (kind when P ▸ others) (cond t (Err kind) r)
+judges-checked true kind P others r decides judged = judges-here kind P others (decides.0 refl)
+judges-checked false kind P others r decides judged = judges-later kind P others r (λ h. false≢true (decides.1 h)) judged
+
+pub judges-single : (line : List ℕ) → Judges (command_faults line) (single_command line)
+unfolding single_command
+judges-single line = judges-checked (not (is_formed line)) Form (¬ IsWellFormed line) (command_part_faults (parts_of line)) (owned_command (parts_of line)) (Decides-not (is_formed line) (is_formed-Decides line)) (judges-owned (parts_of line))
+
+pub no_fault_of_single : (line : List ℕ) (owned : ℕ × Command) → single_command line ≡ Ok owned → (p : ℕ) (k : Kind) → command_faults line p k → ⊥
+no_fault_of_single line owned e = (judges-single line).none owned e
+
+pub first_fault_of_single : (line : List ℕ) (kind : Kind) → single_command line ≡ Err kind → IsLeast (command_faults line) kind
+first_fault_of_single line kind e = (judges-single line).least kind e
 
 -- ---- the whole text
 
@@ -366,7 +383,7 @@ pub no_fault_of_trace : (bytes : List ℕ) (script : Script) → trace_of bytes 
 no_fault_of_trace bytes script e = (judges-script (lines_of bytes)).none script e
 
 -- a line without a fault is spelled well
-read_of : {A : Type 0} (faults : ℕ → Kind → Type 0) (r : Result A Kind) → Judges faults r → ((p : ℕ) (k : Kind) → faults p k → ⊥) → (x : A) × (r ≡ Ok x)
+pub read_of : {A : Type 0} (faults : ℕ → Kind → Type 0) (r : Result A Kind) → Judges faults r → ((p : ℕ) (k : Kind) → faults p k → ⊥) → (x : A) × (r ≡ Ok x)
 read_of faults (Ok x) judged none = (x, refl)
 read_of faults (Err k) judged none = let l = judged.least k refl in absurd (none l.place k l.holds)
 

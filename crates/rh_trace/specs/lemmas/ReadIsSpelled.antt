@@ -29,9 +29,9 @@ use Rattle.rh_trace.specs.declared.fault.TraceFault.{TraceFault}
 use Rattle.rh_trace.specs.declared.line as declared
 use Rattle.rh_trace.specs.declared.line.Line.{Line}
 use Rattle.rh_trace.specs.Line.{line_of}
-use Rattle.rh_trace.specs.Spelling.{Script, operand_text, command_parts, line_parts, header_parts, spell_line, spell_header, spelling, OperandFits, CommandFits, LineFits, HeaderFits, IsScript}
-use Rattle.rh_trace.specs.Reading.{number_or_fault, integer_or_fault, root_or_fault, operand_or_fault, alloc_of, load_of, store_of, copy_of, same_of, drop_of, command_or_fault, owned_command, line_of_parts, sizes_of, header_of_parts, checked_parts, fault_at, line_or_kind, header_or_kind, line_or_fault, header_or_fault, lines_from, script_or_fault, trace_of, Gives}
-use Rattle.rh_trace.proofs.LinesInTurn.{number_within}
+use Rattle.rh_trace.specs.Spelling.{Script, operand_text, command_parts, command_text, line_parts, header_parts, spell_line, spell_header, spelling, OperandFits, CommandFits, LineFits, HeaderFits, IsScript}
+use Rattle.rh_trace.specs.Reading.{number_or_fault, integer_or_fault, root_or_fault, operand_or_fault, alloc_of, load_of, store_of, copy_of, same_of, drop_of, command_or_fault, owned_command, single_command, line_of_parts, sizes_of, header_of_parts, checked_parts, fault_at, line_or_kind, header_or_kind, line_or_fault, header_or_fault, lines_from, script_or_fault, trace_of, Gives}
+use Rattle.rh_trace.specs.lemmas.LinesInTurn.{number_within}
 
 -- the value of a step that did not fail
 pub bind_ok : {A B E : Type 0} (r : Result A E) (f : A → Result B E) (y : B) → (r >>= f) ≡ Ok y → (x : A) × (r ≡ Ok x) × (f x ≡ Ok y)
@@ -39,18 +39,18 @@ bind_ok (Ok x) f y e = (x, refl, e)
 bind_ok (Err d) f y e = absurd cc
 
 -- a test that was passed
-chosen : {A : Type 0} (b : Bool) (d : Kind) (r : Result A Kind) (y : A) → cond b r (Err d) ≡ Ok y → (b ≡ true) × (r ≡ Ok y)
+pub chosen : {A K : Type 0} (b : Bool) (d : K) (r : Result A K) (y : A) → cond b r (Err d) ≡ Ok y → (b ≡ true) × (r ≡ Ok y)
 chosen true d r y e = (refl, e)
 chosen false d r y e = absurd cc
 
-refused : {A : Type 0} (b : Bool) (d : Kind) (r : Result A Kind) (y : A) → cond b (Err d) r ≡ Ok y → (b ≡ false) × (r ≡ Ok y)
+pub refused : {A K : Type 0} (b : Bool) (d : K) (r : Result A K) (y : A) → cond b (Err d) r ≡ Ok y → (b ≡ false) × (r ≡ Ok y)
 refused true d r y e = absurd cc
 refused false d r y e = (refl, e)
 
-ok_is : {A E : Type 0} (x y : A) → ◌≡◌ {A = Result A E} (Ok x) (Ok y) → x ≡ y
+pub ok_is : {A E : Type 0} (x y : A) → ◌≡◌ {A = Result A E} (Ok x) (Ok y) → x ≡ y
 ok_is x y e = cc
 
-or_fault_ok : {A : Type 0} (o : Option A) (kind : Kind) (x : A) → or_fault o kind ≡ Ok x → o ≡ Some x
+pub or_fault_ok : {A K : Type 0} (o : Option A) (kind : K) (x : A) → or_fault o kind ≡ Ok x → o ≡ Some x
 or_fault_ok (Some y) kind x e = cc
 or_fault_ok None kind x e = absurd cc
 
@@ -59,7 +59,7 @@ with_fault_ok number (Ok y) x e = cc
 with_fault_ok number (Err kind) x e = absurd cc
 
 -- numbers and roots
-number_or_fault-means : (part : List ℕ) (n : ℕ) → number_or_fault part ≡ Ok n → (part ≡ decimal n) × IsU32 n
+pub number_or_fault-means : (part : List ℕ) (n : ℕ) → number_or_fault part ≡ Ok n → (part ≡ decimal n) × IsU32 n
 number_or_fault-means part n e = number_means part n (or_fault_ok (number_of part) Number n e)
 
 root_or_fault-means : (part : List ℕ) (root : RootId) → root_or_fault part ≡ Ok root → (part ≡ root_text root) × RootFits root
@@ -87,7 +87,7 @@ unfolding operand_or_fault
 operand_or_fault-means part operand e = operand_by (bytes_eq part (codes "nil")) (has_dot part) part operand (bytes_eq-Decides part (codes "nil")).0 e
 
 -- so many parts
-one_part-means : (args : List (List ℕ)) (x : List ℕ) → one_part args ≡ Some x → args ≡ x ∷ []
+pub one_part-means : (args : List (List ℕ)) (x : List ℕ) → one_part args ≡ Some x → args ≡ x ∷ []
 unfolding one_part
 one_part-means [] x e = absurd cc
 one_part-means (a ∷ []) x e = ap (λ (y : List ℕ). y ∷ []) (some_is a x e)
@@ -100,7 +100,7 @@ two_parts-means (a ∷ []) x e = absurd cc
 two_parts-means (a ∷ b ∷ []) x e = ap (λ (y : List ℕ × List ℕ). y.0 ∷ y.1 ∷ []) (some_is (a, b) x e)
 two_parts-means (a ∷ b ∷ c ∷ args) x e = absurd cc
 
-three_parts-means : (args : List (List ℕ)) (x : List ℕ × List ℕ × List ℕ) → three_parts args ≡ Some x → args ≡ x.0 ∷ x.1 ∷ x.2 ∷ []
+pub three_parts-means : (args : List (List ℕ)) (x : List ℕ × List ℕ × List ℕ) → three_parts args ≡ Some x → args ≡ x.0 ∷ x.1 ∷ x.2 ∷ []
 unfolding three_parts
 three_parts-means [] x e = absurd cc
 three_parts-means (a ∷ []) x e = absurd cc
@@ -109,7 +109,7 @@ three_parts-means (a ∷ b ∷ c ∷ []) x e = ap (λ (y : List ℕ × List ℕ 
 three_parts-means (a ∷ b ∷ c ∷ d ∷ args) x e = absurd cc
 
 -- the command lines, keyword by keyword
-abbrev Reads : List (List ℕ) → ℕ × Command → Type 0
+abbrev pub Reads : List (List ℕ) → ℕ × Command → Type 0
 Reads parts owned = (parts ≡ command_parts owned.0 owned.1) × CommandFits owned.0 owned.1
 
 -- the parts of a line, each as it was found
@@ -230,10 +230,22 @@ command_or_fault-means owner (keyword ∷ args) owned e =
     (by_keyword (bytes_eq keyword (codes "same")) owner keyword (codes "same") args (same_of owner args) drops owned (bytes_eq-Decides keyword (codes "same")).0 (same_of-means owner args owned)
     (by_keyword (bytes_eq keyword (codes "drop")) owner keyword (codes "drop") args (drop_of owner args) (Err Word) owned (bytes_eq-Decides keyword (codes "drop")).0 (drop_of-means owner args owned) (λ no. absurd cc)))))) e
 
-owned_command-means : (parts : List (List ℕ)) (owned : ℕ × Command) → owned_command parts ≡ Ok owned → Reads parts owned
+pub owned_command-means : (parts : List (List ℕ)) (owned : ℕ × Command) → owned_command parts ≡ Ok owned → Reads parts owned
 unfolding owned_command
 owned_command-means [] owned e = absurd cc
 owned_command-means (first ∷ rest) owned e = command_or_fault-means first rest owned (chosen (begins_with_digit first) Word (command_or_fault first rest) owned e).1
+
+-- a single line
+pub single_command-means : (line : List ℕ) (owned : ℕ × Command) → single_command line ≡ Ok owned → CommandFits owned.0 owned.1 × (line ≡ command_text owned.0 owned.1)
+unfolding single_command
+single_command-means line owned e =
+    let a = refused (not (is_formed line)) Form (owned_command (parts_of line)) owned e in
+    let b = owned_command-means (parts_of line) owned a.1 in
+    (b.1, sym (join_with_byte-slice_split 32 line) ∙ ap (join_with_byte 32) b.0)
+
+pub single_is_spelled : (line : List ℕ) (r : Result (ℕ × Command) Kind) → r ≡ single_command line → IfOk r (λ owned. CommandFits owned.0 owned.1 × (line ≡ command_text owned.0 owned.1))
+single_is_spelled line (Ok owned) given = single_command-means line owned (sym given)
+single_is_spelled line (Err kind) given = tt
 
 -- the header
 six_parts-means : (args : List (List ℕ)) (x : List ℕ × List ℕ × List ℕ × List ℕ × List ℕ × List ℕ) → six_parts args ≡ Some x → args ≡ x.0 ∷ x.1 ∷ x.2 ∷ x.3 ∷ x.4 ∷ x.5 ∷ []
@@ -282,7 +294,7 @@ ended_text : (ended : Bool) (bytes parts : List ℕ) → ended ≡ true → byte
 ended_text true bytes parts is e = ap (λ (t : List ℕ). t ++ 10 ∷ []) e
 ended_text false bytes parts is e = absurd (cc)
 
-checked_parts-means : (number : ℕ) (raw : RawLine) (parts : List (List ℕ)) → checked_parts number raw ≡ Ok parts → raw_text raw ≡ spell_parts parts
+pub checked_parts-means : (number : ℕ) (raw : RawLine) (parts : List (List ℕ)) → checked_parts number raw ≡ Ok parts → raw_text raw ≡ spell_parts parts
 unfolding checked_parts
 checked_parts-means number raw parts e =
     let formed : Result (List (List ℕ)) Kind = cond (not (is_formed raw.bytes)) (Err Form) (Ok (parts_of raw.bytes)) in

@@ -28,15 +28,15 @@ use Rattle.rh_trace.specs.declared.line as declared
 use Rattle.rh_trace.specs.declared.line.Line.{Line}
 use Rattle.rh_trace.specs.declared.line.Line.TheVariants as lines
 use Rattle.rh_trace.specs.Line.{owner_of, command_of, line_of}
-use Rattle.rh_trace.specs.Spelling.{Script, operand_text, command_parts, header_parts, spell_line, spelling, OperandFits, CommandFits, LineFits, HeaderFits, IsScript}
-use Rattle.rh_trace.specs.Reading.{number_or_fault, integer_or_fault, root_or_fault, operand_or_fault, alloc_of, load_of, store_of, copy_of, same_of, drop_of, command_or_fault, owned_command, line_of_parts, sizes_of, header_of_parts, checked_parts, fault_at, line_or_kind, header_or_kind, line_or_fault, header_or_fault, lines_from, script_or_fault, trace_of}
+use Rattle.rh_trace.specs.Spelling.{Script, operand_text, command_parts, command_text, header_parts, spell_line, spelling, OperandFits, CommandFits, LineFits, HeaderFits, IsScript}
+use Rattle.rh_trace.specs.Reading.{number_or_fault, integer_or_fault, root_or_fault, operand_or_fault, alloc_of, load_of, store_of, copy_of, same_of, drop_of, command_or_fault, owned_command, single_command, line_of_parts, sizes_of, header_of_parts, checked_parts, fault_at, line_or_kind, header_or_kind, line_or_fault, header_or_fault, lines_from, script_or_fault, trace_of}
 
 -- ---- what the parts of a spelled line are like
 
 -- the parts of a line: a first one, and at most ten more
-record AreParts (first : List ℕ) (others : List (List ℕ)) : Type 0 where
-  each : AllByRecursion IsPart (first ∷ others)
-  few : length others ≤ 10
+pub record AreParts (first : List ℕ) (others : List (List ℕ)) : Type 0 where
+  pub each : AllByRecursion IsPart (first ∷ others)
+  pub few : length others ≤ 10
 
 operand_part : (operand : Operand) → OperandFits operand → IsPart (operand_text operand)
 operand_part operands.Nil fits = record { filled = refl; glyphs = refl; short = omega arith }
@@ -64,7 +64,7 @@ drop_part = record { filled = refl; glyphs = refl; short = omega arith }
 heap_part : IsPart (codes "heap")
 heap_part = record { filled = refl; glyphs = refl; short = omega arith }
 
-checked_parts-join : (number : ℕ) (first : List ℕ) (others : List (List ℕ)) → number ≤ 1048576 → AreParts first others → checked_parts number (ended_line (join_with_byte 32 (first ∷ others))) ≡ Ok (first ∷ others)
+pub checked_parts-join : (number : ℕ) (first : List ℕ) (others : List (List ℕ)) → number ≤ 1048576 → AreParts first others → checked_parts number (ended_line (join_with_byte 32 (first ∷ others))) ≡ Ok (first ∷ others)
 unfolding checked_parts
 checked_parts-join number first others small are =
     let line = join_with_byte 32 (first ∷ others) in
@@ -83,7 +83,7 @@ number_or_fault-decimal n small = ap (λ (o : Option ℕ). or_fault o Number) (n
 root_or_fault-text : (root : RootId) → RootFits root → root_or_fault (root_text root) ≡ Ok root
 root_or_fault-text root fits = ap (λ (o : Option RootId). or_fault o Root) (root_of-text root fits)
 
-starts_with_digit : (digits : List ℕ) → is_filled digits ≡ true → list_all is_decimal_digit digits ≡ true → begins_with_digit digits ≡ true
+pub starts_with_digit : (digits : List ℕ) → is_filled digits ≡ true → list_all is_decimal_digit digits ≡ true → begins_with_digit digits ≡ true
 starts_with_digit [] h k = absurd (cc)
 starts_with_digit (d ∷ digits) h k = (and_parts (is_decimal_digit d) (list_all is_decimal_digit digits) k).0
 
@@ -91,7 +91,7 @@ starts_with_digit (d ∷ digits) h k = (and_parts (is_decimal_digit d) (list_all
 not_nil : (part : List ℕ) → begins_with_digit part ≡ true → bytes_eq part (codes "nil") ≡ false
 not_nil part digit = false_from_ne_true (bytes_eq part (codes "nil")) (λ e. false≢true (ap begins_with_digit (sym ((bytes_eq-Decides part (codes "nil")).0 e)) ∙ digit))
 
-begins_with_digit-append : (digits rest : List ℕ) → begins_with_digit digits ≡ true → begins_with_digit (digits ++ rest) ≡ true
+pub begins_with_digit-append : (digits rest : List ℕ) → begins_with_digit digits ≡ true → begins_with_digit (digits ++ rest) ≡ true
 begins_with_digit-append [] rest h = absurd cc
 begins_with_digit-append (d ∷ digits) rest h = h
 
@@ -127,7 +127,7 @@ operand_or_fault-text operands.Nil fits = refl
 operand_or_fault-text (operands.Int n) fits = rw (not_nil-integer n fits, has_dot-integer n fits, integer_or_fault-decimal n fits) refl
 operand_or_fault-text (operands.Root root) fits = rw (not_nil-root root fits, has_dot-root root, root_or_fault-text root fits) refl
 
-owned_command-decimal : (owner : ℕ) (rest : List (List ℕ)) → IsU32 owner → owned_command (decimal owner ∷ rest) ≡ command_or_fault (decimal owner) rest
+pub owned_command-decimal : (owner : ℕ) (rest : List (List ℕ)) → IsU32 owner → owned_command (decimal owner ∷ rest) ≡ command_or_fault (decimal owner) rest
 unfolding owned_command
 owned_command-decimal owner rest small =
     ap (λ (t : Bool). cond t (command_or_fault (decimal owner) rest) (Err Word)) (starts_with_digit (decimal owner) (filled-decimal owner small) (decimal_digits owner small))
@@ -157,14 +157,14 @@ unfolding command_or_fault drop_of one_part
 drop-read owner root fits = rw (number_or_fault-decimal owner fits.0, root_or_fault-text root fits.1) refl
 
 -- the parts of a command line are parts, and the command is read from them
-record IsReadFrom (owner : ℕ) (command : Command) : Type 0 where
-  first : List ℕ
-  others : List (List ℕ)
-  spelled : command_parts owner command ≡ first ∷ others
-  are : AreParts first others
-  read : owned_command (first ∷ others) ≡ Ok (owner, command)
+pub record IsReadFrom (owner : ℕ) (command : Command) : Type 0 where
+  pub first : List ℕ
+  pub others : List (List ℕ)
+  pub spelled : command_parts owner command ≡ first ∷ others
+  pub are : AreParts first others
+  pub read : owned_command (first ∷ others) ≡ Ok (owner, command)
 
-command-read : (owner : ℕ) (command : Command) → CommandFits owner command → IsReadFrom owner command
+pub command-read : (owner : ℕ) (command : Command) → CommandFits owner command → IsReadFrom owner command
 command-read owner (Alloc dst fields) fits = record {
   first = decimal owner;
   others = codes "alloc" ∷ root_text dst ∷ decimal fields ∷ [];
@@ -208,6 +208,17 @@ command-read owner (Drop root) fits = record {
   read = owned_command-decimal owner (codes "drop" ∷ root_text root ∷ []) fits.0 ∙ drop-read owner root fits;
 }
 
+-- a single line
+pub single_command-text : (owner : ℕ) (command : Command) → CommandFits owner command → single_command (command_text owner command) ≡ Ok (owner, command)
+unfolding single_command
+single_command-text owner command fits =
+    let a = command-read owner command fits in
+    let line = join_with_byte 32 (a.first ∷ a.others) in
+    ap (λ (ps : List (List ℕ)). single_command (join_with_byte 32 ps)) a.spelled
+    ∙ ap (λ (t : Bool). cond (not t) (Err Form) (owned_command (parts_of line))) (is_formed-join a.first a.others a.are.each)
+    ∙ ap owned_command (parts_of-join a.first a.others a.are.each)
+    ∙ a.read
+
 -- the line of its own owner and command
 line_of-own : (line : Line) → line_of (owner_of line) (command_of line) ≡ line
 line_of-own (lines.Alloc owner dst fields) = refl
@@ -233,7 +244,7 @@ header_of_parts-spelled h fits = rw (number_or_fault-decimal h.words fits.0, num
 
 -- ---- the whole text
 
-lines_of-parts : (first : List ℕ) (others : List (List ℕ)) (rest : List ℕ) → AreParts first others → lines_of (spell_parts (first ∷ others) ++ rest) ≡ ended_line (join_with_byte 32 (first ∷ others)) ∷ lines_of rest
+pub lines_of-parts : (first : List ℕ) (others : List (List ℕ)) (rest : List ℕ) → AreParts first others → lines_of (spell_parts (first ∷ others) ++ rest) ≡ ended_line (join_with_byte 32 (first ∷ others)) ∷ lines_of rest
 lines_of-parts first others rest are =
     ap lines_of (append_assoc (join_with_byte 32 (first ∷ others)) (10 ∷ []) rest) ∙ lines_of-prefix (join_with_byte 32 (first ∷ others)) rest (printable-join first others are.each)
 

@@ -1,0 +1,4 @@
+pub mod LinesInTurn
+pub mod ReadIsSpelled
+pub mod SpelledIsRead
+pub mod FirstFault
