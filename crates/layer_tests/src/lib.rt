@@ -4,7 +4,11 @@
 #[cfg(test)]
 mod commands;
 #[cfg(test)]
+mod cycle;
+#[cfg(test)]
 mod expectations;
+#[cfg(test)]
+mod giving;
 #[cfg(test)]
 mod heap;
 #[cfg(test)]
@@ -20,9 +24,13 @@ mod place;
 #[cfg(test)]
 mod plain_heap;
 #[cfg(test)]
+mod random_events;
+#[cfg(test)]
 mod refusals;
 #[cfg(test)]
 mod roots;
+#[cfg(test)]
+mod runs;
 #[cfg(test)]
 mod space;
 #[cfg(test)]

@@ -1,7 +1,7 @@
 //! Mutation logs.
 
 use crate::expectations::{expect_equal, expect_text};
-use refusing::refused_in_turn;
+use refusing::{RefusingAllocator, refused_in_turn};
 use rh_layout::{Item, Value};
 use rh_log::{Log, LogError, NumbersSpent, PushError};
 use std::alloc::Allocator;
@@ -18,7 +18,7 @@ fn entry<A: Allocator + Copy>(rt: &impl Abort, log: &Log<A>, i: usize) -> Item {
 
 #[test]
 fn limits(rt: HostRuntime) {
-    for (limit, last_number, fault) in [
+    for &(limit, last_number, fault) in &[
         (0, 0, LogError::BadLog),
         (1_048_577, 1, LogError::BadLog),
         (1, 0, LogError::BadNumbers),
@@ -41,7 +41,7 @@ fn stores_are_numbered_and_kept(rt: HostRuntime) {
     expect_equal(&rt, log.count_only(), Ok(2));
     expect_equal(&rt, log.push(0, 0, Value::Nil), Ok(3));
     expect_equal(&rt, log.push(0, 0, Value::Nil), Err(PushError::LogFull));
-    for (i, object, field, number, value) in [
+    for &(i, object, field, number, value) in &[
         (0, 4, 1, 1, Value::Ref(4)),
         (1, 0, 0, 3, Value::Nil),
     ] {
@@ -88,14 +88,14 @@ fn the_greatest_log_is_filled(rt: HostRuntime) {
 
 #[test]
 fn texts_of_errors(rt: HostRuntime) {
-    for (error, text) in [
+    for &(error, text) in &[
         (LogError::BadLog, "BadLog"),
         (LogError::BadNumbers, "BadNumbers"),
         (LogError::OutOfMemory, "out of memory"),
     ] {
         expect_text(&rt, error, text);
     }
-    for (error, text) in [
+    for &(error, text) in &[
         (PushError::LogFull, "LogFull"),
         (PushError::NumbersSpent, "NumbersSpent"),
     ] {
@@ -104,28 +104,28 @@ fn texts_of_errors(rt: HostRuntime) {
     expect_text(&rt, NumbersSpent, "NumbersSpent");
 }
 
+/// Makes a log and fills it. Answers whether memory was refused.
+fn is_refused_a_log<A: Allocator>(rt: &impl Abort, memory: &RefusingAllocator<A>) -> bool {
+    let fault = Log::new(memory, 3, 0).err();
+    expect_equal(rt, fault, Some(LogError::BadNumbers));
+    match Log::new(memory, 3, 9) {
+        Ok(mut log) => {
+            let asked = memory.asked();
+            for number in 1..4u64 {
+                expect_equal(rt, log.push(0, 0, Value::Nil), Ok(number));
+            }
+            expect_equal(rt, memory.asked(), asked);
+            false
+        }
+        Err(error) => {
+            expect_equal(rt, error, LogError::OutOfMemory);
+            true
+        }
+    }
+}
+
 #[test]
 fn refused_memory(rt: HostRuntime) {
-    let refused = refused_in_turn(rt.alloc(), |memory| {
-        expect_equal(
-            &rt,
-            Log::new(memory, 3, 0).err(),
-            Some(LogError::BadNumbers),
-        );
-        match Log::new(memory, 3, 9) {
-            Ok(mut log) => {
-                let asked = memory.asked();
-                for number in 1..4u64 {
-                    expect_equal(&rt, log.push(0, 0, Value::Nil), Ok(number));
-                }
-                expect_equal(&rt, memory.asked(), asked);
-                false
-            }
-            Err(error) => {
-                expect_equal(&rt, error, LogError::OutOfMemory);
-                true
-            }
-        }
-    });
+    let refused = refused_in_turn(rt.alloc(), |memory| is_refused_a_log(&rt, memory));
     expect_equal(&rt, refused, Ok(1));
 }

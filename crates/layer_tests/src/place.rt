@@ -5,7 +5,7 @@ ghost use Rattle.rh_space.specs.Space.{HasWord};
 ghost use Rattle.rh_place.specs.Mirrors.{IsHoldable, Mirrors};
 
 use crate::expectations::expect_equal;
-use refusing::refused_in_turn;
+use refusing::{RefusingAllocator, refused_in_turn};
 use rh_layout::limits::MAX_NUMBER;
 use rh_layout::{Item, Place, Value, value_of, word_of};
 use rh_place::laws::{
@@ -14,6 +14,7 @@ use rh_place::laws::{
 };
 use rh_place::{Joint, Placing};
 use rh_space::{NOT_HELD, Space, SpaceError};
+use std::alloc::Allocator;
 use std::marker::Model;
 use std::process::Abort;
 
@@ -174,7 +175,7 @@ fn item(object: u32, field: u32, number: u64, value: Value) -> Item {
 
 #[test]
 fn limits(rt: HostRuntime) {
-    for words in [0, 7, 16_777_217] {
+    for &words in &[0, 7, 16_777_217] {
         expect_equal(
             &rt,
             Joint::new(rt.alloc(), words).err(),
@@ -194,23 +195,27 @@ fn limits(rt: HostRuntime) {
     );
 }
 
+/// Makes a joint. Answers whether memory was refused.
+fn is_refused_a_joint<A: Allocator>(rt: &impl Abort, memory: &RefusingAllocator<A>) -> bool {
+    let bad = Joint::new(memory, 7).err();
+    expect_equal(rt, bad, Some(SpaceError::BadSpace));
+    match Joint::new(memory, 8) {
+        Ok(mut joint) => {
+            let asked = memory.asked();
+            assert!(rt; joint.next().is_none());
+            expect_equal(rt, memory.asked(), asked);
+            false
+        }
+        Err(error) => {
+            expect_equal(rt, error, SpaceError::OutOfMemory);
+            true
+        }
+    }
+}
+
 #[test]
 fn refused_memory(rt: HostRuntime) {
-    let refused = refused_in_turn(rt.alloc(), |memory| {
-        expect_equal(&rt, Joint::new(memory, 7).err(), Some(SpaceError::BadSpace));
-        match Joint::new(memory, 8) {
-            Ok(mut joint) => {
-                let asked = memory.asked();
-                assert!(rt; joint.next().is_none());
-                expect_equal(&rt, memory.asked(), asked);
-                false
-            }
-            Err(error) => {
-                expect_equal(&rt, error, SpaceError::OutOfMemory);
-                true
-            }
-        }
-    });
+    let refused = refused_in_turn(rt.alloc(), |memory| is_refused_a_joint(&rt, memory));
     expect_equal(&rt, refused, Ok(1));
 }
 
@@ -222,85 +227,77 @@ fn an_object_is_placed_once(rt: HostRuntime) {
     expect_equal(&rt, spaces.place(&rt, 0), Placing::Placed);
     expect_equal(&rt, spaces.place(&rt, 6), Placing::Already);
     expect_equal(&rt, (spaces.joint.placed(), spaces.counts()), (2, (3, 3)));
-    expect_equal(
-        &rt,
-        [6, 0, 4, 1, 99].map(|a| spaces.forward(a)),
-        [Some(0), Some(3), None, None, None],
-    );
-    expect_equal(
-        &rt,
-        [0, 1, 2].map(|f| spaces.held(0, f)),
-        [None, None, None],
-    );
-    expect_equal(&rt, spaces.held(4, 0), None);
+    for &(a, to) in &[(6, Some(0)), (0, Some(3)), (4, None), (1, None), (99, None)] {
+        expect_equal(&rt, spaces.forward(a), to);
+    }
+    for &(a, f) in &[(0, 0), (0, 1), (0, 2), (4, 0)] {
+        expect_equal(&rt, spaces.held(a, f), None);
+    }
     expect_equal(&rt, spaces.joint.to_space().used(), 7);
+}
+
+/// Two objects of two fields, at 0 and 4: each refers to both. They are placed in this order, and
+/// all that they have is held.
+fn two_held<R: AllocGlobal + Abort>(rt: &R, first: u32, second: u32) -> Spaces {
+    let mut spaces = Spaces::of(rt, [2, 2, 0]);
+    for &(a, f, number, to) in &[(0, 0, 1, 0), (0, 1, 2, 4), (4, 0, 3, 4), (4, 1, 4, 0)] {
+        spaces.store(rt, item(a, f, number, Value::Ref(to)));
+    }
+    spaces.place_new(rt, first);
+    spaces.place_new(rt, second);
+    for &(a, f) in &[(0, 0), (0, 1), (4, 0), (4, 1)] {
+        spaces.hold(rt, a, f);
+    }
+    spaces
+}
+
+/// Checks the two objects after an exchange, by the addresses where they were placed. Nothing is
+/// placed then, and there is room for both again.
+fn expect_exchanged(rt: &impl Abort, spaces: &mut Spaces, to_first: u32, to_second: u32) {
+    for &(a, f, number, to) in &[
+        (to_first, 0, 1, to_first),
+        (to_first, 1, 2, to_second),
+        (to_second, 0, 3, to_second),
+        (to_second, 1, 4, to_first),
+    ] {
+        expect_equal(rt, spaces.pair(rt, a, f), (number, Value::Ref(to)));
+    }
+    expect_equal(rt, (spaces.joint.placed(), spaces.counts()), (0, (0, 0)));
+    expect_equal(rt, spaces.space.used(), 8);
+    expect_equal(rt, spaces.joint.to_space().used(), 0);
+    for &a in &[0, 4] {
+        expect_equal(rt, spaces.forward(a), None);
+    }
+    spaces.place_new(rt, 4);
+    expect_equal(rt, (spaces.forward(4), spaces.counts()), (Some(0), (2, 2)));
 }
 
 #[test]
 fn two_objects_refer_to_each_other(rt: HostRuntime) {
     // Where each is placed, in both orders.
-    for (first, second, to_first, to_second) in [(0, 4, 0, 4), (4, 0, 4, 0)] {
-        let mut spaces = Spaces::of(&rt, [2, 2, 0]);
-        for (a, f, number, to) in [(0, 0, 1, 0), (0, 1, 2, 4), (4, 0, 3, 4), (4, 1, 4, 0)] {
-            spaces.store(&rt, item(a, f, number, Value::Ref(to)));
-        }
-        spaces.place_new(&rt, first);
-        spaces.place_new(&rt, second);
-        for (a, f) in [(0, 0), (0, 1), (4, 0), (4, 1)] {
-            spaces.hold(&rt, a, f);
-        }
+    for &(first, second, to_first, to_second) in &[(0, 4, 0, 4), (4, 0, 4, 0)] {
+        let mut spaces = two_held(&rt, first, second);
         expect_equal(&rt, spaces.counts(), (0, 4));
         expect_equal(&rt, spaces.held(0, 1), Some((2, Value::Ref(4))));
         expect_equal(&rt, spaces.held(4, 1), Some((4, Value::Ref(0))));
-        expect_equal(
-            &rt,
-            (spaces.forward(0), spaces.forward(4)),
-            (Some(to_first), Some(to_second)),
-        );
+        for &(a, to) in &[(0, to_first), (4, to_second)] {
+            expect_equal(&rt, spaces.forward(a), Some(to));
+        }
         spaces.exchange(&rt);
-        expect_equal(
-            &rt,
-            spaces.pair(&rt, to_first, 0),
-            (1, Value::Ref(to_first)),
-        );
-        expect_equal(
-            &rt,
-            spaces.pair(&rt, to_first, 1),
-            (2, Value::Ref(to_second)),
-        );
-        expect_equal(
-            &rt,
-            spaces.pair(&rt, to_second, 0),
-            (3, Value::Ref(to_second)),
-        );
-        expect_equal(
-            &rt,
-            spaces.pair(&rt, to_second, 1),
-            (4, Value::Ref(to_first)),
-        );
-        // Nothing is placed then, and there is room for both again.
-        expect_equal(&rt, (spaces.joint.placed(), spaces.counts()), (0, (0, 0)));
-        expect_equal(
-            &rt,
-            (spaces.space.used(), spaces.joint.to_space().used()),
-            (8, 0),
-        );
-        expect_equal(&rt, (spaces.forward(0), spaces.forward(4)), (None, None));
-        spaces.place_new(&rt, 4);
-        expect_equal(&rt, (spaces.forward(4), spaces.counts()), (Some(0), (2, 2)));
+        expect_exchanged(&rt, &mut spaces, to_first, to_second);
     }
 }
 
 #[test]
 fn the_scan_goes_over_objects_without_fields(rt: HostRuntime) {
     // Each order of placing an object without fields (at 8) among two others (at 0 and 5).
-    for order in [[8, 0, 5], [0, 8, 5], [0, 5, 8]] {
+    for &order in &[[8, 0, 5], [0, 8, 5], [0, 5, 8]] {
         let mut spaces = Spaces::of(&rt, [3, 1, 0]);
         expect_equal(&rt, spaces.next(), None);
         for a in order {
             spaces.place_new(&rt, a);
         }
-        for (object, field) in [(0, 0), (0, 1), (0, 2), (5, 0)] {
+        for &(object, field) in &[(0, 0), (0, 1), (0, 2), (5, 0)] {
             expect_equal(&rt, spaces.next(), Some(Place { object, field }));
         }
         expect_equal(&rt, (spaces.next(), spaces.counts()), (None, (4, 0)));
@@ -310,37 +307,18 @@ fn the_scan_goes_over_objects_without_fields(rt: HostRuntime) {
 #[test]
 fn objects_placed_between_are_dealt_after_the_others(rt: HostRuntime) {
     let mut spaces = Spaces::of(&rt, [1, 0, 2]);
-    spaces.place_new(&rt, 0);
-    expect_equal(
-        &rt,
-        spaces.next(),
-        Some(Place {
-            object: 0,
-            field: 0,
-        }),
-    );
-    expect_equal(&rt, spaces.next(), None);
-    spaces.place_new(&rt, 3);
-    expect_equal(&rt, spaces.next(), None);
-    spaces.place_new(&rt, 5);
-    expect_equal(
-        &rt,
-        spaces.next(),
-        Some(Place {
-            object: 5,
-            field: 0,
-        }),
-    );
-    expect_equal(&rt, spaces.joint.undealt(), 1);
-    expect_equal(
-        &rt,
-        spaces.next(),
-        Some(Place {
-            object: 5,
-            field: 1,
-        }),
-    );
-    expect_equal(&rt, spaces.next(), None);
+    // Each object that is placed, what is dealt then, and how many places are left each time.
+    for &(placed, dealt) in &[
+        (0, [(Some((0, 0)), 0), (None, 0), (None, 0)]),
+        (3, [(None, 0), (None, 0), (None, 0)]),
+        (5, [(Some((5, 0)), 1), (Some((5, 1)), 0), (None, 0)]),
+    ] {
+        spaces.place_new(&rt, placed);
+        for &(place, undealt) in &dealt {
+            let next = spaces.next().map(|place| (place.object, place.field));
+            expect_equal(&rt, (next, spaces.joint.undealt()), (place, undealt));
+        }
+    }
 }
 
 #[test]
@@ -385,7 +363,7 @@ fn a_field_is_stored_to_before_and_after_it_is_held(rt: HostRuntime) {
 #[test]
 fn a_full_space_is_placed_whole(rt: HostRuntime) {
     let mut spaces = Spaces::of(&rt, [4, 22, 0]);
-    for a in [30, 6, 0] {
+    for &a in &[30, 6, 0] {
         spaces.place_new(&rt, a);
     }
     expect_equal(

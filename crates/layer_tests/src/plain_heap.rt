@@ -28,7 +28,7 @@ fn play<A: Allocator + Copy>(rt: &impl Abort, plain: &mut Plain<A>, lines: &[Lin
 
 #[test]
 fn answers_to_commands(rt: HostRuntime) {
-    for lines in [
+    for &lines in &[
         without_fields().as_slice(),
         sharing().as_slice(),
         whole_number_range().as_slice(),
@@ -44,11 +44,11 @@ fn answers_to_commands(rt: HostRuntime) {
 
 #[test]
 fn limits(rt: HostRuntime) {
-    for (owners, slots) in [(0, 1), (17, 1), (1, 0), (1, 257)] {
+    for &(owners, slots) in &[(0, 1), (17, 1), (1, 0), (1, 257)] {
         let bad = Plain::new(rt.alloc(), owners, slots).err();
         expect_equal(&rt, bad, Some(PlainError::BadRoots));
     }
-    for (owners, slots) in [(1, 1), (16, 256)] {
+    for &(owners, slots) in &[(1, 1), (16, 256)] {
         assert!(rt; Plain::new(rt.alloc(), owners, slots).is_ok());
     }
 }

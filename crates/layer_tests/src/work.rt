@@ -5,10 +5,10 @@ use rh_work::{BadRatio, CreditShort, Work};
 
 #[test]
 fn ratios(rt: HostRuntime) {
-    for ratio in [0, 65] {
+    for &ratio in &[0, 65] {
         expect_equal(&rt, Work::new(ratio).err(), Some(BadRatio));
     }
-    for ratio in [1u32, 64] {
+    for &ratio in &[1u32, 64] {
         let mut work = Work::new(ratio).expect(&rt, "a ledger");
         work.grant(3);
         expect_equal(&rt, work.granted(), u64::from(ratio) * 3);

@@ -46,7 +46,7 @@ fn play_of(
 }
 
 /// Arguments, the status, and how what is written to standard output and to standard error begins.
-const CALLS: [(&[&[u8]], u8, &[u8], &[u8]); 12] = [
+const CALLS: &[(&[&[u8]], u8, &[u8], &[u8])] = &[
     (&[b"rheap", b"--version"], 0, b"rheap 0.1.0\n", b""),
     (&[b"rheap", b"--help"], 0, b"A managed heap", b""),
     (&[b"rheap", b"run", b"--help"], 0, b"Runs a trace", b""),
@@ -93,7 +93,7 @@ const CALLS: [(&[&[u8]], u8, &[u8], &[u8]); 12] = [
 
 #[test]
 fn calls_of_the_program(rt: HostRuntime) {
-    for (args, status, out, err) in CALLS {
+    for &(args, status, out, err) in CALLS {
         let (answer, printed, told) = play_of(&rt, args, WITHOUT_FIELDS, false);
         expect_equal(&rt, answer, status);
         expect_prefix(&rt, &printed, out);
@@ -129,7 +129,7 @@ fn runs_to<R: AllocGlobal + Abort>(rt: &R, text: &[u8], status: u8, answers: &[u
 }
 
 /// Traces that can't be run, each with what is told.
-const FAULTS: [(&[u8], &[u8]); 12] = [
+const FAULTS: &[(&[u8], &[u8])] = &[
     (CUT, b"rheap: line 3: Cut\n"),
     (b"", b"rheap: line 1: Empty\n"),
     (b"heap 16 8 4 2 2", b"rheap: line 1: Cut\n"),
@@ -147,7 +147,7 @@ const FAULTS: [(&[u8], &[u8]); 12] = [
 #[test]
 fn statuses_and_texts_of_runs(rt: HostRuntime) -> Result<(), Fail> {
     runs_to(&rt, WITHOUT_FIELDS, 0, WITHOUT_FIELDS_ANSWERS, b"");
-    for (text, told) in FAULTS {
+    for &(text, told) in FAULTS {
         runs_to(&rt, text, 1, b"", told);
     }
     let long = repeated(&rt, b"", b"9", 257)?;

@@ -10,7 +10,7 @@ use std::test::Fail;
 #[test]
 fn runs_tell_which_call_failed(rt: HostRuntime) {
     // The read and the write that fail, how the run ends, and whether each log tells a failed call.
-    for (read, write, fault, told) in [
+    for &(read, write, fault, told) in &[
         (0, 0, None, (false, false)),
         (3, 0, Some(RunFault::Read), (true, false)),
         (0, 2, Some(RunFault::Write), (false, true)),
@@ -53,7 +53,7 @@ fn reads_that_run_out_are_no_failed_read(rt: HostRuntime) {
 #[test]
 fn prints_tell_a_failed_write(rt: HostRuntime) -> Result<(), Fail> {
     let trace = parse(rt.alloc(), WITHOUT_FIELDS).ok().ok_or("a trace")?;
-    for (most, nth, outcome) in [(1000, 0, Ok(())), (1000, 2, Err(Write)), (0, 0, Err(Write))] {
+    for &(most, nth, outcome) in &[(1000, 0, Ok(())), (1000, 2, Err(Write)), (0, 0, Err(Write))] {
         let mut writer = SlowWriter::new(&rt, most, nth);
         let mut writes = Calls::new();
         expect_equal(&rt, print_told(&trace, &mut writer, &mut writes), outcome);

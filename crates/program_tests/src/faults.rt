@@ -5,7 +5,7 @@ use rh_layout::{Command, RootId};
 use rh_trace::{Kind, Line, ParseError, TraceFault, Write};
 
 /// Each kind with the name that the format gives it.
-const KINDS: [(Kind, &str); 8] = [
+const KINDS: &[(Kind, &str)] = &[
     (Kind::Empty, "Empty"),
     (Kind::Long, "Long"),
     (Kind::Cut, "Cut"),
@@ -18,7 +18,7 @@ const KINDS: [(Kind, &str); 8] = [
 
 #[test]
 fn texts_of_faults(rt: HostRuntime) {
-    for (kind, name) in KINDS {
+    for &(kind, name) in KINDS {
         expect_text(&rt, kind, name);
     }
     let fault = TraceFault {

@@ -6,11 +6,15 @@ mod command_line;
 #[cfg(test)]
 mod devices;
 #[cfg(test)]
+mod dumps;
+#[cfg(test)]
 mod expectations;
 #[cfg(test)]
 mod failed_calls;
 #[cfg(test)]
 mod faults;
+#[cfg(test)]
+mod histories;
 #[cfg(test)]
 mod reading;
 #[cfg(test)]

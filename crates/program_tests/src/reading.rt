@@ -100,7 +100,7 @@ fn reads_each_operand(rt: HostRuntime) -> Result<(), Fail> {
 
 #[test]
 fn prints_what_was_parsed(rt: HostRuntime) -> Result<(), Fail> {
-    for text in [KEYWORDS, OPERANDS, BOUNDARY] {
+    for &text in &[KEYWORDS, OPERANDS, BOUNDARY] {
         let trace = parse(rt.alloc(), text).ok().ok_or("a trace")?;
         let mut printed = Vec::new(rt.alloc());
         expect_equal(&rt, print(&trace, &mut printed), Ok(()));
@@ -117,7 +117,7 @@ fn prints_what_was_parsed(rt: HostRuntime) -> Result<(), Fail> {
 }
 
 /// Texts, each with the line and the kind of its first fault.
-const FAULTS_OF_TEXTS: [(&[u8], u32, Kind); 16] = [
+const FAULTS_OF_TEXTS: &[(&[u8], u32, Kind)] = &[
     (b"", 1, Kind::Empty),
     (b"\n", 1, Kind::Form),
     (b"1 drop 1.0\n", 1, Kind::Header),
@@ -137,7 +137,7 @@ const FAULTS_OF_TEXTS: [(&[u8], u32, Kind); 16] = [
 ];
 
 /// Second lines, each with the kind of its fault.
-const FAULTS_OF_LINES: [(&[u8], Kind); 57] = [
+const FAULTS_OF_LINES: &[(&[u8], Kind)] = &[
     (b"\n", Kind::Form),
     (b"1\n", Kind::Form),
     (b"1 grow 1.0\n", Kind::Word),
@@ -198,25 +198,30 @@ const FAULTS_OF_LINES: [(&[u8], Kind); 57] = [
     (b"1 store 1 x 1.\n", Kind::Root),
 ];
 
+/// Checks the fault of a text, and its line.
+fn expect_fault<R: AllocGlobal + Abort>(rt: &R, text: &[u8], line: u32, kind: Kind) {
+    expect_equal(rt, fault_of(rt, text), Some(TraceFault { line, kind }));
+}
+
 #[test]
-fn first_faults(rt: HostRuntime) -> Result<(), Fail> {
-    for (text, line, kind) in FAULTS_OF_TEXTS {
-        expect_equal(&rt, fault_of(&rt, text), Some(TraceFault { line, kind }));
+fn first_faults_of_texts(rt: HostRuntime) {
+    for &(text, line, kind) in FAULTS_OF_TEXTS {
+        expect_fault(&rt, text, line, kind);
     }
-    for (second, kind) in FAULTS_OF_LINES {
+}
+
+#[test]
+fn first_faults_of_lines(rt: HostRuntime) -> Result<(), Fail> {
+    for &(second, kind) in FAULTS_OF_LINES {
         let text = repeated(&rt, b"heap 16 8 4 2 2\n", second, 1)?;
-        expect_equal(
-            &rt,
-            fault_of(&rt, &text),
-            Some(TraceFault { line: 2, kind }),
-        );
+        expect_fault(&rt, &text, 2, kind);
     }
     Ok(())
 }
 
 #[test]
 fn long_lines(rt: HostRuntime) -> Result<(), Fail> {
-    for (bytes, end, kind) in [
+    for &(bytes, end, kind) in &[
         (256, b"".as_slice(), Kind::Cut),
         (256, b"\n".as_slice(), Kind::Header),
         (257, b"".as_slice(), Kind::Long),
@@ -224,11 +229,7 @@ fn long_lines(rt: HostRuntime) -> Result<(), Fail> {
     ] {
         let mut text = repeated(&rt, b"", b"9", bytes)?;
         text.extend_from_slice(end)?;
-        expect_equal(
-            &rt,
-            fault_of(&rt, &text),
-            Some(TraceFault { line: 1, kind }),
-        );
+        expect_fault(&rt, &text, 1, kind);
     }
     Ok(())
 }

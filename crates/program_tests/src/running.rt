@@ -23,7 +23,7 @@ fn run(rt: &impl AllocGlobal, input: &[u8]) -> (Result<Summary, RunFault>, Vec<u
 
 #[test]
 fn answers_and_summaries(rt: HostRuntime) {
-    for (input, answers, commands, refused) in [
+    for &(input, answers, commands, refused) in &[
         (WITHOUT_FIELDS, WITHOUT_FIELDS_ANSWERS, 2, 1),
         (BOUNDARY, BOUNDARY_ANSWERS, 6, 3),
         (WHOLE_NUMBER_RANGE, WHOLE_NUMBER_RANGE_ANSWERS, 8, 2),
@@ -43,7 +43,7 @@ fn answers_and_summaries(rt: HostRuntime) {
 }
 
 /// Texts that aren't run, each with why.
-const NOT_RUN: [(&[u8], RunFault); 7] = [
+const NOT_RUN: &[(&[u8], RunFault)] = &[
     (
         CUT,
         RunFault::Trace(TraceFault {
@@ -61,7 +61,7 @@ const NOT_RUN: [(&[u8], RunFault); 7] = [
 
 #[test]
 fn what_is_not_run_writes_nothing(rt: HostRuntime) {
-    for (text, fault) in NOT_RUN {
+    for &(text, fault) in NOT_RUN {
         let (outcome, written) = run(&rt, text);
         expect_equal(&rt, outcome, Err(fault));
         expect_equal(&rt, written.len(), 0);
@@ -107,7 +107,7 @@ fn each_line_in_one_write(rt: HostRuntime) {
 
 #[test]
 fn failing_reader(rt: HostRuntime) {
-    for nth in [1, 2, 3] {
+    for &nth in &[1, 2, 3] {
         let mut reader = SlowReader::new(BOUNDARY, nth);
         let mut written = Vec::new(rt.alloc());
         let outcome = run_trace(rt.alloc(), &mut reader, &mut written);
@@ -122,7 +122,7 @@ fn reads_end(rt: HostRuntime) {
         line: 1,
         kind: Kind::Empty,
     };
-    for (ends_at, fault) in [
+    for &(ends_at, fault) in &[
         (33_554_432, RunFault::Trace(empty)),
         (33_554_433, RunFault::Read),
     ] {
@@ -136,7 +136,7 @@ fn reads_end(rt: HostRuntime) {
 
 #[test]
 fn interrupted_writes_are_made_again(rt: HostRuntime) {
-    for (always, fault, answers, writes) in [
+    for &(always, fault, answers, writes) in &[
         (false, None, WITHOUT_FIELDS_ANSWERS, 6),
         (true, Some(RunFault::Write), b"".as_slice(), 33_554_432),
     ] {
@@ -157,7 +157,7 @@ fn interrupted_writes_are_made_again(rt: HostRuntime) {
 fn failing_writer(rt: HostRuntime) {
     // The bytes of a write that are taken, the write that fails, what is written by then, and how
     // many writes were asked for. One that takes no byte isn't made again.
-    for (most, nth, prefix, writes) in [
+    for &(most, nth, prefix, writes) in &[
         (1000, 1, b"".as_slice(), 1),
         (1000, 2, b"object 0\n".as_slice(), 2),
         (1000, 3, b"object 0\nrefused NoField\n".as_slice(), 3),
