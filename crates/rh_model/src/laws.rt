@@ -25,11 +25,11 @@ ghost use Rattle.rh_layout.specs.declared.command.RootId.{RootId};
 ghost use Rattle.rh_layout.specs.declared.refusal.Refusal.{Refusal};
 ghost use Rattle.rh_layout.specs.declared.value.Value.{Value};
 ghost use Rattle.rh_layout.specs.declared.value.Value.TheVariants.{Nil, Int, Ref};
-ghost use Rattle.rh_layout.specs.Refusal.{number_of};
+ghost use Rattle.rh_layout.specs.Refusal.{rank_of};
 ghost use Rattle.rh_model.specs.Effects.{
   IsObject,
   RefersToObjects,
-  IsWellFormed,
+  IsPlainHeap,
   HoldsField,
   TellsValue,
   RootTakes,
@@ -38,7 +38,8 @@ ghost use Rattle.rh_model.specs.Effects.{
   StoresField,
   TellsSame,
 };
-ghost use Rattle.rh_model.specs.Graph.{Graph, root_value, fields_at, refusal_of, reply_to, same_value};
+ghost use Rattle.rh_model.specs.Graph.{Graph, root_value, value_fields, refusal_of, reply_to};
+ghost use Rattle.rh_model.specs.Graph.{same_value};
 ghost use Rattle.rh_model.specs.Plain.{PlainHeap, empty_plain, graph_of, step};
 ghost use Rattle.rh_model.specs.SameGraph.{SameGraph, IsPairing};
 ghost use Rattle.rh_model.specs.Reach.{Reached};
@@ -116,7 +117,7 @@ pub fn refusals_come_in_order()
     ensures least { (g : Graph) (owner : ℕ) (command : Command) (refusal : Refusal)
         → refusal_of g owner command ≡ Some refusal → RefusalHolds g owner command refusal
         × ((other : Refusal) → RefusalHolds g owner command other
-        → number_of refusal ≤ number_of other) }
+        → rank_of refusal ≤ rank_of other) }
     ensures none { (g : Graph) (owner : ℕ) (command : Command) → refusal_of g owner command ≡ None
         → (refusal : Refusal) → ¬ RefusalHolds g owner command refusal }
 {}
@@ -149,21 +150,21 @@ pub fn a_new_plain_heap_is_empty()
 /// A value has fields exactly where it refers to an object, and then they are that object's.
 pub fn a_reference_has_its_objects_fields()
     ensures { (g : Graph) (v : Value) (fields : List Value)
-        → (fields_at g v ≡ Some fields)
+        → (value_fields g v ≡ Some fields)
         ↔ ((a : ℕ) × (v ≡ Ref a) × (g.fields a ≡ Some fields)) }
 {}
 
 /// A new plain heap is well formed, and each command of each owner leaves a well-formed one so.
 pub fn plain_heaps_stay_well_formed()
-    ensures empty { (owners slots : ℕ) → IsWellFormed (empty_plain owners slots) }
-    ensures step { (p : PlainHeap) → IsWellFormed p → (owner : ℕ) (command : Command)
-        → IsWellFormed (step p owner command).0 }
+    ensures empty { (owners slots : ℕ) → IsPlainHeap (empty_plain owners slots) }
+    ensures step { (p : PlainHeap) → IsPlainHeap p → (owner : ℕ) (command : Command)
+        → IsPlainHeap (step p owner command).0 }
 {}
 
 /// An accepted `Alloc` makes an object that was none before and that nothing referred to, of the
 /// number of fields asked for, all nil; the root names it, and all else stays.
 pub fn alloc_makes_an_object()
-    ensures { (p q : PlainHeap) → IsWellFormed p
+    ensures { (p q : PlainHeap) → IsPlainHeap p
         → (owner : ℕ) (dst : RootId) (fields : ℕ) (reply : Reply)
         → step p owner (commands.Alloc dst fields) ≡ (q, Ok reply)
         → (reply ≡ replies.Object fields) × MakesObject (graph_of p) (graph_of q) dst fields }
@@ -172,7 +173,7 @@ pub fn alloc_makes_an_object()
 /// After an accepted `Load` the root `dst` holds what the field held of the object that `src`
 /// named, the reply tells that value, and all else stays.
 pub fn load_reads_a_field()
-    ensures { (p q : PlainHeap) → IsWellFormed p
+    ensures { (p q : PlainHeap) → IsPlainHeap p
         → (owner : ℕ) (dst src : RootId) (field : ℕ) (reply : Reply)
         → step p owner (commands.Load dst src field) ≡ (q, Ok reply)
         → LoadsField (graph_of p) (graph_of q) dst src field reply }
@@ -181,15 +182,15 @@ pub fn load_reads_a_field()
 /// After an accepted `Store` the field of the object that `obj` names holds nil, the number, or
 /// what the operand's root holds, and all else stays.
 pub fn store_writes_a_field()
-    ensures nil { (p q : PlainHeap) → IsWellFormed p
+    ensures nil { (p q : PlainHeap) → IsPlainHeap p
         → (owner : ℕ) (obj : RootId) (field : ℕ) (reply : Reply)
         → step p owner (commands.Store obj field operands.Nil) ≡ (q, Ok reply)
         → (reply ≡ replies.Done) × StoresField (graph_of p) (graph_of q) obj field Nil }
-    ensures number { (p q : PlainHeap) → IsWellFormed p
+    ensures number { (p q : PlainHeap) → IsPlainHeap p
         → (owner : ℕ) (obj : RootId) (field : ℕ) (n : ℤ) (reply : Reply)
         → step p owner (commands.Store obj field (operands.Int n)) ≡ (q, Ok reply)
         → (reply ≡ replies.Done) × StoresField (graph_of p) (graph_of q) obj field (Int n) }
-    ensures root { (p q : PlainHeap) → IsWellFormed p
+    ensures root { (p q : PlainHeap) → IsPlainHeap p
         → (owner : ℕ) (obj : RootId) (field : ℕ) (src : RootId) (reply : Reply)
         → step p owner (commands.Store obj field (operands.Root src)) ≡ (q, Ok reply)
         → (reply ≡ replies.Done)
@@ -199,7 +200,7 @@ pub fn store_writes_a_field()
 /// After an accepted `Copy` the root `dst` holds what `src` held, the reply tells that value, and
 /// all else stays.
 pub fn copy_copies_a_root()
-    ensures { (p q : PlainHeap) → IsWellFormed p
+    ensures { (p q : PlainHeap) → IsPlainHeap p
         → (owner : ℕ) (dst src : RootId) (reply : Reply)
         → step p owner (commands.Copy dst src) ≡ (q, Ok reply)
         → RootTakes (graph_of p) (graph_of q) dst (root_value (graph_of p) src)
@@ -215,7 +216,7 @@ pub fn same_compares_two_roots()
 
 /// After an accepted `Drop` the root holds nil, and all else stays.
 pub fn drop_makes_a_root_nil()
-    ensures { (p q : PlainHeap) → IsWellFormed p
+    ensures { (p q : PlainHeap) → IsPlainHeap p
         → (owner : ℕ) (root : RootId) (reply : Reply)
         → step p owner (commands.Drop root) ≡ (q, Ok reply)
         → (reply ≡ replies.Done) × RootTakes (graph_of p) (graph_of q) root Nil }
