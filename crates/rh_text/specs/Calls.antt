@@ -4,7 +4,8 @@ use Rattle.std.specs.IoError.{error_kind}
 use Rattle.std.specs.declared.io.Error.{Error}
 use Rattle.std.specs.declared.io.ErrorKind.TheVariants.{Interrupted}
 
--- What is known of the calls of one reader or one writer: whether one failed, and how many may still be made.
+-- What is known of the calls of one reader or one writer: whether one failed, and how many may
+-- still be made.
 pub record CallsState : Type 0 where
   pub failed : Bool
   pub left : ℕ
@@ -18,7 +19,8 @@ abbrev pub IsFailedRead : Result ℕ Error → Type 0
 IsFailedRead (Ok n) = ⊥
 IsFailedRead (Err error) = error_kind error ≢ Interrupted
 
--- a write fails where it answers an error and was not interrupted, or where it takes no byte of some
+-- a write fails where it answers an error and was not interrupted, or where it takes no byte of
+-- some
 abbrev pub IsFailedWrite : Result ℕ Error → List ℕ → Type 0
 IsFailedWrite (Ok n) bytes = (n ≡ 0) × (0 < length bytes)
 IsFailedWrite (Err error) bytes = error_kind error ≢ Interrupted

@@ -1,7 +1,7 @@
 -- A line is cut into parts: what stands between its spaces.
-use Rattle.std.specs.Prelude.{ℕ, Bool, true, false, List, [], ◌∷◌, ◌++◌, Option, Some, None, nat_le, ◌==◌, ◌&&◌, not, if◌then◌else◌}
+use Rattle.std.specs.Prelude.{ℕ, ◌≤◌, ◌≢◌, Bool, true, false, List, [], ◌∷◌, ◌++◌, Option, Some, None, nat_le, ◌==◌, ◌&&◌, not, if◌then◌else◌}
 use Rattle.std.specs.Option.{option_map}
-use Rattle.std.specs.List.{slice_split, join_with_byte, list_all, list_any}
+use Rattle.std.specs.List.{slice_split, join_with_byte, list_all, list_any, AllByRecursion}
 use Rattle.std.specs.Borrow.{Bor}
 
 -- the parts of a line
@@ -25,6 +25,15 @@ is_filled (b ∷ bs) = true
 unfoldable pub is_formed : List ℕ → Bool
 is_formed line = list_all is_printable line && list_all is_filled (parts_of line)
 
+-- a byte that a line may have
+abbrev pub IsPrintable : ℕ → Type 0
+IsPrintable b = (32 ≤ b) × (b ≤ 126)
+
+-- a line of printable bytes, none of whose parts is empty
+abbrev pub IsFormedLine : List ℕ → Type 0
+IsFormedLine line =
+    AllByRecursion IsPrintable line × AllByRecursion (λ part. part ≢ []) (parts_of line)
+
 -- the byte may come next in a line: it is printable, and no space where the part so far is empty
 abbrev pub may_follow : ℕ → Bool → Bool
 may_follow byte part_empty = is_printable byte && not (byte == 32 && part_empty)
@@ -32,7 +41,8 @@ may_follow byte part_empty = is_printable byte && not (byte == 32 && part_empty)
 -- what stands before the first byte c, and what stands after it
 abbrev pub cut_at : ℕ → List ℕ → Option (List ℕ × List ℕ)
 cut_at c [] = None
-cut_at c (b ∷ bs) = if b == c then Some ([], bs) else option_map (λ cut. (b ∷ cut.0, cut.1)) (cut_at c bs)
+cut_at c (b ∷ bs) =
+    if b == c then Some ([], bs) else option_map (λ cut. (b ∷ cut.0, cut.1)) (cut_at c bs)
 
 -- the part has a dot
 abbrev pub has_dot : List ℕ → Bool
@@ -89,7 +99,8 @@ three_parts parts = do
   Some (a.0, b.0, c.0)
 
 -- just six parts
-unfoldable pub six_parts : List (List ℕ) → Option (List ℕ × List ℕ × List ℕ × List ℕ × List ℕ × List ℕ)
+unfoldable pub six_parts : List (List ℕ)
+    → Option (List ℕ × List ℕ × List ℕ × List ℕ × List ℕ × List ℕ)
 six_parts parts = do
   a ← first_and_rest parts
   b ← first_and_rest a.1

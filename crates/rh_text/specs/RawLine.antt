@@ -14,7 +14,8 @@ onto_line b (l ∷ ls) = record { bytes = b ∷ l.bytes; ended = l.ended } ∷ l
 -- the raw lines of a text
 abbrev pub lines_of : List ℕ → List RawLine
 lines_of [] = []
-lines_of (b ∷ bs) = if b == 10 then record { bytes = []; ended = true } ∷ lines_of bs else onto_line b (lines_of bs)
+lines_of (b ∷ bs) =
+    if b == 10 then record { bytes = []; ended = true } ∷ lines_of bs else onto_line b (lines_of bs)
 
 -- the bytes of a raw line, and its line end where it has one
 abbrev pub raw_text : RawLine → List ℕ

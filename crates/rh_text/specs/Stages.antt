@@ -18,22 +18,27 @@ abbrev pub ◌▸◌ : {K : Type 0} → (K → Type 0) → (ℕ → K → Type 0
 (first ▸ others) (suc place) kind = others place kind
 
 -- the faults of raw lines that are numbered from this number on: those of each line, by its number
-abbrev pub in_lines : {K : Type 0} → (ℕ → RawLine → ℕ → K → Type 0) → ℕ → List RawLine → ℕ → ℕ → K → Type 0
+abbrev pub in_lines : {K : Type 0} → (ℕ → RawLine → ℕ → K → Type 0) → ℕ → List RawLine → ℕ → ℕ → K
+    → Type 0
 in_lines faults number [] line place kind = ⊥
-in_lines faults number (l ∷ ls) line place kind = ((line ≡ number) × faults number l place kind) ⊎ in_lines faults (number + 1) ls line place kind
+in_lines faults number (l ∷ ls) line place kind =
+    ((line ≡ number) × faults number l place kind) ⊎ in_lines faults (number + 1) ls line place kind
 
 -- no fault holds anywhere in a line
 abbrev pub IsFaultless : {K : Type 0} → (ℕ → K → Type 0) → Type 0
 IsFaultless {K = K} faults = (place : ℕ) (kind : K) → ¬ faults place kind
 
--- the kind of fault that comes first: it holds at a place, and any other that holds stands at a later place, or is the same
+-- the kind of fault that comes first: it holds at a place, and any other that holds stands at a
+-- later place, or is the same
 pub record IsLeast {K : Type 0} (Holds : ℕ → K → Type 0) (kind : K) : Type 0 where
   pub place : ℕ
   pub holds : Holds place kind
   pub least : (p : ℕ) (k : K) → Holds p k → (place < p) ⊎ ((p ≡ place) × (k ≡ kind))
 
--- the fault of lines that comes first: it holds on this line at a place, and any other that holds is on a later line, or on this line at a later place, or is the same
+-- the fault of lines that comes first: it holds on this line at a place, and any other that holds
+-- is on a later line, or on this line at a later place, or is the same
 pub record IsFirst {K : Type 0} (Holds : ℕ → ℕ → K → Type 0) (line : ℕ) (kind : K) : Type 0 where
   pub place : ℕ
   pub holds : Holds line place kind
-  pub first : (n p : ℕ) (k : K) → Holds n p k → (line < n) ⊎ ((n ≡ line) × ((place < p) ⊎ ((p ≡ place) × (k ≡ kind))))
+  pub first : (n p : ℕ) (k : K) → Holds n p k → (line < n)
+      ⊎ ((n ≡ line) × ((place < p) ⊎ ((p ≡ place) × (k ≡ kind))))

@@ -1,8 +1,10 @@
 pub mod Appends
 pub mod Cuts
+pub mod Formed
 pub mod Numbers
 pub mod Integers
 pub mod Joins
 pub mod Roots
 pub mod RawLines
 pub mod Stages
+pub mod Steps

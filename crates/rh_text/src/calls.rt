@@ -46,6 +46,16 @@ impl Calls {
         }
     }
 
+    /// The log of a reader before its first call: so many calls may be made.
+    pub fn limited(limit: u32) -> Calls
+        ensures { result ≡ record no_calls { left = limit } }
+    {
+        Calls {
+            failed: false,
+            left: limit,
+        }
+    }
+
     /// Whether a call failed.
     pub fn has_failed(&self) -> bool
         ensures { result ≡ self.now.failed }

@@ -1,8 +1,8 @@
 //! An input read whole.
 
-ghost use Rattle.std.specs.Prelude.{◌≡◌, ◌++◌, ◌+◌, ◌<◌, ◌≤◌, length, false, OnOk, IsErrOf};
+ghost use Rattle.std.specs.Prelude.{◌≡◌, ◌++◌, ◌+◌, ◌<◌, ◌≤◌, length, false, IfOk, OnOk, IsErrOf};
 ghost use Rattle.rh_text.specs.Calls.{AreSpent};
-ghost use Rattle.rh_text.specs.Input.{ReadsAll};
+ghost use Rattle.rh_text.specs.Input.{ReadsAll, ReadsPast};
 
 use crate::calls::{Calls, is_interrupted};
 use rh_layout::limits::MAX_INPUT_BYTES;
@@ -16,10 +16,11 @@ const CHUNK: usize = 65_536;
 /// Why an input could not be read whole.
 #[derive(Clone, Copy, Debug, PartialEq, Eq, Error)]
 pub enum InputFault {
-    /// A read failed, or 33,554,432 reads didn't come to the end.
+    /// A read failed, or as many as may be made didn't come to the end: 33,554,432 of a trace or a
+    /// history, 536,870,912 of a dump.
     #[error("read failed")]
     Read,
-    /// The input has more than 16,777,216 bytes.
+    /// The input has more than 16,777,216 bytes; never of an input that is read past a limit.
     #[error("too long")]
     Long,
     /// The allocator refused memory for the bytes.
@@ -77,6 +78,52 @@ pub fn read_all<A: Allocator + Copy, R: io::Read>(
                 if !is_interrupted(&error) {
                     return Err(InputFault::Read);
                 }
+            }
+        }
+    }
+    Err(InputFault::Read)
+}
+
+/// Reads all that a reader has, or more than `limit` bytes of it, at most 65,536 more. A read that
+/// was interrupted is made again, and counts.
+///
+/// # Errors
+///
+/// `Read` where a read failed, or no more may be made and none came to the end; `OutOfMemory` where
+/// the allocator refused memory for the bytes. Never `Long`.
+pub fn read_past<A: Allocator + Copy, R: io::Read>(
+    alloc: A,
+    reader: &mut R,
+    reads: &mut Calls,
+    limit: usize,
+) -> Result<Vec<u8, A>, InputFault>
+    requires { reads.old.failed ≡ false }
+    ensures bytes { ReadsPast limit (R.remaining reader.old) (R.remaining reader.new)
+        (λ v. v.items) result }
+    ensures few { IfOk result (λ text. length text.items ≤ limit + 65536) }
+    ensures never_long { ¬ IsErrOf result InputFault.Long }
+    // As of `read_all`.
+    ensures failed { IsErrOf result InputFault.Read → AreSpent reads.new }
+    ensures none_failed { ¬ IsErrOf result InputFault.Read → reads.new.failed ≡ false }
+{
+    let mut text = Vec::new(alloc);
+    let mut chunk = [0; CHUNK];
+    while reads.left() > 0 {
+        match reads.read(reader, &mut chunk) {
+            Ok(0) => return Ok(text),
+            Ok(n) => {
+                if text.extend_from_slice(&chunk[..n]).is_err() {
+                    return Err(InputFault::OutOfMemory);
+                }
+                if text.len() > limit {
+                    return Ok(text);
+                }
+            }
+            Err(error) => {
+                if is_interrupted(&error) {
+                    continue;
+                }
+                return Err(InputFault::Read);
             }
         }
     }

@@ -1,11 +1,13 @@
 //! Laws of the definitions alone. Each function does nothing: its contract is the law.
 
-ghost use Rattle.std.specs.Prelude.{◌≡◌, ◌↔◌, ℕ, ℤ, List, Some, decimal};
+ghost use Rattle.std.specs.Prelude.{◌≡◌, ◌↔◌, ℕ, ℤ, ◌+◌, ◌<◌, true, false, List, Some, Contains};
+ghost use Rattle.std.specs.Prelude.{decimal, length, slice_get};
 ghost use Rattle.std.specs.Fmt.{signed_decimal};
 ghost use Rattle.std.specs.List.{flat_map};
 ghost use Rattle.rh_layout.specs.declared.command.RootId.{RootId};
 ghost use Rattle.rh_text.specs.Number.{IsI64, IsU32, integer_of, number_of};
-ghost use Rattle.rh_text.specs.RawLine.{lines_of, raw_text};
+ghost use Rattle.rh_text.specs.Parts.{IsFormedLine, is_formed};
+ghost use Rattle.rh_text.specs.RawLine.{RawLine, lines_of, raw_text};
 ghost use Rattle.rh_text.specs.Root.{RootFits, root_of, root_text};
 
 /// A part says a number exactly where it is the one decimal of a number that fits, and so with
@@ -19,7 +21,22 @@ pub fn parts_say_what_they_spell()
         → (root_of part ≡ Some r) ↔ ((part ≡ root_text r) × RootFits r) }
 {}
 
-/// The raw lines of a text, each with its line end where it has one, are the text.
+/// A line is found to be formed exactly where all its bytes are printable and none of its parts is
+/// empty.
+pub fn formed_lines_are_well_formed()
+    ensures { (line : List ℕ) → (is_formed line ≡ true) ↔ IsFormedLine line }
+{}
+
+/// The raw lines of a text, each with its line end where it has one, are the text. They are cut at
+/// line ends alone: no raw line has a line end among its bytes, each but the last is ended, and one
+/// that isn't ended has a byte.
 pub fn raw_lines_make_up_the_text()
-    ensures { (bytes : List ℕ) → flat_map raw_text (lines_of bytes) ≡ bytes }
+    ensures text { (bytes : List ℕ) → flat_map raw_text (lines_of bytes) ≡ bytes }
+    ensures within { (bytes : List ℕ) (l : RawLine) → Contains (lines_of bytes) l
+        → ¬ Contains l.bytes 10 }
+    ensures ended { (bytes : List ℕ) (i : ℕ) (l : RawLine)
+        → slice_get (lines_of bytes) i ≡ Some l → i + 1 < length (lines_of bytes)
+        → l.ended ≡ true }
+    ensures filled { (bytes : List ℕ) (l : RawLine) → Contains (lines_of bytes) l
+        → l.ended ≡ false → 0 < length l.bytes }
 {}

@@ -1,4 +1,5 @@
-//! Texts of lines: an input read whole, its lines, parts and numbers, and a text sent whole.
+//! Texts of lines: an input read whole, its lines, parts and numbers, a line as it is made, and a
+//! text sent whole.
 //!
 //! What reads and writes is told of in a log of the calls, so that a contract can speak of a call
 //! that failed.
@@ -7,6 +8,7 @@
 mod calls;
 mod input;
 pub mod laws;
+mod line_text;
 mod number;
 mod output;
 mod parts;
@@ -14,7 +16,8 @@ mod raw_line;
 mod root;
 
 pub use calls::{Calls, is_interrupted};
-pub use input::{InputFault, read_all};
+pub use input::{InputFault, read_all, read_past};
+pub use line_text::LineText;
 pub use number::{read_integer, read_number};
 pub use output::{Write, send};
 pub use parts::{

@@ -10,7 +10,7 @@ use std::str;
 const MAX_DIGITS: usize = 10;
 
 /// The greatest number of 32 bits.
-const MAX_NUMBER: u64 = 4_294_967_295;
+const MAX_READ_NUMBER: u64 = 4_294_967_295;
 
 /// The number from 0 to 4,294,967,295 of which the part is the decimal.
 pub fn read_number(part: &[u8]) -> Option<u32>
@@ -32,7 +32,7 @@ pub fn read_number(part: &[u8]) -> Option<u32>
         }
         number = number * 10 + u64::from(*digit - b'0');
     }
-    if number > MAX_NUMBER {
+    if number > MAX_READ_NUMBER {
         return None;
     }
     Some(number as u32)

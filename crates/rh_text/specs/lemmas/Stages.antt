@@ -5,23 +5,12 @@ use Rattle.std.proofs.lemmas.Bool.{false≢true}
 use Rattle.rh_text.specs.RawLine.{RawLine}
 use Rattle.rh_text.specs.Steps.{◌>>=◌, or_fault, with_fault}
 use Rattle.rh_text.specs.Stages.{◌when◌, no_fault, ◌▸◌, in_lines, IsLeast, IsFirst}
+use Rattle.rh_text.specs.lemmas.Steps.{ok_err, err_ok, err_is}
 
 -- what was read is judged right by the faults of a line: where it is read none holds, and the kind that is found comes first
 pub record Judges {K A : Type 0} (faults : ℕ → K → Type 0) (r : Result A K) : Type 0 where
   pub none : (x : A) → r ≡ Ok x → (p : ℕ) (k : K) → faults p k → ⊥
   pub least : (kind : K) → r ≡ Err kind → IsLeast faults kind
-
-ok_err : {A K : Type 0} (x : A) (k : K) → ◌≡◌ {A = Result A K} (Ok x) (Err k) → ⊥
-ok_err x k e = cc
-
-err_ok : {A K : Type 0} (x : A) (k : K) → ◌≡◌ {A = Result A K} (Err k) (Ok x) → ⊥
-err_ok x k e = cc
-
-err_is : {A K : Type 0} (k j : K) → ◌≡◌ {A = Result A K} (Err k) (Err j) → k ≡ j
-err_is k j e = cc
-
-ok_is : {A K : Type 0} (x y : A) → ◌≡◌ {A = Result A K} (Ok x) (Ok y) → x ≡ y
-ok_is x y e = cc
 
 -- nothing more is looked at
 pub judges-end : {K A : Type 0} (x : A) → Judges {K = K} no_fault (Ok x)

@@ -41,8 +41,8 @@ loop-digit-preserved c =
       leading = i.leading;
     }
 
-pub returns-then-number-gt-MAX_NUMBER : goal.returns-then-number-gt-MAX_NUMBER
-returns-then-number-gt-MAX_NUMBER c = too_large c.args.part.now c.loop-digit.digit-index c.loop-digit.number c.loop-digit-test.false c.loop-digit.invariant.reads (omega arith)
+pub returns-then-number-gt-MAX_READ_NUMBER : goal.returns-then-number-gt-MAX_READ_NUMBER
+returns-then-number-gt-MAX_READ_NUMBER c = too_large c.args.part.now c.loop-digit.digit-index c.loop-digit.number c.loop-digit-test.false c.loop-digit.invariant.reads (omega arith)
 
 pub returns : goal.returns
 returns c =
