@@ -1,12 +1,12 @@
 -- The fault that reading finds comes first in the order of the format.
-use Rattle.std.proofs.Common.{◌≡◌, ℕ, ℤ, pos, negsuc, suc, ◌+◌, ◌^◌, ◌<◌, ◌≤◌, ◌⊎◌, Bool, true, false, cond, ltb, leb, eqb, not, ◌||◌, ◌&&◌, List, [], ◌∷◌, ◌++◌, length, Option, Some, None, Result, Ok, Err, refl, sym, ap, subst, ◌∙◌, arith, inl, inr}
+use Rattle.std.proofs.Common.{◌≡◌, ℕ, ℤ, pos, negsuc, suc, ◌+◌, ◌^◌, ◌<◌, ◌≤◌, ◌⊎◌, Bool, true, false, cond, ltb, eqb, not, ◌||◌, ◌&&◌, List, [], ◌∷◌, ◌++◌, length, Option, Some, None, Result, Ok, Err, refl, sym, ap, subst, ◌∙◌, arith, inl, inr}
 use Rattle.std.specs.Bool.{Decides}
 use Rattle.std.specs.Prelude.{codes, decimal, map, ⊤}
 use Rattle.std.specs.Fmt.{signed_decimal}
-use Rattle.std.specs.List.{AllByRecursion, list_all, join_with_byte}
+use Rattle.std.specs.List.{AllByRecursion, join_with_byte}
 use Rattle.std.specs.Str.{bytes_eq}
 use Rattle.std.proofs.lemmas.Fmt.{decimal_injective}
-use Rattle.std.proofs.lemmas.Bool.{false≢true, and_parts, and_from, leb-true, le-leb, ltb-true, ltb-false, lt-ltb, eqb-true, eq-eqb}
+use Rattle.std.proofs.lemmas.Bool.{false≢true, ltb-true, ltb-false, lt-ltb, eqb-true, eq-eqb}
 use Rattle.std.proofs.lemmas.Bool.Decides.{Decides-or, Decides-ltb, Decides-not, Decides-eqb}
 use Rattle.std.proofs.lemmas.Slice.Eq.{bytes_eq-Decides}
 use Rattle.rh_layout.specs.declared.value.Value.{Value}
@@ -14,32 +14,33 @@ use Rattle.rh_layout.specs.declared.value.Value.TheVariants.{Nil, Int, Ref}
 use Rattle.rh_layout.specs.declared.command.RootId.{RootId}
 use Rattle.rh_layout.specs.Word.{IsWhole}
 use Rattle.rh_text.specs.Number.{number_of}
-use Rattle.rh_text.specs.Parts.{parts_of, is_formed, is_printable, is_filled, two_parts}
+use Rattle.rh_text.specs.Parts.{parts_of, is_formed, two_parts, IsFormedLine}
 use Rattle.rh_text.specs.RawLine.{RawLine, lines_of, raw_text}
 use Rattle.rh_text.specs.Root.{root_of, root_text}
 use Rattle.rh_text.specs.Stages.{◌when◌, no_fault, ◌▸◌, IsFirst, IsLeast}
 use Rattle.rh_text.specs.Steps.{◌>>=◌, or_fault, with_fault}
+use Rattle.rh_text.specs.lemmas.Cuts.{some_is}
+use Rattle.rh_text.specs.lemmas.Formed.{is_formed-Decides, not_ended}
 use Rattle.rh_text.specs.lemmas.Numbers.{number_of-decimal}
 use Rattle.rh_text.specs.lemmas.Roots.{root_of-text}
 use Rattle.rh_text.specs.lemmas.Stages.{Judges, JudgesLines, judges-end, judges-here, judges-later, judges-test, judges-found, judges-line, judges-made, judges-step}
+use Rattle.rh_text.specs.lemmas.Steps.{none_some, bind_bind}
 use Rattle.rh_dump.specs.declared.due.Due.{Due}
 use Rattle.rh_dump.specs.declared.due.Due.TheVariants as dues
 use Rattle.rh_dump.specs.declared.fault.DumpKind.{DumpKind}
 use Rattle.rh_dump.specs.declared.fault.DumpKind.TheVariants.{Long, End, Header, Trailing, Form, Number, Order, Count}
 use Rattle.rh_dump.specs.declared.fault.DumpFault.{DumpFault}
 use Rattle.rh_dump.specs.Dump.{GraphState, met_with, met_after, IsTold, IsRootBefore, IsRootAfter, IsGraph}
-use Rattle.rh_dump.specs.Faults.{met_with_reference, number_or_none, met_with_part, met_with_parts, due_after_parts, IsPrintable, IsWellFormed, IsNumberUpTo, IsWholePart, IsRootPart, RefersTo, BeginsWithAt, value_faults, values_faults, count_faults, root_faults, object_faults, due_faults, line_faults, end_faults, faults_from, dump_faults}
-use Rattle.rh_dump.specs.Line.{DumpLine, header_line, roots_line, root_line, objects_line, object_line, end_line, value_text, line_parts, root_due, object_due, due_after, text_of}
+use Rattle.rh_dump.specs.Faults.{met_with_reference, number_or_none, met_with_part, met_with_parts, due_after_parts, IsNumberUpTo, IsWholePart, IsRootPart, RefersTo, BeginsWithAt, value_faults, values_faults, count_faults, root_faults, object_faults, due_faults, line_faults, end_faults, faults_from, dump_faults}
+use Rattle.rh_dump.specs.Line.{DumpLine, header_line, roots_line, root_line, objects_line, object_line, end_line, value_text, dump_line_parts, root_due, object_due, due_after, dump_text}
 use Rattle.rh_dump.specs.Part.{number_up_to, whole_of, small_root_of, after_at, object_head, reference_of}
 use Rattle.rh_dump.specs.Reading.{formed_parts, part_after, number_or_fault, roots_of_parts, objects_of_parts, reference_or_fault, whole_or_fault, reference_or_whole, value_or_fault, values_or_fault, is_root_before, is_root_after, root_or_fault, root_of_parts, own_number, fields_or_fault, object_of_parts, line_due, line_or_kind, fault_at, end_or_fault, lines_from, graph_of, graph_within, graph_of_text}
 use Rattle.rh_dump.proofs.PartMeans.{number_up_to-means, whole_of-means, small_root_of-means, after_at-means, reference_of-plain, reference_of-at, object_head-at, object_head-plain, object_head-one}
 use Rattle.rh_dump.proofs.SpelledIsRead.{number_up_to-decimal, whole_of-decimal, small_root_of-text, plain_integer, is_after_true, met_there, met_after_grows}
-use Rattle.rh_dump.proofs.ReadIsSpelled.{line_means, raw_due, is_after-means, Fits, IsDue, due_after_small, graph_within-means}
+use Rattle.rh_dump.specs.Putting.{IsDue}
+use Rattle.rh_dump.proofs.ReadIsSpelled.{line_means, raw_due, is_after-means, Fits, due_after_small, graph_within-means}
 
 -- ---- stages of this reader
-
-none_some : {A : Type 0} (o : Option A) (x : A) → o ≡ None → o ≡ Some x → ⊥
-none_some o x e f = let clash : ◌≡◌ {A = Option _} None (Some x) = sym e ∙ f in absurd cc
 
 -- a test that must be passed, and then the other steps
 judges-unless : {A B : Type 0} (t : Bool) (kind : DumpKind) (Q : Type 0) (others : ℕ → DumpKind → Type 0) (x : A) (f : A → Result B DumpKind) → Decides t Q → (Q → Judges others (f x)) → Judges (kind when (Q → ⊥) ▸ others) (cond t (Ok x) (Err kind) >>= f)
@@ -54,11 +55,6 @@ judges-unless_last false kind Q others r d next = judges-here kind (Q → ⊥) o
 judges-found_last : {A : Type 0} (o : Option A) (kind : DumpKind) (P : Type 0) (others : ℕ → DumpKind → Type 0) → (o ≡ None → P) → ((x : A) → o ≡ Some x → P → ⊥) → ((x : A) → o ≡ Some x → Judges others (Ok x)) → Judges (kind when P ▸ others) (or_fault o kind)
 judges-found_last None kind P others lacks fails next = judges-here kind P others (lacks refl)
 judges-found_last (Some x) kind P others lacks fails next = judges-later kind P others (Ok x) (fails x refl) (next x refl)
-
--- one step after another
-bind_bind : {A B C : Type 0} (r : Result A DumpKind) (g : A → Result B DumpKind) (f : B → Result C DumpKind) → ((r >>= g) >>= f) ≡ (r >>= λ x. g x >>= f)
-bind_bind (Ok x) g f = refl
-bind_bind (Err kind) g f = refl
 
 -- ---- numbers
 
@@ -219,15 +215,12 @@ root_number a = ((r : RootId) × IsRootPart a r) → ⊥
 abbrev root_order : Option RootId → List ℕ → Type 0
 root_order last a = (r : RootId) × IsRootPart a r × (IsRootAfter last r → ⊥)
 
-some_same : {A : Type 0} (x y : A) → ◌≡◌ {A = Option A} (Some x) (Some y) → x ≡ y
-some_same x y e = cc
-
 module _ (last : Option RootId) (met : ℕ) (a b : List ℕ) where
   root_after : (t : Bool) (r : RootId) → is_root_after last r ≡ t → small_root_of a ≡ Some r → Judges (Order when (root_order last a) ▸ value_faults 16777216 met b no_fault) (cond t (Ok r) (Err Order) >>= λ root. value_or_fault 16777216 met b >>= λ v. told_root root v)
   root_after true r e is =
       judges-later Order (root_order last a) (value_faults 16777216 met b no_fault) (value_or_fault 16777216 met b >>= λ v. told_root r v)
       (λ h.
-      let same : h.0 ≡ r = some_same h.0 r (sym (small_root_of-text h.0 h.1.0 h.1.1) ∙ sym (ap small_root_of h.1.2) ∙ is) in
+      let same : h.0 ≡ r = some_is h.0 r (sym (small_root_of-text h.0 h.1.0 h.1.1) ∙ sym (ap small_root_of h.1.2) ∙ is) in
       h.2 (subst (IsRootAfter last) (sym same) (is_after-means last r e)))
       (judges-value 16777216 met b no_fault (λ v. told_root r v) (λ v link. judges-end {A = RootId × Value} (r, v)))
   root_after false r e is =
@@ -333,36 +326,9 @@ judges-object number count met (a ∷ b ∷ values) = object_by number count met
 
 -- ---- lines by what is due
 
-all_Decides : {A : Type 0} (test : A → Bool) (P : A → Type 0) → ((x : A) → Decides (test x) (P x)) → (xs : List A) → Decides (list_all test xs) (AllByRecursion P xs)
-all_Decides test P each [] = (λ e. tt, λ h. refl)
-all_Decides test P each (x ∷ xs) =
-    let others = all_Decides test P each xs in (
-      λ e. let p = and_parts (test x) (list_all test xs) e in ((each x).0 p.0, others.0 p.1),
-      λ h. and_from (test x) (list_all test xs) ((each x).1 h.0) (others.1 h.1),
-    )
-
-cons_nil : {A : Type 0} (x : A) (xs : List A) → ◌≡◌ {A = List A} (x ∷ xs) [] → ⊥
-cons_nil x xs e = cc
-
-is_filled-Decides : (part : List ℕ) → Decides (is_filled part) (¬ (part ≡ []))
-is_filled-Decides [] = (λ e. absurd (false≢true e), λ h. absurd (h refl))
-is_filled-Decides (b ∷ bs) = (λ e f. cons_nil b bs f, λ h. refl)
-
-is_printable-Decides : (b : ℕ) → Decides (is_printable b) (IsPrintable b)
-is_printable-Decides b = (λ e. let p = and_parts (leb 32 b) (leb b 126) e in (leb-true 32 b p.0, leb-true b 126 p.1), λ h. and_from (leb 32 b) (leb b 126) (le-leb 32 b h.0) (le-leb b 126 h.1))
-
-is_formed-Decides : (line : List ℕ) → Decides (is_formed line) (IsWellFormed line)
-unfolding is_formed
-is_formed-Decides line =
-    let bytes = all_Decides is_printable IsPrintable is_printable-Decides line in
-    let filled = all_Decides is_filled (λ part. ¬ (part ≡ [])) is_filled-Decides (parts_of line) in (
-      λ e. let p = and_parts (list_all is_printable line) (list_all is_filled (parts_of line)) e in (bytes.0 p.0, filled.0 p.1),
-      λ h. and_from (list_all is_printable line) (list_all is_filled (parts_of line)) (bytes.1 h.0) (filled.1 h.1),
-    )
-
-judges-formed : {B : Type 0} (line : List ℕ) (others : ℕ → DumpKind → Type 0) (f : List (List ℕ) → Result B DumpKind) → Judges others (f (parts_of line)) → Judges (Form when (IsWellFormed line → ⊥) ▸ others) (formed_parts line >>= f)
+judges-formed : {B : Type 0} (line : List ℕ) (others : ℕ → DumpKind → Type 0) (f : List (List ℕ) → Result B DumpKind) → Judges others (f (parts_of line)) → Judges (Form when (IsFormedLine line → ⊥) ▸ others) (formed_parts line >>= f)
 unfolding formed_parts
-judges-formed line others f judged = judges-unless (is_formed line) Form (IsWellFormed line) others (parts_of line) f (is_formed-Decides line) (λ formed. judged)
+judges-formed line others f judged = judges-unless (is_formed line) Form (IsFormedLine line) others (parts_of line) f (is_formed-Decides line) (λ formed. judged)
 
 judges-due : (due : Due) (line : List ℕ) → IsDue due → Judges (due_faults due line) (line_due due line)
 unfolding line_due
@@ -373,10 +339,6 @@ judges-due (dues.Objects met) line is = judges-formed line (count_faults (codes 
 judges-due (dues.Object number count met) line is = judges-formed line (object_faults number count met (parts_of line)) (λ parts. object_of_parts number count met parts >>= λ object. Ok (object_line object.0 object.1)) (judges-step (object_of_parts number count met (parts_of line)) (λ object. object_line object.0 object.1) (judges-object number count met (parts_of line)))
 judges-due dues.End line is = judges-unless_last (bytes_eq line (codes "end")) Form (line ≡ codes "end") no_fault (Ok end_line) (bytes_eq-Decides line (codes "end")) (λ same. judges-end end_line)
 judges-due dues.Nothing line is = judges-here Trailing ⊤ no_fault tt
-
-not_ended : (ended : Bool) → Decides (not ended) (ended ≡ false)
-not_ended true = (λ e. absurd (false≢true e), λ e. absurd (false≢true (sym e)))
-not_ended false = (λ e. refl, λ e. refl)
 
 judges-test_last : {B : Type 0} (t : Bool) (kind : DumpKind) (P : Type 0) (others : ℕ → DumpKind → Type 0) (r : Result B DumpKind) → Decides t P → Judges others r → Judges (kind when P ▸ others) (cond t (Err kind) r)
 judges-test_last true kind P others r d judged = judges-here kind P others (d.0 refl)
@@ -401,7 +363,7 @@ told_with_parts (v ∷ vs) met told below =
     ap (λ (m : ℕ). met_with_parts m (map value_text vs)) (told_with_part met v told.0 (omega (arith, met_after_grows (met_with met v) vs, below)))
     ∙ told_with_parts vs (met_with met v) told.1 below
 
-due_parts : (due : Due) (line : DumpLine) → IsDue due → Fits due line → due_after_parts due (line_parts line) ≡ due_after due line
+due_parts : (due : Due) (line : DumpLine) → IsDue due → Fits due line → due_after_parts due (dump_line_parts line) ≡ due_after due line
 due_parts dues.Header header_line is f = refl
 due_parts dues.Roots (roots_line n) is f = ap (λ (o : Option ℕ). root_due (number_or_none o) None 0) (number_of-decimal n (omega (arith, f)))
 due_parts (dues.Root left last met) (root_line r v) is f =
@@ -492,7 +454,7 @@ read_by : (text : List ℕ) (r : Result GraphState DumpFault) → JudgesLines li
 read_by text (Ok g) judged none = (g, refl)
 read_by text (Err f) judged none = let first = judged.first f refl in absurd (none f.line first.place f.kind first.holds)
 
-pub faultless_is_dump : (text : List ℕ) → ((n p : ℕ) (k : DumpKind) → dump_faults (lines_of text) n p k → ⊥) → (g : GraphState) × IsGraph g × (text ≡ text_of g)
+pub faultless_is_dump : (text : List ℕ) → ((n p : ℕ) (k : DumpKind) → dump_faults (lines_of text) n p k → ⊥) → (g : GraphState) × IsGraph g × (text ≡ dump_text g)
 faultless_is_dump text none =
     let r = read_by text (graph_of_text text) (judges-text text) none in
     let m = graph_within-means 268435456 text r.0 r.1 in

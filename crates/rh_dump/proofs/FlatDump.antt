@@ -26,7 +26,7 @@ use Rattle.rh_dump.proofs.Numbered.{held_values, Member-map, Member-map_back, Is
 use Rattle.rh_dump.proofs.MetValues.{IsBeginning, met_values-all, met_roots-all, length-met_values, met_after-values, AreNumbered-values, met_after-append, AreNumbered-append}
 
 -- one more count, with so many more values
-total_push : (xs : List ℕ) (x : ℕ) → total (xs ++ x ∷ []) ≡ total xs + x
+pub total_push : (xs : List ℕ) (x : ℕ) → total (xs ++ x ∷ []) ≡ total xs + x
 total_push [] x = omega arith
 total_push (y ∷ xs) x = omega (arith, total_push xs x)
 
@@ -49,7 +49,7 @@ length-rest zero xs = inl (omega arith)
 length-rest (suc n) [] = inr (omega arith)
 length-rest (suc n) (x ∷ xs) = elim (length-rest n xs) [ inl is ↦ inl (omega (arith, is)) | inr less ↦ inr (omega (arith, less)) ]
 
-objects_in-push : (counts : List ℕ) (values more : List Value) → total counts ≡ length values → objects_in (counts ++ length more ∷ []) (values ++ more) ≡ objects_in counts values ++ more ∷ []
+pub objects_in-push : (counts : List ℕ) (values more : List Value) → total counts ≡ length values → objects_in (counts ++ length more ∷ []) (values ++ more) ≡ objects_in counts values ++ more ∷ []
 objects_in-push [] [] more filled = ap (λ l. l ∷ []) (take-all more)
 objects_in-push [] (v ∷ values) more filled = absurd (omega (arith, filled))
 objects_in-push (count ∷ counts) values more filled =

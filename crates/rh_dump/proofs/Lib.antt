@@ -16,5 +16,11 @@ mod SpelledIsRead
 mod PartMeans
 mod ReadIsSpelled
 mod SameTexts
+mod DumpedGraphs
 mod FirstFault
 mod WorkedDumps
+mod PartCount
+mod PutRead
+mod PutLines
+mod PastLimit
+mod ReadInput

@@ -1,22 +1,20 @@
 -- What a part that was understood is.
-use Rattle.std.proofs.Common.{◌≡◌, ℕ, ℤ, pos, negsuc, ◌-◌, ◌^◌, ◌<◌, ◌≤◌, Bool, true, false, cond, leb, ltb, eqb, ◌&&◌, List, [], ◌∷◌, Option, Some, None, refl, sym, ap, subst, ◌∙◌, arith}
-use Rattle.std.specs.Prelude.{decimal, T}
+use Rattle.std.proofs.Common.{◌≡◌, ℕ, ℤ, ◌-◌, ◌^◌, ◌<◌, ◌≤◌, Bool, true, false, cond, leb, ltb, eqb, ◌&&◌, List, [], ◌∷◌, Option, Some, None, refl, sym, ap, subst, ◌∙◌, arith}
+use Rattle.std.specs.Prelude.{decimal}
 use Rattle.std.specs.Fmt.{signed_decimal}
-use Rattle.std.specs.Int.Signed.{le_z, le_z_yes}
 use Rattle.std.proofs.lemmas.Bool.{and_parts, leb-true, ltb-true, eqb-true}
 use Rattle.rh_layout.specs.declared.command.RootId.{RootId}
 use Rattle.rh_layout.specs.Word.{IsWhole, is_whole}
+use Rattle.rh_layout.specs.lemmas.Word.{whole_from}
 use Rattle.rh_text.specs.Number.{number_of, integer_of}
 use Rattle.rh_text.specs.Parts.{◌>>=◌, first_and_rest}
 use Rattle.rh_text.specs.Root.{root_of, root_text}
+use Rattle.rh_text.specs.lemmas.Cuts.{some_is}
 use Rattle.rh_text.specs.lemmas.Numbers.{number_means}
 use Rattle.rh_text.specs.lemmas.Integers.{integer_means}
 use Rattle.rh_text.specs.lemmas.Roots.{root_means}
 use Rattle.rh_text.specs.lemmas.Numbers.{number_of-decimal}
 use Rattle.rh_dump.specs.Part.{number_up_to, whole_of, small_root_of, after_at, object_head, reference_of}
-
-some_same : {A : Type 0} (x y : A) → ◌≡◌ {A = Option A} (Some x) (Some y) → x ≡ y
-some_same x y e = cc
 
 none_some : {A : Type 0} (x : A) → ◌≡◌ {A = Option A} None (Some x) → ⊥
 none_some x e = cc
@@ -26,7 +24,7 @@ bind_some (Some x) f y e = (x, refl, e)
 bind_some None f y e = absurd cc
 
 passed : {A : Type 0} (t : Bool) (x y : A) → cond t (Some x) None ≡ Some y → (t ≡ true) × (x ≡ y)
-passed true x y e = (refl, some_same x y e)
+passed true x y e = (refl, some_is x y e)
 passed false x y e = absurd cc
 
 pub number_up_to-means : (limit : ℕ) (part : List ℕ) (n : ℕ) → number_up_to limit part ≡ Some n → (part ≡ decimal n) × (n ≤ limit)
@@ -36,15 +34,6 @@ number_up_to-means limit part n e =
     let p = passed (leb a.0 limit) a.0 n a.2 in
     let small : a.0 ≤ limit = leb-true a.0 limit p.0 in
     ((number_means part a.0 a.1).0 ∙ ap decimal p.1, omega (arith, small, p.1))
-
-from_true : (b : Bool) → b ≡ true → T b
-from_true true e = tt
-from_true false e = absurd cc
-
-whole_from : (n : ℤ) → is_whole n ≡ true → IsWhole n
-whole_from n e =
-    let p = and_parts (le_z (negsuc (2 ^ 61 - 1)) n) (le_z n (pos (2 ^ 61 - 1))) e in
-    (le_z_yes (from_true (le_z (negsuc (2 ^ 61 - 1)) n) p.0), le_z_yes (from_true (le_z n (pos (2 ^ 61 - 1))) p.1))
 
 pub whole_of-means : (part : List ℕ) (n : ℤ) → whole_of part ≡ Some n → (part ≡ signed_decimal n) × IsWhole n
 unfolding whole_of
@@ -81,7 +70,7 @@ object_head-means (a ∷ []) h e =
 object_head-means (a ∷ b ∷ rest) h e =
     let p = bind_some (after_at a) (λ own. first_and_rest (b ∷ rest) >>= λ second. Some (own, second.0, second.1)) h e in
     let own = after_at-means a p.0 p.1 in
-    ap (λ (x : List ℕ). x ∷ b ∷ rest) own ∙ ap (λ (x : List ℕ × List ℕ × List (List ℕ)). (64 ∷ x.0) ∷ x.1 ∷ x.2) (some_same (p.0, b, rest) h p.2)
+    ap (λ (x : List ℕ). x ∷ b ∷ rest) own ∙ ap (λ (x : List ℕ × List ℕ × List (List ℕ)). (64 ∷ x.0) ∷ x.1 ∷ x.2) (some_is (p.0, b, rest) h p.2)
 
 -- ---- references, and the first two parts of an object's line
 

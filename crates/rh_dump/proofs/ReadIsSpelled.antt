@@ -15,39 +15,23 @@ use Rattle.rh_text.specs.Parts.{parts_of, is_formed, spell_parts, two_parts}
 use Rattle.rh_text.specs.RawLine.{RawLine, lines_of, raw_text}
 use Rattle.rh_text.specs.Root.{root_text}
 use Rattle.rh_text.specs.Steps.{◌>>=◌, or_fault, with_fault}
-use Rattle.rh_text.specs.lemmas.Cuts.{some_is}
+use Rattle.rh_text.specs.lemmas.Formed.{ended_text, two_parts-means}
 use Rattle.rh_text.specs.lemmas.RawLines.{lines_text}
+use Rattle.rh_text.specs.lemmas.Steps.{bind_ok, chosen, refused, ok_is, or_fault_ok}
 use Rattle.rh_dump.specs.declared.due.Due.{Due}
 use Rattle.rh_dump.specs.declared.due.Due.TheVariants as dues
 use Rattle.rh_dump.specs.declared.fault.DumpKind.{DumpKind}
 use Rattle.rh_dump.specs.declared.fault.DumpKind.TheVariants.{Long, End, Header, Trailing, Form, Number, Order, Count}
 use Rattle.rh_dump.specs.declared.fault.DumpFault.{DumpFault}
 use Rattle.rh_dump.specs.Dump.{GraphState, root_values, met_with, met_after, IsNumberedAfter, AreNumbered, AreMetBefore, IsTold, IsRootTold, IsRootBefore, IsRootAfter, RootsRise, IsObjectTold, IsGraph}
-use Rattle.rh_dump.specs.Line.{DumpLine, header_line, roots_line, root_line, objects_line, object_line, end_line, value_text, line_parts, spell_line, root_lines, object_lines, lines_in, text_of, root_due, object_due, due_after}
+use Rattle.rh_dump.specs.Line.{DumpLine, header_line, roots_line, root_line, objects_line, object_line, end_line, value_text, dump_line_parts, spell_dump_line, root_lines, object_lines, lines_in, dump_text, root_due, object_due, due_after}
 use Rattle.rh_dump.specs.Part.{number_up_to, whole_of, small_root_of, after_at, object_head}
 use Rattle.rh_dump.specs.Reading.{formed_parts, part_after, number_or_fault, roots_of_parts, objects_of_parts, reference_or_fault, whole_or_fault, reference_or_whole, value_or_fault, values_or_fault, is_root_before, is_root_after, root_or_fault, root_of_parts, own_number, fields_or_fault, object_of_parts, line_due, line_or_kind, fault_at, end_or_fault, lines_from, with_line, graph_of, graph_within}
+use Rattle.rh_dump.specs.Putting.{IsDue}
 use Rattle.rh_dump.proofs.ObjectsIn.{joined}
 use Rattle.rh_dump.proofs.PartMeans.{number_up_to-means, whole_of-means, small_root_of-means, after_at-means, object_head-means}
-use Rattle.rh_dump.proofs.SpelledIsRead.{met_after_grows, met_after-append, root_due-more, graph_of-lines_in}
-
-bind_ok : {A B E : Type 0} (r : Result A E) (f : A → Result B E) (y : B) → (r >>= f) ≡ Ok y → (x : A) × (r ≡ Ok x) × (f x ≡ Ok y)
-bind_ok (Ok x) f y e = (x, refl, e)
-bind_ok (Err d) f y e = absurd cc
-
-chosen : {A E : Type 0} (b : Bool) (d : E) (r : Result A E) (y : A) → cond b r (Err d) ≡ Ok y → (b ≡ true) × (r ≡ Ok y)
-chosen true d r y e = (refl, e)
-chosen false d r y e = absurd cc
-
-refused : {A E : Type 0} (b : Bool) (d : E) (r : Result A E) (y : A) → cond b (Err d) r ≡ Ok y → (b ≡ false) × (r ≡ Ok y)
-refused true d r y e = absurd cc
-refused false d r y e = (refl, e)
-
-ok_is : {A E : Type 0} (x y : A) → ◌≡◌ {A = Result A E} (Ok x) (Ok y) → x ≡ y
-ok_is x y e = cc
-
-or_fault_ok : {A : Type 0} (o : Option A) (kind : DumpKind) (x : A) → or_fault o kind ≡ Ok x → o ≡ Some x
-or_fault_ok (Some y) kind x e = cc
-or_fault_ok None kind x e = absurd cc
+use Rattle.rh_dump.proofs.MetValues.{met_after-append, AreNumbered-append}
+use Rattle.rh_dump.proofs.SpelledIsRead.{met_after_grows, length-map_text, root_due-more, graph_of-lines_in}
 
 with_fault_ok : {A : Type 0} (number : ℕ) (r : Result A DumpKind) (x : A) → with_fault (fault_at number) r ≡ Ok x → r ≡ Ok x
 with_fault_ok number (Ok y) x e = cc
@@ -55,13 +39,6 @@ with_fault_ok number (Err kind) x e = absurd cc
 
 number_or_fault-means : (limit : ℕ) (part : List ℕ) (n : ℕ) → number_or_fault limit part ≡ Ok n → (part ≡ decimal n) × (n ≤ limit)
 number_or_fault-means limit part n e = number_up_to-means limit part n (or_fault_ok (number_up_to limit part) Number n e)
-
-two_parts-means : (args : List (List ℕ)) (x : List ℕ × List ℕ) → two_parts args ≡ Some x → args ≡ x.0 ∷ x.1 ∷ []
-unfolding two_parts
-two_parts-means [] x e = absurd cc
-two_parts-means (a ∷ []) x e = absurd cc
-two_parts-means (a ∷ b ∷ []) x e = ap (λ (y : List ℕ × List ℕ). y.0 ∷ y.1 ∷ []) (some_is (a, b) x e)
-two_parts-means (a ∷ b ∷ c ∷ args) x e = absurd cc
 
 -- the parts, joined, are the line
 formed_parts-means : (line : List ℕ) (parts : List (List ℕ)) → formed_parts line ≡ Ok parts → line ≡ join_with_byte 32 parts
@@ -167,19 +144,9 @@ Fits (dues.Object number count met) (object_line own fields) = (own ≡ number) 
 Fits dues.End end_line = ⊤
 Fits due line = ⊥
 
--- what is met where something is due is within the limits
-abbrev pub IsDue : Due → Type 0
-IsDue dues.Header = ⊤
-IsDue dues.Roots = ⊤
-IsDue (dues.Root left last met) = met ≤ 16777216
-IsDue (dues.Objects met) = met ≤ 16777216
-IsDue (dues.Object number count met) = (met ≤ count) × (count ≤ 16777216)
-IsDue dues.End = ⊤
-IsDue dues.Nothing = ⊤
-
 pub record Means (due : Due) (bytes : List ℕ) (line : DumpLine) : Type 0 where
-  pub spelled : bytes ≡ join_with_byte 32 (line_parts line)
-  pub parts : parts_of bytes ≡ line_parts line
+  pub spelled : bytes ≡ join_with_byte 32 (dump_line_parts line)
+  pub parts : parts_of bytes ≡ dump_line_parts line
   pub fits : Fits due line
 
 before_by : (t : Bool) (a b : RootId) → ltb a.owner b.owner ≡ t → (t || (eqb a.owner b.owner && ltb a.slot b.slot)) ≡ true → IsRootBefore a b
@@ -241,10 +208,6 @@ record ObjectSays (number count met : ℕ) (parts : List (List ℕ)) (object : �
   told : IsObjectTold object.1
   next : AreNumbered met object.1
   below : met_after met object.1 ≤ count
-
-length-map_text : (vs : List Value) → length (map value_text vs) ≡ length vs
-length-map_text [] = refl
-length-map_text (v ∷ vs) = ap suc (length-map_text vs)
 
 not_true : (b : Bool) → not b ≡ false → b ≡ true
 not_true true e = refl
@@ -380,23 +343,19 @@ due_after_small dues.End end_line is f = tt
 due_after_small due line is f = absurd f
 
 -- a raw line that was read
-record RawMeans (limit : ℕ) (due : Due) (size : ℕ) (raw : RawLine) (line : DumpLine) : Type 0 where
-  text : raw_text raw ≡ spell_line line
-  within : size + length (raw_text raw) ≤ limit
-  fits : Fits due line
+pub record RawMeans (limit : ℕ) (due : Due) (size : ℕ) (raw : RawLine) (line : DumpLine) : Type 0 where
+  pub text : raw_text raw ≡ spell_dump_line line
+  pub within : size + length (raw_text raw) ≤ limit
+  pub fits : Fits due line
 
-ended_text : (ended : Bool) (bytes parts : List ℕ) → ended ≡ true → bytes ≡ parts → cond ended (bytes ++ 10 ∷ []) bytes ≡ parts ++ 10 ∷ []
-ended_text true bytes parts is e = ap (λ (t : List ℕ). t ++ 10 ∷ []) e
-ended_text false bytes parts is e = absurd (cc)
-
-raw_means : (limit : ℕ) (due : Due) (size : ℕ) (raw : RawLine) (line : DumpLine) → IsDue due → line_or_kind limit due size raw ≡ Ok line → RawMeans limit due size raw line
+pub raw_means : (limit : ℕ) (due : Due) (size : ℕ) (raw : RawLine) (line : DumpLine) → IsDue due → line_or_kind limit due size raw ≡ Ok line → RawMeans limit due size raw line
 unfolding line_or_kind
 raw_means limit due size raw line is e =
     let a = refused (ltb limit (size + length (raw_text raw))) Long (cond (not raw.ended) (Err End) (line_due due raw.bytes)) line e in
     let b = refused (not raw.ended) End (line_due due raw.bytes) line a.1 in
     let m = line_means due raw.bytes line is b.1 in
     record {
-      text = ended_text raw.ended raw.bytes (join_with_byte 32 (line_parts line)) (not-false raw.ended b.0) m.spelled;
+      text = ended_text raw.ended raw.bytes (join_with_byte 32 (dump_line_parts line)) (not-false raw.ended b.0) m.spelled;
       within = ltb-false limit (size + length (raw_text raw)) a.0;
       fits = m.fits;
     }
@@ -409,7 +368,7 @@ raw_due limit due size raw line e =
 
 -- raw lines that were read
 record LinesMean (limit : ℕ) (due : Due) (size : ℕ) (raws : List RawLine) (lines : List DumpLine) : Type 0 where
-  text : flat_map raw_text raws ≡ flat_map spell_line lines
+  text : flat_map raw_text raws ≡ flat_map spell_dump_line lines
   within : size + length (flat_map raw_text raws) ≤ limit
   accepted : Accepts due lines
 
@@ -426,7 +385,7 @@ lines_mean limit due number size (raw ∷ raws) lines is few e =
     let first = raw_means limit due size raw a.0 is (with_fault_ok number (line_or_kind limit due size raw) a.0 a.1) in
     let others = lines_mean limit (due_after due a.0) (number + 1) (size + length (raw_text raw)) raws b.0 (due_after_small due a.0 is first.fits) first.within b.1 in
     subst (LinesMean limit due size (raw ∷ raws)) (ok_is (a.0 ∷ b.0) lines b.2) (record {
-      text = ap (λ (t : List ℕ). t ++ flat_map raw_text raws) first.text ∙ ap (λ (t : List ℕ). spell_line a.0 ++ t) others.text;
+      text = ap (λ (t : List ℕ). t ++ flat_map raw_text raws) first.text ∙ ap (λ (t : List ℕ). spell_dump_line a.0 ++ t) others.text;
       within = omega (arith, others.within, length-append (raw_text raw) (flat_map raw_text raws));
       accepted = accepts_next due a.0 b.0 first.fits others.accepted;
     })
@@ -480,10 +439,6 @@ record ObjectsAre (number count met : ℕ) (lines : List DumpLine) : Type 0 wher
   all : met_after met (joined objects) ≡ count
   others : Accepts dues.End rest
 
-AreNumbered-join : (met : ℕ) (xs ys : List Value) → AreNumbered met xs → AreNumbered (met_after met xs) ys → AreNumbered met (xs ++ ys)
-AreNumbered-join met [] ys h k = k
-AreNumbered-join met (x ∷ xs) ys h k = (h.0, AreNumbered-join (met_with met x) xs ys h.1 k)
-
 object_first : (number count met : ℕ) (lines : List DumpLine) → number < count → ((m : ℕ) (ls : List DumpLine) → number + 1 ≤ m → m ≤ count → Accepts (object_due (number + 1) count m) ls → ObjectsAre (number + 1) count m ls) → Accepts (dues.Object number count met) lines → ObjectsAre number count met lines
 object_first number count met [] there more h = absurd h
 object_first number count met (object_line own fields ∷ lines) there more h =
@@ -496,7 +451,7 @@ object_first number count met (object_line own fields ∷ lines) there more h =
       many = omega (arith, a.many);
       before = (f.1, a.before);
       told = (f.2, a.told);
-      next = AreNumbered-join met fields (joined a.objects) f.3 a.next;
+      next = AreNumbered-append met fields (joined a.objects) f.3 a.next;
       all = met_after-append met fields (joined a.objects) ∙ a.all;
       others = a.others;
     }
@@ -583,7 +538,7 @@ after_header (roots_line left ∷ lines) h =
         roots_rise = a.rise;
         objects = b.told;
         few_objects = b.few;
-        numbered = AreNumbered-join 0 (root_values a.roots) (joined b.objects) a.next b.next;
+        numbered = AreNumbered-append 0 (root_values a.roots) (joined b.objects) a.next b.next;
         met_before = b.before;
         all_met = met_after-append 0 (root_values a.roots) (joined b.objects) ∙ b.all;
       };
@@ -604,12 +559,12 @@ accepted_is (objects_line n ∷ lines) h = absurd h.0
 accepted_is (object_line n fields ∷ lines) h = absurd h.0
 accepted_is (end_line ∷ lines) h = absurd h.0
 
-pub graph_within-means : (limit : ℕ) (text : List ℕ) (g : GraphState) → graph_within limit text ≡ Ok g → IsGraph g × (text ≡ text_of g) × (length text ≤ limit)
+pub graph_within-means : (limit : ℕ) (text : List ℕ) (g : GraphState) → graph_within limit text ≡ Ok g → IsGraph g × (text ≡ dump_text g) × (length text ≤ limit)
 unfolding graph_within
 graph_within-means limit text g e =
     let a = bind_ok (lines_from limit dues.Header 1 0 (lines_of text)) (λ (lines : List DumpLine). Ok (graph_of lines)) g e in
     let m = lines_mean limit dues.Header 1 0 (lines_of text) a.0 tt (omega arith) a.1 in
     let is = accepted_is a.0 m.accepted in
     let same : is.graph ≡ g = sym (graph_of-lines_in is.graph) ∙ ap graph_of (sym is.lines_are) ∙ ok_is (graph_of a.0) g a.2 in
-    let spelled : text ≡ text_of is.graph = sym (lines_text text) ∙ m.text ∙ ap (flat_map spell_line) is.lines_are in
-    (subst IsGraph same is.is, spelled ∙ ap text_of same, omega (arith, m.within, ap length (lines_text text)))
+    let spelled : text ≡ dump_text is.graph = sym (lines_text text) ∙ m.text ∙ ap (flat_map spell_dump_line) is.lines_are in
+    (subst IsGraph same is.is, spelled ∙ ap dump_text same, omega (arith, m.within, ap length (lines_text text)))

@@ -11,7 +11,7 @@ use Rattle.rh_text.specs.Output.{AppendsLess}
 use Rattle.rh_text.specs.lemmas.Appends.{Sent, Appends-then, Appends-none, Appends-at, Appends-less, less-more}
 use Rattle.rh_dump.specs.Dump.{GraphState}
 use Rattle.rh_dump.specs.Graph.{objects_in, total}
-use Rattle.rh_dump.specs.Line.{DumpLine, header_line, roots_line, root_line, objects_line, object_line, end_line, value_text, spell_line, root_lines, object_lines, lines_in, text_of}
+use Rattle.rh_dump.specs.Line.{DumpLine, header_line, roots_line, root_line, objects_line, object_line, end_line, value_text, spell_dump_line, root_lines, object_lines, lines_in, dump_text}
 
 pub Sent-begin : (a : Option (List ℕ)) (text : List ℕ) → Sent a a text text
 Sent-begin a text = record { prefix = []; whole = refl; appended = Appends-none a }
@@ -51,7 +51,7 @@ join-values : (part : List ℕ) (values : List Value) → join_with_byte 32 (par
 join-values part [] = sym (append-nil part)
 join-values part (value ∷ values) = ap (λ (t : List ℕ). part ++ 32 ∷ t) (join-values (value_text value) values)
 
-pub object_line_text : (number : ℕ) (fields : List Value) → spell_line (object_line number fields) ≡ object_head_text number (length fields) ++ (flat_map value_piece fields ++ 10 ∷ [])
+pub object_line_text : (number : ℕ) (fields : List Value) → spell_dump_line (object_line number fields) ≡ object_head_text number (length fields) ++ (flat_map value_piece fields ++ 10 ∷ [])
 object_line_text number fields =
     let d = decimal (length fields) in
     let own = 64 ∷ decimal number in
@@ -61,25 +61,25 @@ object_line_text number fields =
 
 -- the text after the first two lines, after the roots, after the line of the number of objects, and after the objects
 abbrev pub text_end : List ℕ
-text_end = spell_line end_line
+text_end = spell_dump_line end_line
 
 abbrev pub text_objects : GraphState → List ℕ
-text_objects g = flat_map spell_line (object_lines 0 g.objects) ++ text_end
+text_objects g = flat_map spell_dump_line (object_lines 0 g.objects) ++ text_end
 
 abbrev pub text_count : GraphState → List ℕ
-text_count g = spell_line (objects_line (length g.objects)) ++ text_objects g
+text_count g = spell_dump_line (objects_line (length g.objects)) ++ text_objects g
 
 abbrev pub text_roots : GraphState → List ℕ
-text_roots g = flat_map spell_line (root_lines g.roots) ++ text_count g
+text_roots g = flat_map spell_dump_line (root_lines g.roots) ++ text_count g
 
-pub text_of-parts : (g : GraphState) → text_of g ≡ (spell_line header_line ++ spell_line (roots_line (length g.roots))) ++ text_roots g
-text_of-parts g =
-    let objects = flat_map-append spell_line (object_lines 0 g.objects) (end_line ∷ []) in
-    let ended : flat_map spell_line (object_lines 0 g.objects ++ (end_line ∷ [])) ≡ text_objects g = objects ∙ ap (λ (t : List ℕ). flat_map spell_line (object_lines 0 g.objects) ++ t) (append-nil text_end) in
-    let count : flat_map spell_line (objects_line (length g.objects) ∷ (object_lines 0 g.objects ++ (end_line ∷ []))) ≡ text_count g = ap (λ (t : List ℕ). spell_line (objects_line (length g.objects)) ++ t) ended in
-    let roots : flat_map spell_line (root_lines g.roots ++ (objects_line (length g.objects) ∷ (object_lines 0 g.objects ++ (end_line ∷ [])))) ≡ text_roots g = flat_map-append spell_line (root_lines g.roots) (objects_line (length g.objects) ∷ (object_lines 0 g.objects ++ (end_line ∷ []))) ∙ ap (λ (t : List ℕ). flat_map spell_line (root_lines g.roots) ++ t) count in
-    ap (λ (t : List ℕ). spell_line header_line ++ (spell_line (roots_line (length g.roots)) ++ t)) roots
-    ∙ sym (append_assoc (spell_line header_line) (spell_line (roots_line (length g.roots))) (text_roots g))
+pub dump_text-parts : (g : GraphState) → dump_text g ≡ (spell_dump_line header_line ++ spell_dump_line (roots_line (length g.roots))) ++ text_roots g
+dump_text-parts g =
+    let objects = flat_map-append spell_dump_line (object_lines 0 g.objects) (end_line ∷ []) in
+    let ended : flat_map spell_dump_line (object_lines 0 g.objects ++ (end_line ∷ [])) ≡ text_objects g = objects ∙ ap (λ (t : List ℕ). flat_map spell_dump_line (object_lines 0 g.objects) ++ t) (append-nil text_end) in
+    let count : flat_map spell_dump_line (objects_line (length g.objects) ∷ (object_lines 0 g.objects ++ (end_line ∷ []))) ≡ text_count g = ap (λ (t : List ℕ). spell_dump_line (objects_line (length g.objects)) ++ t) ended in
+    let roots : flat_map spell_dump_line (root_lines g.roots ++ (objects_line (length g.objects) ∷ (object_lines 0 g.objects ++ (end_line ∷ [])))) ≡ text_roots g = flat_map-append spell_dump_line (root_lines g.roots) (objects_line (length g.objects) ∷ (object_lines 0 g.objects ++ (end_line ∷ []))) ∙ ap (λ (t : List ℕ). flat_map spell_dump_line (root_lines g.roots) ++ t) count in
+    ap (λ (t : List ℕ). spell_dump_line header_line ++ (spell_dump_line (roots_line (length g.roots)) ++ t)) roots
+    ∙ sym (append_assoc (spell_dump_line header_line) (spell_dump_line (roots_line (length g.roots))) (text_roots g))
 
 -- ---- a loop that sends a part for each item
 
@@ -94,10 +94,10 @@ module _ {X : Type 0} (F : List X → List ℕ) (part : X → List ℕ) (step : 
   loop_less next = Sent-less a b c text (F (drop i xs)) sent (F (drop (i + 1) xs)) so_far loop_rest next
 
 abbrev pub roots_text : List (RootId × Value) → List ℕ
-roots_text roots = flat_map spell_line (root_lines roots)
+roots_text roots = flat_map spell_dump_line (root_lines roots)
 
 abbrev pub root_text_line : RootId × Value → List ℕ
-root_text_line root = spell_line (root_line root.0 root.1)
+root_text_line root = spell_dump_line (root_line root.0 root.1)
 
 abbrev pub fields_text : List Value → List ℕ
 fields_text values = flat_map value_piece values ++ 10 ∷ []
@@ -106,54 +106,54 @@ pub fields_step : (x : Value) (xs : List Value) → fields_text (x ∷ xs) ≡ v
 fields_step x xs = append_assoc (value_piece x) (flat_map value_piece xs) (10 ∷ [])
 
 abbrev pub objects_text : ℕ → List ℕ → List Value → List ℕ
-objects_text number counts values = flat_map spell_line (object_lines number (objects_in counts values))
+objects_text number counts values = flat_map spell_dump_line (object_lines number (objects_in counts values))
 
 module _ (a b c : Option (List ℕ)) (text : List ℕ) (number i : ℕ) (counts : List ℕ) (rest front back : List Value) (lt : i < length counts) (fronts : front ≡ take (get_or counts i 0) rest) (backs : back ≡ drop (get_or counts i 0) rest) (so_far : Sent a b text (objects_text number (drop i counts) rest)) where
-  objects_rest : objects_text number (drop i counts) rest ≡ spell_line (object_line number front) ++ objects_text (number + 1) (drop (i + 1) counts) back
+  objects_rest : objects_text number (drop i counts) rest ≡ spell_dump_line (object_line number front) ++ objects_text (number + 1) (drop (i + 1) counts) back
   objects_rest =
       ap (λ (cs : List ℕ). objects_text number cs rest) (drop_more counts i 0 lt)
-      ∙ ap (λ (f : List Value). spell_line (object_line number f) ++ objects_text (number + 1) (drop (i + 1) counts) (drop (get_or counts i 0) rest)) (sym fronts)
-      ∙ ap (λ (r : List Value). spell_line (object_line number front) ++ objects_text (number + 1) (drop (i + 1) counts) r) (sym backs)
+      ∙ ap (λ (f : List Value). spell_dump_line (object_line number f) ++ objects_text (number + 1) (drop (i + 1) counts) (drop (get_or counts i 0) rest)) (sym fronts)
+      ∙ ap (λ (r : List Value). spell_dump_line (object_line number front) ++ objects_text (number + 1) (drop (i + 1) counts) r) (sym backs)
 
-  pub objects_next : Appends b c (spell_line (object_line number front)) → Sent a c text (objects_text (number + 1) (drop (i + 1) counts) back)
-  objects_next next = Sent-next a b c text (objects_text number (drop i counts) rest) (spell_line (object_line number front)) (objects_text (number + 1) (drop (i + 1) counts) back) so_far objects_rest next
+  pub objects_next : Appends b c (spell_dump_line (object_line number front)) → Sent a c text (objects_text (number + 1) (drop (i + 1) counts) back)
+  objects_next next = Sent-next a b c text (objects_text number (drop i counts) rest) (spell_dump_line (object_line number front)) (objects_text (number + 1) (drop (i + 1) counts) back) so_far objects_rest next
 
-  pub objects_less : AppendsLess b c (spell_line (object_line number front)) → AppendsLess a c text
-  objects_less next = Sent-less a b c text (objects_text number (drop i counts) rest) (spell_line (object_line number front)) (objects_text (number + 1) (drop (i + 1) counts) back) so_far objects_rest next
+  pub objects_less : AppendsLess b c (spell_dump_line (object_line number front)) → AppendsLess a c text
+  objects_less next = Sent-less a b c text (objects_text number (drop i counts) rest) (spell_dump_line (object_line number front)) (objects_text (number + 1) (drop (i + 1) counts) back) so_far objects_rest next
 
 pub total_more : (counts : List ℕ) (i n m : ℕ) → i < length counts → total (drop i counts) ≡ n → m + get_or counts i 0 ≡ n → total (drop (i + 1) counts) ≡ m
 total_more counts i n m lt all is = let e : total (drop i counts) ≡ get_or counts i 0 + total (drop (i + 1) counts) = ap total (drop_more counts i 0 lt) in omega (arith, e)
 
 -- ---- the dump text of a graph, in the parts in which it is sent
 
-module _ (g : GraphState) (a b : Option (List ℕ)) (sent : List ℕ) (is : sent ≡ spell_line header_line ++ spell_line (roots_line (length g.roots))) where
-  head_rest : text_of g ≡ sent ++ text_roots g
-  head_rest = text_of-parts g ∙ ap (λ (t : List ℕ). t ++ text_roots g) (sym is)
+module _ (g : GraphState) (a b : Option (List ℕ)) (sent : List ℕ) (is : sent ≡ spell_dump_line header_line ++ spell_dump_line (roots_line (length g.roots))) where
+  head_rest : dump_text g ≡ sent ++ text_roots g
+  head_rest = dump_text-parts g ∙ ap (λ (t : List ℕ). t ++ text_roots g) (sym is)
 
-  pub head_next : Appends a b sent → Sent a b (text_of g) (text_roots g)
-  head_next next = Sent-next a a b (text_of g) (text_of g) sent (text_roots g) (Sent-begin a (text_of g)) head_rest next
+  pub head_next : Appends a b sent → Sent a b (dump_text g) (text_roots g)
+  head_next next = Sent-next a a b (dump_text g) (dump_text g) sent (text_roots g) (Sent-begin a (dump_text g)) head_rest next
 
-  pub head_less : AppendsLess a b sent → AppendsLess a b (text_of g)
-  head_less next = Sent-less a a b (text_of g) (text_of g) sent (text_roots g) (Sent-begin a (text_of g)) head_rest next
+  pub head_less : AppendsLess a b sent → AppendsLess a b (dump_text g)
+  head_less next = Sent-less a a b (dump_text g) (dump_text g) sent (text_roots g) (Sent-begin a (dump_text g)) head_rest next
 
 module _ (g : GraphState) (a b c : Option (List ℕ)) where
-  pub roots_next : Sent a b (text_of g) (text_roots g) → Appends b c (roots_text g.roots) → Sent a c (text_of g) (text_count g)
-  roots_next so_far next = Sent-next a b c (text_of g) (text_roots g) (roots_text g.roots) (text_count g) so_far refl next
+  pub roots_next : Sent a b (dump_text g) (text_roots g) → Appends b c (roots_text g.roots) → Sent a c (dump_text g) (text_count g)
+  roots_next so_far next = Sent-next a b c (dump_text g) (text_roots g) (roots_text g.roots) (text_count g) so_far refl next
 
-  pub roots_less : Sent a b (text_of g) (text_roots g) → AppendsLess b c (roots_text g.roots) → AppendsLess a c (text_of g)
-  roots_less so_far next = Sent-less a b c (text_of g) (text_roots g) (roots_text g.roots) (text_count g) so_far refl next
+  pub roots_less : Sent a b (dump_text g) (text_roots g) → AppendsLess b c (roots_text g.roots) → AppendsLess a c (dump_text g)
+  roots_less so_far next = Sent-less a b c (dump_text g) (text_roots g) (roots_text g.roots) (text_count g) so_far refl next
 
-  pub count_next : (sent : List ℕ) → sent ≡ spell_line (objects_line (length g.objects)) → Sent a b (text_of g) (text_count g) → Appends b c sent → Sent a c (text_of g) (text_objects g)
-  count_next sent is so_far next = Sent-next a b c (text_of g) (text_count g) sent (text_objects g) so_far (ap (λ (t : List ℕ). t ++ text_objects g) (sym is)) next
+  pub count_next : (sent : List ℕ) → sent ≡ spell_dump_line (objects_line (length g.objects)) → Sent a b (dump_text g) (text_count g) → Appends b c sent → Sent a c (dump_text g) (text_objects g)
+  count_next sent is so_far next = Sent-next a b c (dump_text g) (text_count g) sent (text_objects g) so_far (ap (λ (t : List ℕ). t ++ text_objects g) (sym is)) next
 
-  pub count_less : (sent : List ℕ) → sent ≡ spell_line (objects_line (length g.objects)) → Sent a b (text_of g) (text_count g) → AppendsLess b c sent → AppendsLess a c (text_of g)
-  count_less sent is so_far next = Sent-less a b c (text_of g) (text_count g) sent (text_objects g) so_far (ap (λ (t : List ℕ). t ++ text_objects g) (sym is)) next
+  pub count_less : (sent : List ℕ) → sent ≡ spell_dump_line (objects_line (length g.objects)) → Sent a b (dump_text g) (text_count g) → AppendsLess b c sent → AppendsLess a c (dump_text g)
+  count_less sent is so_far next = Sent-less a b c (dump_text g) (text_count g) sent (text_objects g) so_far (ap (λ (t : List ℕ). t ++ text_objects g) (sym is)) next
 
-  pub all_next : Sent a b (text_of g) (text_objects g) → Appends b c (flat_map spell_line (object_lines 0 g.objects)) → Sent a c (text_of g) text_end
-  all_next so_far next = Sent-next a b c (text_of g) (text_objects g) (flat_map spell_line (object_lines 0 g.objects)) text_end so_far refl next
+  pub all_next : Sent a b (dump_text g) (text_objects g) → Appends b c (flat_map spell_dump_line (object_lines 0 g.objects)) → Sent a c (dump_text g) text_end
+  all_next so_far next = Sent-next a b c (dump_text g) (text_objects g) (flat_map spell_dump_line (object_lines 0 g.objects)) text_end so_far refl next
 
-  pub all_less : Sent a b (text_of g) (text_objects g) → AppendsLess b c (flat_map spell_line (object_lines 0 g.objects)) → AppendsLess a c (text_of g)
-  all_less so_far next = Sent-less a b c (text_of g) (text_objects g) (flat_map spell_line (object_lines 0 g.objects)) text_end so_far refl next
+  pub all_less : Sent a b (dump_text g) (text_objects g) → AppendsLess b c (flat_map spell_dump_line (object_lines 0 g.objects)) → AppendsLess a c (dump_text g)
+  all_less so_far next = Sent-less a b c (dump_text g) (text_objects g) (flat_map spell_dump_line (object_lines 0 g.objects)) text_end so_far refl next
 
 pub on_ok : {A E P Q : Type 0} (r : Result A E) → (P → Q) → OnOk r P → OnOk r Q
 on_ok (Ok x) f h = f h

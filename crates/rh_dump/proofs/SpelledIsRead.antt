@@ -29,10 +29,11 @@ use Rattle.rh_dump.specs.declared.fault.DumpKind.{DumpKind}
 use Rattle.rh_dump.specs.declared.fault.DumpKind.TheVariants.{Long, End, Header, Trailing, Form, Number, Order, Count}
 use Rattle.rh_dump.specs.declared.fault.DumpFault.{DumpFault}
 use Rattle.rh_dump.specs.Dump.{GraphState, root_values, values_of, met_with, met_after, IsNumberedAfter, AreNumbered, AreMetBefore, IsTold, IsRootTold, IsRootBefore, IsRootAfter, RootsRise, IsObjectTold, IsGraph}
-use Rattle.rh_dump.specs.Line.{DumpLine, header_line, roots_line, root_line, objects_line, object_line, end_line, value_text, line_parts, spell_line, root_lines, object_lines, lines_in, text_of, root_due, object_due, due_after}
+use Rattle.rh_dump.specs.Line.{DumpLine, header_line, roots_line, root_line, objects_line, object_line, end_line, value_text, dump_line_parts, spell_dump_line, root_lines, object_lines, lines_in, dump_text, root_due, object_due, due_after}
 use Rattle.rh_dump.specs.Part.{number_up_to, whole_of, small_root_of, after_at, object_head}
 use Rattle.rh_dump.proofs.ObjectsIn.{joined}
 use Rattle.rh_dump.specs.Reading.{formed_parts, part_after, number_or_fault, roots_of_parts, objects_of_parts, reference_or_fault, whole_or_fault, reference_or_whole, value_or_fault, values_or_fault, is_root_before, is_root_after, root_or_fault, root_of_parts, own_number, fields_or_fault, object_of_parts, line_due, line_or_kind, fault_at, end_or_fault, lines_from, with_line, graph_of, graph_within}
+use Rattle.rh_dump.proofs.MetValues.{met_after-append}
 
 -- ---- parts
 
@@ -134,10 +135,6 @@ pub met_after_grows : (met : ℕ) (vs : List Value) → met ≤ met_after met vs
 met_after_grows met [] = omega arith
 met_after_grows met (v ∷ vs) = omega (arith, met_grows met v, met_after_grows (met_with met v) vs)
 
-pub met_after-append : (met : ℕ) (xs ys : List Value) → met_after met (xs ++ ys) ≡ met_after (met_after met xs) ys
-met_after-append met [] ys = refl
-met_after-append met (x ∷ xs) ys = met_after-append (met_with met x) xs ys
-
 pub AreNumbered-parts : (met : ℕ) (xs ys : List Value) → AreNumbered met (xs ++ ys) → AreNumbered met xs × AreNumbered (met_after met xs) ys
 AreNumbered-parts met [] ys h = (tt, h)
 AreNumbered-parts met (x ∷ xs) ys h = let p = AreNumbered-parts (met_with met x) xs ys h.1 in ((h.0, p.0), p.1)
@@ -154,7 +151,7 @@ value_parts : (vs : List Value) (met : ℕ) → AllByRecursion IsTold vs → Are
 value_parts [] met told next below = tt
 value_parts (v ∷ vs) met told next below = (value_part v told.0 (short_in v met next.0 (omega (arith, met_after_grows (met_with met v) vs, below))), value_parts vs (met_with met v) told.1 next.1 below)
 
-length-map_text : (vs : List Value) → length (map value_text vs) ≡ length vs
+pub length-map_text : (vs : List Value) → length (map value_text vs) ≡ length vs
 length-map_text [] = refl
 length-map_text (v ∷ vs) = ap suc (length-map_text vs)
 
@@ -164,7 +161,7 @@ length-map_text (v ∷ vs) = ap suc (length-map_text vs)
 record IsReadAt (due : Due) (line : DumpLine) : Type 0 where
   first : List ℕ
   others : List (List ℕ)
-  spelled : line_parts line ≡ first ∷ others
+  spelled : dump_line_parts line ≡ first ∷ others
   are : AllByRecursion IsPart (first ∷ others)
   read : line_due due (join_with_byte 32 (first ∷ others)) ≡ Ok line
 
@@ -253,7 +250,7 @@ object_at number count met fields before below few told next all =
 
 -- what is due, with these lines after it, is read from their text
 record Reads (limit : ℕ) (due : Due) (lines : List DumpLine) : Type 0 where
-  reads : (number size : ℕ) → size + length (flat_map spell_line lines) ≤ limit → lines_from limit due number size (lines_of (flat_map spell_line lines)) ≡ Ok lines
+  reads : (number size : ℕ) → size + length (flat_map spell_dump_line lines) ≤ limit → lines_from limit due number size (lines_of (flat_map spell_dump_line lines)) ≡ Ok lines
 
 reads_nothing : (limit : ℕ) → Reads limit dues.Nothing []
 unfolding lines_from
@@ -270,10 +267,10 @@ reads_line : (limit : ℕ) (due : Due) (line : DumpLine) (lines : List DumpLine)
 unfolding lines_from
 reads_line limit due line lines a others =
     let bytes = join_with_byte 32 (a.first ∷ a.others) in
-    let rest = flat_map spell_line lines in
-    let text : spell_line line ++ rest ≡ bytes ++ 10 ∷ rest = ap (λ (ps : List (List ℕ)). spell_parts ps ++ rest) a.spelled ∙ append_assoc bytes (10 ∷ []) rest in
-    let raws : lines_of (spell_line line ++ rest) ≡ ended_line bytes ∷ lines_of rest = ap lines_of text ∙ lines_of-prefix bytes rest (printable-join a.first a.others a.are) in
-    let size_is : length (spell_line line ++ rest) ≡ length bytes + (1 + length rest) = omega (arith, ap length text, length-append bytes (10 ∷ rest)) in
+    let rest = flat_map spell_dump_line lines in
+    let text : spell_dump_line line ++ rest ≡ bytes ++ 10 ∷ rest = ap (λ (ps : List (List ℕ)). spell_parts ps ++ rest) a.spelled ∙ append_assoc bytes (10 ∷ []) rest in
+    let raws : lines_of (spell_dump_line line ++ rest) ≡ ended_line bytes ∷ lines_of rest = ap lines_of text ∙ lines_of-prefix bytes rest (printable-join a.first a.others a.are) in
+    let size_is : length (spell_dump_line line ++ rest) ≡ length bytes + (1 + length rest) = omega (arith, ap length text, length-append bytes (10 ∷ rest)) in
     let raw_is : length (bytes ++ 10 ∷ []) ≡ length bytes + 1 = length-append bytes (10 ∷ []) in
     record {
       reads = λ number size few.
@@ -360,7 +357,7 @@ graph_of-lines_in g =
 
 -- ---- what is spelled is read
 
-pub lines_read : (limit : ℕ) (g : GraphState) → IsGraph g → length (text_of g) ≤ limit → lines_from limit dues.Header 1 0 (lines_of (text_of g)) ≡ Ok (lines_in g)
+pub lines_read : (limit : ℕ) (g : GraphState) → IsGraph g → length (dump_text g) ≤ limit → lines_from limit dues.Header 1 0 (lines_of (dump_text g)) ≡ Ok (lines_in g)
 lines_read limit g is few =
     let values = root_values g.roots in
     let parts = AreNumbered-parts 0 values (joined g.objects) is.numbered in
@@ -381,7 +378,7 @@ lines_read limit g is few =
 abbrev ok_graph : GraphState → Result GraphState DumpFault
 ok_graph g = Ok g
 
-pub graph_within-text : (limit : ℕ) (g : GraphState) → IsGraph g → length (text_of g) ≤ limit → graph_within limit (text_of g) ≡ Ok g
+pub graph_within-text : (limit : ℕ) (g : GraphState) → IsGraph g → length (dump_text g) ≤ limit → graph_within limit (dump_text g) ≡ Ok g
 unfolding graph_within
 graph_within-text limit g is few =
     ap (λ (r : Result (List DumpLine) DumpFault). r >>= λ lines. Ok (graph_of lines)) (lines_read limit g is few)
@@ -391,9 +388,9 @@ ok_is : (a b : GraphState) → ◌≡◌ {A = Result GraphState DumpFault} (Ok a
 ok_is a b e = cc
 
 -- equal texts are of equal graphs
-pub text_of-injective : (a b : GraphState) → IsGraph a → IsGraph b → text_of a ≡ text_of b → a ≡ b
-text_of-injective a b is are e =
-    let limit = length (text_of a) in
+pub dump_text-injective : (a b : GraphState) → IsGraph a → IsGraph b → dump_text a ≡ dump_text b → a ≡ b
+dump_text-injective a b is are e =
+    let limit = length (dump_text a) in
     let one = graph_within-text limit a is (omega arith) in
     let other = graph_within-text limit b are (omega (arith, ap length e)) in
     ok_is a b (sym one ∙ ap (graph_within limit) e ∙ other)

@@ -6,7 +6,8 @@ use Rattle.rh_layout.specs.declared.value.Value.TheVariants.{Nil, Int, Ref}
 use Rattle.rh_layout.specs.declared.command.RootId.{RootId}
 use Rattle.rh_layout.specs.Word.{IsWhole}
 
--- The roots that aren't nil, each with what it holds, and for each object, in order of its number, what its fields hold. A reference is to the object of that number.
+-- The roots that aren't nil, each with what it holds, and for each object, in order of its number,
+-- what its fields hold. A reference is to the object of that number.
 pub record GraphState : Type 0 where
   pub roots : List (RootId × Value)
   pub objects : List (List Value)
@@ -19,7 +20,8 @@ root_values roots = map (λ root. root.1) roots
 abbrev pub values_of : GraphState → List Value
 values_of g = root_values g.roots ++ flat_map (λ fields. fields) g.objects
 
--- how many objects are met with this value, where so many were met before it: a reference meets the objects up to its own
+-- how many objects are met with this value, where so many were met before it: a reference meets the
+-- objects up to its own
 abbrev pub met_with : ℕ → Value → ℕ
 met_with met Nil = met
 met_with met (Int n) = met
@@ -36,15 +38,19 @@ IsNumberedAfter met Nil = ⊤
 IsNumberedAfter met (Int n) = ⊤
 IsNumberedAfter met (Ref k) = k ≤ met
 
--- each reference is at most one above all references before it, where so many objects were met before the first value
+-- each reference is at most one above all references before it, where so many objects were met
+-- before the first value
 abbrev pub AreNumbered : ℕ → List Value → Type 0
 AreNumbered met [] = ⊤
-AreNumbered met (value ∷ values) = IsNumberedAfter met value × AreNumbered (met_with met value) values
+AreNumbered met (value ∷ values) =
+    IsNumberedAfter met value × AreNumbered (met_with met value) values
 
--- each object, numbered from this number on, is met before its own fields, where so many were met before those of the first
+-- each object, numbered from this number on, is met before its own fields, where so many were met
+-- before those of the first
 abbrev pub AreMetBefore : ℕ → ℕ → List (List Value) → Type 0
 AreMetBefore number met [] = ⊤
-AreMetBefore number met (fields ∷ others) = (number < met) × AreMetBefore (number + 1) (met_after met fields) others
+AreMetBefore number met (fields ∷ others) =
+    (number < met) × AreMetBefore (number + 1) (met_after met fields) others
 
 -- a value that a text can say: a whole number has a word
 abbrev pub IsTold : Value → Type 0
@@ -75,7 +81,8 @@ pub record IsObjectTold (fields : List Value) : Type 0 where
   pub few : length fields ≤ 4095
   pub told : AllByRecursion IsTold fields
 
--- What every graph keeps: its roots stand in order, its objects are numbered breadth first, and all of them are met.
+-- What every graph keeps: its roots stand in order, its objects are numbered breadth first, and all
+-- of them are met.
 pub record IsGraph (g : GraphState) : Type 0 where
   pub roots : AllByRecursion IsRootTold g.roots
   pub roots_rise : RootsRise None g.roots

@@ -1,14 +1,13 @@
 -- When each fault holds of a text, in the order of the format. No reader is named here.
 use Rattle.std.specs.Prelude.{◌≡◌, ◌≢◌, ℕ, ◌+◌, ◌<◌, ◌≤◌, ◌⊎◌, ⊤, false, List, [], ◌∷◌, length, Option, Some, None, codes, decimal, ℤ}
 use Rattle.std.specs.Fmt.{signed_decimal}
-use Rattle.std.specs.List.{AllByRecursion}
 use Rattle.rh_layout.specs.declared.value.Value.{Value}
 use Rattle.rh_layout.specs.declared.value.Value.TheVariants.{Ref}
 use Rattle.rh_layout.specs.declared.command.RootId.{RootId}
 use Rattle.rh_layout.specs.Word.{IsWhole}
 use Rattle.rh_text.specs.RawLine.{RawLine, raw_text}
 use Rattle.rh_text.specs.Number.{number_of}
-use Rattle.rh_text.specs.Parts.{parts_of}
+use Rattle.rh_text.specs.Parts.{parts_of, IsFormedLine}
 use Rattle.rh_text.specs.Root.{root_of, root_text}
 use Rattle.rh_text.specs.Stages.{◌when◌, no_fault, ◌▸◌}
 use Rattle.rh_dump.specs.Dump.{met_with, IsRootAfter}
@@ -42,21 +41,17 @@ number_or_none (Some n) = n
 -- what is due after a line of these parts
 abbrev pub due_after_parts : Due → List (List ℕ) → Due
 due_after_parts dues.Header parts = dues.Roots
-due_after_parts dues.Roots (keyword ∷ count ∷ []) = root_due (number_or_none (number_of count)) None 0
-due_after_parts (dues.Root left last met) (root ∷ value ∷ []) = root_due left (root_of root) (met_with_part met value)
-due_after_parts (dues.Objects met) (keyword ∷ count ∷ []) = object_due 0 (number_or_none (number_of count)) met
-due_after_parts (dues.Object number count met) (own ∷ fields ∷ values) = object_due (number + 1) count (met_with_parts met values)
+due_after_parts dues.Roots (keyword ∷ count ∷ []) =
+    root_due (number_or_none (number_of count)) None 0
+due_after_parts (dues.Root left last met) (root ∷ value ∷ []) =
+    root_due left (root_of root) (met_with_part met value)
+due_after_parts (dues.Objects met) (keyword ∷ count ∷ []) =
+    object_due 0 (number_or_none (number_of count)) met
+due_after_parts (dues.Object number count met) (own ∷ fields ∷ values) =
+    object_due (number + 1) count (met_with_parts met values)
 due_after_parts due parts = dues.Nothing
 
 -- ---- what the parts of a line may be
-
--- a byte that a line may have
-abbrev pub IsPrintable : ℕ → Type 0
-IsPrintable b = (32 ≤ b) × (b ≤ 126)
-
--- a line of printable bytes, none of whose parts is empty
-abbrev pub IsWellFormed : List ℕ → Type 0
-IsWellFormed line = AllByRecursion IsPrintable line × AllByRecursion (λ part. part ≢ []) (parts_of line)
 
 -- the part is the decimal of a number up to this limit
 abbrev pub IsNumberUpTo : ℕ → List ℕ → Type 0
@@ -92,7 +87,8 @@ value_faults count met part others =
 -- of values, one after the other
 abbrev pub values_faults : ℕ → ℕ → List (List ℕ) → ℕ → DumpKind → Type 0
 values_faults count met [] = no_fault
-values_faults count met (part ∷ parts) = value_faults count met part (values_faults count (met_with_part met part) parts)
+values_faults count met (part ∷ parts) =
+    value_faults count met part (values_faults count (met_with_part met part) parts)
 
 -- of a line that tells a number up to a limit, and at least how many objects were met
 abbrev pub count_faults : List ℕ → ℕ → ℕ → List (List ℕ) → ℕ → DumpKind → Type 0
@@ -127,10 +123,14 @@ object_faults number count met parts = Form when ⊤ ▸ no_fault
 -- of a line with its line end, by what is due
 abbrev pub due_faults : Due → List ℕ → ℕ → DumpKind → Type 0
 due_faults dues.Header line = Header when (line ≢ codes "rheap 1") ▸ no_fault
-due_faults dues.Roots line = Form when (¬ IsWellFormed line) ▸ count_faults (codes "roots") 4096 0 (parts_of line)
-due_faults (dues.Root left last met) line = Form when (¬ IsWellFormed line) ▸ root_faults last met (parts_of line)
-due_faults (dues.Objects met) line = Form when (¬ IsWellFormed line) ▸ count_faults (codes "objects") 16777216 met (parts_of line)
-due_faults (dues.Object number count met) line = Form when (¬ IsWellFormed line) ▸ object_faults number count met (parts_of line)
+due_faults dues.Roots line =
+    Form when (¬ IsFormedLine line) ▸ count_faults (codes "roots") 4096 0 (parts_of line)
+due_faults (dues.Root left last met) line =
+    Form when (¬ IsFormedLine line) ▸ root_faults last met (parts_of line)
+due_faults (dues.Objects met) line =
+    Form when (¬ IsFormedLine line) ▸ count_faults (codes "objects") 16777216 met (parts_of line)
+due_faults (dues.Object number count met) line =
+    Form when (¬ IsFormedLine line) ▸ object_faults number count met (parts_of line)
 due_faults dues.End line = Form when (line ≢ codes "end") ▸ no_fault
 due_faults dues.Nothing line = Trailing when ⊤ ▸ no_fault
 
@@ -148,7 +148,8 @@ abbrev pub end_faults : Due → ℕ → ℕ → ℕ → DumpKind → Type 0
 end_faults dues.Nothing number line place kind = ⊥
 end_faults due number line place kind = (line ≡ number) × (place ≡ 0) × (kind ≡ End)
 
--- of the raw lines from this number on, after a text of so many bytes, each on its line and at its place there
+-- of the raw lines from this number on, after a text of so many bytes, each on its line and at its
+-- place there
 abbrev pub faults_from : Due → ℕ → ℕ → List RawLine → ℕ → ℕ → DumpKind → Type 0
 faults_from due number size [] line place kind = end_faults due number line place kind
 faults_from due number size (raw ∷ raws) line place kind =

@@ -4,7 +4,8 @@ use Rattle.rh_layout.specs.declared.value.Value.{Value}
 use Rattle.rh_layout.specs.declared.command.RootId.{RootId}
 use Rattle.rh_dump.specs.Dump.{GraphState}
 
--- the roots with what they hold, how many fields each object has, and what the fields of all objects hold, one after the other
+-- the roots with what they hold, how many fields each object has, and what the fields of all
+-- objects hold, one after the other
 pub record FlatGraph : Type 0 where
   pub roots : List (RootId × Value)
   pub counts : List ℕ

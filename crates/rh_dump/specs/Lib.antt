@@ -6,4 +6,5 @@ pub mod HeapDump
 pub mod Line
 pub mod Part
 pub mod Reading
+pub mod Putting
 pub mod Faults

@@ -27,17 +27,18 @@ value_text (Int n) = signed_decimal n
 value_text (Ref k) = 64 ∷ decimal k
 
 -- the parts of a line
-abbrev pub line_parts : DumpLine → List (List ℕ)
-line_parts header_line = codes "rheap" ∷ codes "1" ∷ []
-line_parts (roots_line count) = codes "roots" ∷ decimal count ∷ []
-line_parts (root_line root value) = root_text root ∷ value_text value ∷ []
-line_parts (objects_line count) = codes "objects" ∷ decimal count ∷ []
-line_parts (object_line number fields) = (64 ∷ decimal number) ∷ decimal (length fields) ∷ map value_text fields
-line_parts end_line = codes "end" ∷ []
+abbrev pub dump_line_parts : DumpLine → List (List ℕ)
+dump_line_parts header_line = codes "rheap" ∷ codes "1" ∷ []
+dump_line_parts (roots_line count) = codes "roots" ∷ decimal count ∷ []
+dump_line_parts (root_line root value) = root_text root ∷ value_text value ∷ []
+dump_line_parts (objects_line count) = codes "objects" ∷ decimal count ∷ []
+dump_line_parts (object_line number fields) =
+    (64 ∷ decimal number) ∷ decimal (length fields) ∷ map value_text fields
+dump_line_parts end_line = codes "end" ∷ []
 
 -- the text of a line
-abbrev pub spell_line : DumpLine → List ℕ
-spell_line line = spell_parts (line_parts line)
+abbrev pub spell_dump_line : DumpLine → List ℕ
+spell_dump_line line = spell_parts (dump_line_parts line)
 
 -- the lines of roots
 abbrev pub root_lines : List (RootId × Value) → List DumpLine
@@ -51,11 +52,14 @@ object_lines number (fields ∷ others) = object_line number fields ∷ object_l
 
 -- the lines of a graph
 abbrev pub lines_in : GraphState → List DumpLine
-lines_in g = header_line ∷ roots_line (length g.roots) ∷ (root_lines g.roots ++ (objects_line (length g.objects) ∷ (object_lines 0 g.objects ++ (end_line ∷ []))))
+lines_in g =
+    header_line ∷ roots_line (length g.roots)
+    ∷ (root_lines g.roots ++ (objects_line (length g.objects) ∷ (object_lines 0 g.objects
+    ++ (end_line ∷ []))))
 
 -- the dump text of a graph
-abbrev pub text_of : GraphState → List ℕ
-text_of g = flat_map spell_line (lines_in g)
+abbrev pub dump_text : GraphState → List ℕ
+dump_text g = flat_map spell_dump_line (lines_in g)
 
 -- what is due where so many root lines are
 abbrev pub root_due : ℕ → Option RootId → ℕ → Due
@@ -69,10 +73,12 @@ object_due number count met = if nat_lt number count then Object number count me
 abbrev pub due_after : Due → DumpLine → Due
 due_after due header_line = Roots
 due_after due (roots_line count) = root_due count None 0
-due_after (Root left last met) (root_line root value) = root_due left (Some root) (met_with met value)
+due_after (Root left last met) (root_line root value) =
+    root_due left (Some root) (met_with met value)
 due_after due (root_line root value) = due
 due_after (Objects met) (objects_line count) = object_due 0 count met
 due_after due (objects_line count) = due
-due_after (Object number count met) (object_line own fields) = object_due (number + 1) count (met_after met fields)
+due_after (Object number count met) (object_line own fields) =
+    object_due (number + 1) count (met_after met fields)
 due_after due (object_line own fields) = due
 due_after due end_line = Nothing

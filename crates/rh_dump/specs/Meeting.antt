@@ -90,7 +90,8 @@ abbrev pub with_count : NumberingState → ℕ → NumberingState
 with_count s count = record {
   limit = s.limit;
   names = s.names;
-  flat = record { roots = s.flat.roots; counts = s.flat.counts ++ count ∷ []; values = s.flat.values };
+  flat =
+      record { roots = s.flat.roots; counts = s.flat.counts ++ count ∷ []; values = s.flat.values };
 }
 
 -- these values are put, which fields hold, and met

@@ -63,7 +63,8 @@ reference_or_whole count met part None = whole_or_fault part
 -- nil, a reference or a whole number
 unfoldable pub value_or_fault : ℕ → ℕ → List ℕ → Result Value DumpKind
 value_or_fault count met part =
-    if bytes_eq part (codes "nil") then Ok Nil else reference_or_whole count met part (after_at part)
+    if bytes_eq part (codes "nil") then Ok Nil
+        else reference_or_whole count met part (after_at part)
 
 -- one value after the other
 unfoldable pub values_or_fault : ℕ → ℕ → List (List ℕ) → Result (List Value) DumpKind
@@ -88,7 +89,8 @@ root_or_fault last part = do
   root ← or_fault (small_root_of part) Number
   if is_root_after last root then Ok root else Err Order
 
--- a root that isn't nil; how many objects there are isn't known yet, but fewer than a number can say
+-- a root that isn't nil; how many objects there are isn't known yet, but fewer than a number can
+-- say
 unfoldable pub root_of_parts : Option RootId → ℕ → List (List ℕ) → Result (RootId × Value) DumpKind
 root_of_parts last met parts = do
   two ← or_fault (two_parts parts) Form
@@ -139,7 +141,8 @@ line_due (dues.Object number count met) line = do
 line_due dues.End line = if bytes_eq line (codes "end") then Ok end_line else Err Form
 line_due dues.Nothing line = Err Trailing
 
--- a raw line, after a text of so many bytes, by its limits and then by what is due, where a text has at most so many bytes
+-- a raw line, after a text of so many bytes, by its limits and then by what is due, where a text
+-- has at most so many bytes
 unfoldable pub line_or_kind : ℕ → Due → ℕ → RawLine → Result DumpLine DumpKind
 line_or_kind limit due size raw =
     if nat_lt limit (size + length (raw_text raw)) then Err Long

@@ -1,9 +1,9 @@
 //! Whether two graphs have equal dump texts.
 
 ghost use Rattle.std.specs.Prelude.{◌≡◌, ◌↔◌, IsTrue};
-ghost use Rattle.rh_dump.specs.Line.{text_of};
+ghost use Rattle.rh_dump.specs.Line.{dump_text};
 
-use crate::graph::Graph;
+use crate::dump_graph::Graph;
 use rh_layout::{RootId, Value};
 use std::alloc::Allocator;
 
@@ -15,10 +15,10 @@ fn same_roots(a: &[(RootId, Value)], b: &[(RootId, Value)]) -> bool
 }
 
 /// The numbers are equal, place by place.
-fn same_counts(a: &[u32], b: &[u32]) -> bool
-    ensures { IsTrue result ↔ (a.now ≡ b.now) }
+fn same_counts(these: &[u32], those: &[u32]) -> bool
+    ensures { IsTrue result ↔ (these.now ≡ those.now) }
 {
-    a == b
+    these == those
 }
 
 /// The values are equal, place by place.
@@ -31,7 +31,7 @@ fn same_values(a: &[Value], b: &[Value]) -> bool
 /// Whether two graphs have equal dump texts, which is whether they have the same roots and objects.
 /// It writes no text and takes no memory.
 pub fn same_text<A: Allocator, B: Allocator>(a: &Graph<A>, b: &Graph<B>) -> bool
-    ensures { IsTrue result ↔ (text_of a.now ≡ text_of b.now) }
+    ensures { IsTrue result ↔ (dump_text a.now ≡ dump_text b.now) }
 {
     if !same_roots(&a.roots, &b.roots) {
         return false;

@@ -4,7 +4,7 @@ ghost use Rattle.std.specs.Prelude.{◌≡◌, ◌++◌, ◌∷◌, [], OnOk, On
 ghost use Rattle.rh_dump.specs.Dump.{IsGraph};
 ghost use Rattle.rh_dump.specs.Graph.{empty_flat, graph_in, IsFilled};
 
-use crate::graph::Graph;
+use crate::dump_graph::Graph;
 use rh_layout::{OutOfMemory, RootId, Value};
 use std::alloc::{Allocator, Global};
 use std::marker::Model;

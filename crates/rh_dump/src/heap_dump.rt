@@ -5,7 +5,7 @@ ghost use Rattle.rh_space.specs.Space.{used_words};
 ghost use Rattle.rh_core.specs.Mutator.{graph_of};
 ghost use Rattle.rh_dump.specs.HeapDump.{dump_of};
 
-use crate::graph::Graph;
+use crate::dump_graph::Graph;
 use crate::numbering::dump_of_source;
 use crate::source::Source;
 use rh_core::Heap;

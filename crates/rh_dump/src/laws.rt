@@ -3,6 +3,7 @@
 ghost use Rattle.std.specs.Prelude.{◌≡◌, ◌↔◌, ◌≤◌, ℕ, List, Some, Ok, Err, length, slice_get};
 ghost use Rattle.rh_text.specs.RawLine.{lines_of};
 ghost use Rattle.rh_text.specs.Stages.{IsFaultless, IsFirst};
+ghost use Rattle.rh_space.specs.Space.{IsSpace};
 ghost use Rattle.rh_model.specs.Graph.{Graph};
 ghost use Rattle.rh_model.specs.Reach.{Reached};
 ghost use Rattle.rh_model.specs.SameGraph.{SameGraph};
@@ -14,7 +15,7 @@ ghost use Rattle.rh_dump.specs.HeapDump.{dump_of, plain_dump_of};
 ghost use Rattle.rh_dump.specs.Numbering.{names_after, dump_below, ReachesObjectsBelow};
 ghost use Rattle.rh_dump.specs.Dump.{GraphState, IsGraph};
 ghost use Rattle.rh_dump.specs.Faults.{dump_faults};
-ghost use Rattle.rh_dump.specs.Line.{text_of};
+ghost use Rattle.rh_dump.specs.Line.{dump_text};
 ghost use Rattle.rh_dump.specs.Reading.{graph_of_text};
 ghost use Rattle.rh_dump.specs.declared.fault.DumpFault.{DumpFault as FaultOf};
 
@@ -51,6 +52,30 @@ pub fn equal_dumps_of_heaps_are_same_graphs()
         ↔ SameGraph (plain.graph_of p) (graph_of h.mutators) }
 {}
 
+/// The dump of a heap is a graph, and so is that of a plain heap of at most 16,777,216 objects.
+pub fn dumps_of_heaps_are_graphs()
+    ensures heaps { (h : HeapState) → IsHeap h → IsSpace h.mutators.space → IsGraph (dump_of h) }
+    ensures plain_heaps { (p : PlainHeap) → IsPlain p → length p.objects ≤ 16777216
+        → IsGraph (plain_dump_of p) }
+{}
+
+/// Two heaps have equal dump texts exactly where they are the same graph, and so have two plain
+/// heaps of at most 16,777,216 objects each, and such a plain heap and a heap.
+pub fn equal_dump_texts_are_same_graphs()
+    ensures heaps { (h k : HeapState) → IsHeap h → IsHeap k
+        → IsSpace h.mutators.space → IsSpace k.mutators.space
+        → (dump_text (dump_of h) ≡ dump_text (dump_of k))
+        ↔ SameGraph (graph_of h.mutators) (graph_of k.mutators) }
+    ensures plain_heaps { (p q : PlainHeap) → IsPlain p → IsPlain q
+        → length p.objects ≤ 16777216 → length q.objects ≤ 16777216
+        → (dump_text (plain_dump_of p) ≡ dump_text (plain_dump_of q))
+        ↔ SameGraph (plain.graph_of p) (plain.graph_of q) }
+    ensures both { (p : PlainHeap) (h : HeapState) → IsPlain p → length p.objects ≤ 16777216
+        → IsHeap h → IsSpace h.mutators.space
+        → (dump_text (plain_dump_of p) ≡ dump_text (dump_of h))
+        ↔ SameGraph (plain.graph_of p) (graph_of h.mutators) }
+{}
+
 /// A heap has the dump of each plain heap that it stands for.
 pub fn a_heap_has_the_dump_of_its_plain_heap()
     ensures { (h : HeapState) (p : PlainHeap) → StandsFor h.mutators p
@@ -63,15 +88,15 @@ pub fn a_heap_has_the_dump_of_its_plain_heap()
 /// What a graph is spelled as is read as that graph, where it has at most 268,435,456 bytes, and
 /// nothing else is read as it.
 pub fn what_is_spelled_is_read()
-    ensures spelled { (g : GraphState) → IsGraph g → length (text_of g) ≤ 268435456
-        → graph_of_text (text_of g) ≡ Ok g }
+    ensures spelled { (g : GraphState) → IsGraph g → length (dump_text g) ≤ 268435456
+        → graph_of_text (dump_text g) ≡ Ok g }
     ensures read { (text : List ℕ) (g : GraphState) → graph_of_text text ≡ Ok g
-        → IsGraph g × (text ≡ text_of g) × (length text ≤ 268435456) }
+        → IsGraph g × (text ≡ dump_text g) × (length text ≤ 268435456) }
 {}
 
 /// Graphs with equal texts are equal, however long these are.
 pub fn equal_texts_are_of_equal_graphs()
-    ensures { (a b : GraphState) → IsGraph a → IsGraph b → text_of a ≡ text_of b → a ≡ b }
+    ensures { (a b : GraphState) → IsGraph a → IsGraph b → dump_text a ≡ dump_text b → a ≡ b }
 {}
 
 /// The fault that reading names is the one that comes first in the order of the format: it holds on
@@ -83,5 +108,5 @@ pub fn the_first_fault_is_named()
     ensures none { (text : List ℕ) (g : GraphState) → graph_of_text text ≡ Ok g
         → (n : ℕ) → IsFaultless (dump_faults (lines_of text) n) }
     ensures spelled { (text : List ℕ) → ((n : ℕ) → IsFaultless (dump_faults (lines_of text) n))
-        → (g : GraphState) × IsGraph g × (text ≡ text_of g) }
+        → (g : GraphState) × IsGraph g × (text ≡ dump_text g) }
 {}

@@ -3,20 +3,29 @@
 
 mod comparing;
 mod due;
+mod dump_graph;
 mod fault;
-mod graph;
 mod graph_builder;
-pub mod heap_dump;
+mod heap_dump;
 pub mod laws;
+mod limits;
+mod line_parts;
+mod line_reading;
 mod numbering;
-pub mod plain_dump;
+mod parts;
+mod plain_dump;
+mod read_error;
+mod reading;
 mod source;
 mod spelling;
-mod text;
 mod writing;
 
 pub use comparing::same_text;
+pub use dump_graph::Graph;
 pub use fault::{DumpFault, DumpKind};
-pub use graph::Graph;
+pub use heap_dump::graph;
+pub use plain_dump::plain_graph;
+pub use read_error::DumpReadError;
+pub use reading::{read_dump, read_dump_told};
 pub use rh_text::Write;
 pub use writing::{write_dump, write_dump_told};

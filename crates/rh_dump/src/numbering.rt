@@ -1,6 +1,7 @@
 //! The numbering of objects, breadth first.
 
-ghost use Rattle.std.specs.Prelude.{◌≡◌, ◌<◌, ◌≤◌, ℕ, [], ◌∷◌, ◌++◌, length, OnOk, OnErr, IfOk, IfSome, slice_get, Some, None};
+ghost use Rattle.std.specs.Prelude.{◌≡◌, ◌<◌, ◌≤◌, ℕ, [], ◌∷◌, ◌++◌, length, OnOk, OnErr, IfOk};
+ghost use Rattle.std.specs.Prelude.{IfSome, slice_get, Some, None};
 ghost use Rattle.rh_dump.specs.Dump.{IsGraph};
 ghost use Rattle.rh_dump.specs.Graph.{graph_in, IsFilled};
 ghost use Rattle.rh_model.specs.Graph.{root_value};
@@ -26,7 +27,7 @@ ghost use Rattle.rh_dump.specs.Meeting.{
   numbering_after,
 };
 
-use crate::graph::Graph;
+use crate::dump_graph::Graph;
 use crate::graph_builder::GraphBuilder;
 use crate::source::Source;
 use rh_layout::limits::{MAX_OWNERS, MAX_SLOTS};

@@ -6,7 +6,7 @@ ghost use Rattle.rh_model.specs.PlainValue.{value_of_plain};
 ghost use Rattle.rh_dump.specs.HeapDump.{plain_dump_of};
 ghost use Rattle.rh_dump.specs.Meeting.{IsBelow};
 
-use crate::graph::Graph;
+use crate::dump_graph::Graph;
 use crate::numbering::dump_of_source;
 use crate::source::Source;
 use rh_layout::{OutOfMemory, RootId, Value};
@@ -63,9 +63,9 @@ fn value_of(value: PlainValue) -> Value
 }
 
 /// What the roots of a plain heap reach, with objects numbered breadth first (Moore, 1959): the
-/// roots in order of owner, then slot, then the fields of object 0, of object 1, and so on. Time and
-/// memory are linear in the plain heap. Beside the graph it takes 8 bytes for each object at most,
-/// while it runs.
+/// roots in order of owner, then slot, then the fields of object 0, of object 1, and so on. Time
+/// and memory are linear in the plain heap. Beside the graph it takes 8 bytes for each object at
+/// most, while it runs.
 ///
 /// # Errors
 ///

@@ -6,28 +6,28 @@ ghost use Rattle.std.specs.List.{flat_map};
 ghost use Rattle.rh_text.specs.Calls.{AreSpent};
 ghost use Rattle.rh_text.specs.Output.{AppendsLess};
 ghost use Rattle.rh_dump.specs.Graph.{graph_in, objects_in, total};
-ghost use Rattle.rh_dump.specs.Line.{spell_line, object_line, root_lines, object_lines, text_of};
+ghost use Rattle.rh_dump.specs.Line.{spell_dump_line, object_line, root_lines, object_lines};
+ghost use Rattle.rh_dump.specs.Line.{dump_text};
 
-use crate::graph::Graph;
+use crate::dump_graph::Graph;
 use crate::spelling::{put_head, put_next_value, put_object_head, put_objects_line, put_root_line};
-use crate::text::Text;
 use rh_layout::{RootId, Value};
-use rh_text::{Calls, Write, send};
+use rh_text::{Calls, LineText, Write, send};
 use std::alloc::Allocator;
 use std::io;
 
 /// Writes the lines of roots.
 fn write_roots<W: io::Write>(
-    text: &mut Text,
+    text: &mut LineText,
     writer: &mut W,
     writes: &mut Calls,
     roots: &[(RootId, Value)],
 ) -> Result<(), Write>
     requires { writes.old.failed ≡ false }
     ensures ok { OnOk result (Appends (W.contents writer.old) (W.contents writer.new)
-        (flat_map spell_line (root_lines roots.now))) }
+        (flat_map spell_dump_line (root_lines roots.now))) }
     ensures err { OnErr result (AppendsLess (W.contents writer.old) (W.contents writer.new)
-        (flat_map spell_line (root_lines roots.now))) }
+        (flat_map spell_dump_line (root_lines roots.now))) }
     ensures failed { OnErr result (AreSpent writes.new) }
     ensures none_failed { OnOk result (writes.new.failed ≡ false) }
 {
@@ -40,7 +40,7 @@ fn write_roots<W: io::Write>(
 
 /// Writes the line of an object.
 fn write_object<W: io::Write>(
-    text: &mut Text,
+    text: &mut LineText,
     writer: &mut W,
     writes: &mut Calls,
     number: usize,
@@ -48,9 +48,9 @@ fn write_object<W: io::Write>(
 ) -> Result<(), Write>
     requires { writes.old.failed ≡ false }
     ensures ok { OnOk result (Appends (W.contents writer.old) (W.contents writer.new)
-        (spell_line (object_line number fields.now))) }
+        (spell_dump_line (object_line number fields.now))) }
     ensures err { OnErr result (AppendsLess (W.contents writer.old) (W.contents writer.new)
-        (spell_line (object_line number fields.now))) }
+        (spell_dump_line (object_line number fields.now))) }
     ensures failed { OnErr result (AreSpent writes.new) }
     ensures none_failed { OnOk result (writes.new.failed ≡ false) }
 {
@@ -65,7 +65,7 @@ fn write_object<W: io::Write>(
 
 /// Writes the lines of objects, whose fields stand one after the other.
 fn write_objects<W: io::Write>(
-    text: &mut Text,
+    text: &mut LineText,
     writer: &mut W,
     writes: &mut Calls,
     counts: &[u32],
@@ -74,9 +74,9 @@ fn write_objects<W: io::Write>(
     requires none_failed { writes.old.failed ≡ false }
     requires filled { total counts.now ≡ length values.now }
     ensures ok { OnOk result (Appends (W.contents writer.old) (W.contents writer.new)
-        (flat_map spell_line (object_lines 0 (objects_in counts.now values.now)))) }
+        (flat_map spell_dump_line (object_lines 0 (objects_in counts.now values.now)))) }
     ensures err { OnErr result (AppendsLess (W.contents writer.old) (W.contents writer.new)
-        (flat_map spell_line (object_lines 0 (objects_in counts.now values.now)))) }
+        (flat_map spell_dump_line (object_lines 0 (objects_in counts.now values.now)))) }
     ensures failed { OnErr result (AreSpent writes.new) }
     ensures none_failed { OnOk result (writes.new.failed ≡ false) }
 {
@@ -102,13 +102,13 @@ fn write_flat<W: io::Write>(
     requires none_failed { writes.old.failed ≡ false }
     requires filled { total counts.now ≡ length values.now }
     ensures ok { OnOk result (Appends (W.contents writer.old) (W.contents writer.new)
-        (text_of (graph_in (record {
+        (dump_text (graph_in (record {
           roots = roots.now;
           counts = counts.now;
           values = values.now;
         })))) }
     ensures err { OnErr result (AppendsLess (W.contents writer.old) (W.contents writer.new)
-        (text_of (graph_in (record {
+        (dump_text (graph_in (record {
           roots = roots.now;
           counts = counts.now;
           values = values.now;
@@ -116,7 +116,7 @@ fn write_flat<W: io::Write>(
     ensures failed { OnErr result (AreSpent writes.new) }
     ensures none_failed { OnOk result (writes.new.failed ≡ false) }
 {
-    let mut text = Text::new();
+    let mut text = LineText::new();
     put_head(&mut text, roots.len());
     send(writer, writes, text.as_bytes())?;
     write_roots(&mut text, writer, writes, roots)?;
@@ -131,13 +131,13 @@ fn write_flat<W: io::Write>(
 ///
 /// # Errors
 ///
-/// `Write` where a write failed, or 33,554,432 writes of one piece didn't come to its end. A prefix
-/// of the text was written then.
+/// `Write` where a write failed, or 33,554,432 writes of a line or a part of one didn't come to its
+/// end (`write_dump_told` says that it comes nowhere else). A prefix of the text was written then.
 pub fn write_dump<A: Allocator, W: io::Write>(graph: &Graph<A>, writer: &mut W) -> Result<(), Write>
     ensures ok { OnOk result (Appends (W.contents writer.old) (W.contents writer.new)
-        (text_of graph.now)) }
+        (dump_text graph.now)) }
     ensures err { OnErr result (AppendsLess (W.contents writer.old) (W.contents writer.new)
-        (text_of graph.now)) }
+        (dump_text graph.now)) }
 {
     write_dump_told(graph, writer, &mut Calls::new())
 }
@@ -155,9 +155,9 @@ pub fn write_dump_told<A: Allocator, W: io::Write>(
 ) -> Result<(), Write>
     requires { writes.old.failed ≡ false }
     ensures ok { OnOk result (Appends (W.contents writer.old) (W.contents writer.new)
-        (text_of graph.now)) }
+        (dump_text graph.now)) }
     ensures err { OnErr result (AppendsLess (W.contents writer.old) (W.contents writer.new)
-        (text_of graph.now)) }
+        (dump_text graph.now)) }
     // It is refused only where a write failed or none was left, and no write failed where it isn't.
     ensures failed { OnErr result (AreSpent writes.new) }
     ensures none_failed { OnOk result (writes.new.failed ≡ false) }

@@ -1,5 +1,5 @@
-use Rattle.rh_dump.proofs.SpelledIsRead.{text_of-injective}
+use Rattle.rh_dump.proofs.SpelledIsRead.{dump_text-injective}
 use Rattle.rh_dump.proofs.laws.equal_texts_are_of_equal_graphs.Goals as goal
 
 pub returns : goal.returns
-returns c = text_of-injective
+returns c = dump_text-injective

@@ -3,7 +3,7 @@ use Rattle.std.proofs.lemmas.Result.{err_from_is_err_and}
 use Rattle.rh_text.specs.lemmas.Appends.{Sent}
 use Rattle.rh_dump.specs.Dump.{GraphState}
 use Rattle.rh_dump.specs.Graph.{graph_in}
-use Rattle.rh_dump.specs.Line.{spell_line, objects_line, text_of}
+use Rattle.rh_dump.specs.Line.{spell_dump_line, objects_line, dump_text}
 use Rattle.rh_dump.proofs.ObjectsIn.{length-objects_in}
 use Rattle.rh_dump.proofs.Sending.{text_roots, text_count, text_objects, text_end, head_next, head_less, roots_next, roots_less, count_next, count_less, all_next, all_less, on_ok, on_err, Sent-last, Sent-last_less}
 use Rattle.rh_dump.proofs.writing.write_flat.Goals as goal
@@ -30,7 +30,7 @@ returns-in_err-send-2-clause-err g c =
     let graph : GraphState = graph_in (record { roots = c.args.roots.now; counts = c.args.counts.now; values = c.args.values.now }) in
     let head = head_next graph (known c.args.writer.now) (known c.send.new.writer) c.as_bytes.result.now (c.as_bytes.ensures ∙ c.put_head.ensures) c.in_ok-send.ensures.ok in
     let roots = roots_next graph (known c.args.writer.now) (known c.send.new.writer) (known c.write_roots.new.writer) head c.in_ok-write_roots.ensures.ok in
-    let is = c.as_bytes-2.ensures ∙ c.put_objects_line.ensures ∙ ap (λ n. spell_line (objects_line n)) (sym (length-objects_in c.args.counts.now c.args.values.now)) in
+    let is = c.as_bytes-2.ensures ∙ c.put_objects_line.ensures ∙ ap (λ n. spell_dump_line (objects_line n)) (sym (length-objects_in c.args.counts.now c.args.values.now)) in
     rw p.1 (count_less graph (known c.args.writer.now) (known c.write_roots.new.writer) (known c.send-2.new.writer) c.as_bytes-2.result.now is roots c.in_err-send-2.ensures.err)
 
 pub returns-in_err-write_objects-clause-err : goal.returns-in_err-write_objects-clause-err
@@ -40,7 +40,7 @@ returns-in_err-write_objects-clause-err g c =
     let graph : GraphState = graph_in (record { roots = c.args.roots.now; counts = c.args.counts.now; values = c.args.values.now }) in
     let head = head_next graph (known c.args.writer.now) (known c.send.new.writer) c.as_bytes.result.now (c.as_bytes.ensures ∙ c.put_head.ensures) c.in_ok-send.ensures.ok in
     let roots = roots_next graph (known c.args.writer.now) (known c.send.new.writer) (known c.write_roots.new.writer) head c.in_ok-write_roots.ensures.ok in
-    let is = c.as_bytes-2.ensures ∙ c.put_objects_line.ensures ∙ ap (λ n. spell_line (objects_line n)) (sym (length-objects_in c.args.counts.now c.args.values.now)) in
+    let is = c.as_bytes-2.ensures ∙ c.put_objects_line.ensures ∙ ap (λ n. spell_dump_line (objects_line n)) (sym (length-objects_in c.args.counts.now c.args.values.now)) in
     let count = count_next graph (known c.args.writer.now) (known c.write_roots.new.writer) (known c.send-2.new.writer) c.as_bytes-2.result.now is roots c.in_ok-send-2.ensures.ok in
     rw p.1 (all_less graph (known c.args.writer.now) (known c.send-2.new.writer) (known c.write_objects.new.writer) count c.in_err-write_objects.ensures.err)
 
@@ -50,10 +50,10 @@ returns-clause-ok g c =
     let graph : GraphState = graph_in (record { roots = c.args.roots.now; counts = c.args.counts.now; values = c.args.values.now }) in
     let head = head_next graph (known c.args.writer.now) (known c.send.new.writer) c.as_bytes.result.now (c.as_bytes.ensures ∙ c.put_head.ensures) c.in_ok-send.ensures.ok in
     let roots = roots_next graph (known c.args.writer.now) (known c.send.new.writer) (known c.write_roots.new.writer) head c.in_ok-write_roots.ensures.ok in
-    let is = c.as_bytes-2.ensures ∙ c.put_objects_line.ensures ∙ ap (λ n. spell_line (objects_line n)) (sym (length-objects_in c.args.counts.now c.args.values.now)) in
+    let is = c.as_bytes-2.ensures ∙ c.put_objects_line.ensures ∙ ap (λ n. spell_dump_line (objects_line n)) (sym (length-objects_in c.args.counts.now c.args.values.now)) in
     let count = count_next graph (known c.args.writer.now) (known c.write_roots.new.writer) (known c.send-2.new.writer) c.as_bytes-2.result.now is roots c.in_ok-send-2.ensures.ok in
     let all = all_next graph (known c.args.writer.now) (known c.send-2.new.writer) (known c.write_objects.new.writer) count c.in_ok-write_objects.ensures.ok in
-    on_ok c.send-3.result (Sent-last (known c.args.writer.now) (known c.write_objects.new.writer) (known c.send-3.new.writer) (text_of graph) text_end all) c.send-3.ensures.ok
+    on_ok c.send-3.result (Sent-last (known c.args.writer.now) (known c.write_objects.new.writer) (known c.send-3.new.writer) (dump_text graph) text_end all) c.send-3.ensures.ok
 
 pub returns-clause-err : goal.returns-clause-err
 returns-clause-err g c =
@@ -61,7 +61,7 @@ returns-clause-err g c =
     let graph : GraphState = graph_in (record { roots = c.args.roots.now; counts = c.args.counts.now; values = c.args.values.now }) in
     let head = head_next graph (known c.args.writer.now) (known c.send.new.writer) c.as_bytes.result.now (c.as_bytes.ensures ∙ c.put_head.ensures) c.in_ok-send.ensures.ok in
     let roots = roots_next graph (known c.args.writer.now) (known c.send.new.writer) (known c.write_roots.new.writer) head c.in_ok-write_roots.ensures.ok in
-    let is = c.as_bytes-2.ensures ∙ c.put_objects_line.ensures ∙ ap (λ n. spell_line (objects_line n)) (sym (length-objects_in c.args.counts.now c.args.values.now)) in
+    let is = c.as_bytes-2.ensures ∙ c.put_objects_line.ensures ∙ ap (λ n. spell_dump_line (objects_line n)) (sym (length-objects_in c.args.counts.now c.args.values.now)) in
     let count = count_next graph (known c.args.writer.now) (known c.write_roots.new.writer) (known c.send-2.new.writer) c.as_bytes-2.result.now is roots c.in_ok-send-2.ensures.ok in
     let all = all_next graph (known c.args.writer.now) (known c.send-2.new.writer) (known c.write_objects.new.writer) count c.in_ok-write_objects.ensures.ok in
-    on_err c.send-3.result (Sent-last_less (known c.args.writer.now) (known c.write_objects.new.writer) (known c.send-3.new.writer) (text_of graph) text_end all) c.send-3.ensures.err
+    on_err c.send-3.result (Sent-last_less (known c.args.writer.now) (known c.write_objects.new.writer) (known c.send-3.new.writer) (dump_text graph) text_end all) c.send-3.ensures.err

@@ -1,11 +1,11 @@
 use Rattle.std.proofs.Common.{◌≡◌, false, drop}
 use Rattle.std.specs.List.{flat_map}
 use Rattle.rh_text.specs.lemmas.Appends.{Sent}
-use Rattle.rh_dump.specs.Line.{spell_line, root_lines}
+use Rattle.rh_dump.specs.Line.{spell_dump_line, root_lines}
 use Rattle.rh_dump.proofs.writing.write_roots.Given as goal
 
 abbrev pub invariant-loop-entry : goal.invariant-loop-entry
 invariant-loop-entry g l = record {
-  sent : Sent (g.W.Write.contents l.fn.writer) (g.W.Write.contents l.writer) (flat_map spell_line (root_lines l.roots)) (flat_map spell_line (root_lines (drop l.entry-index l.roots)));
+  sent : Sent (g.W.Write.contents l.fn.writer) (g.W.Write.contents l.writer) (flat_map spell_dump_line (root_lines l.roots)) (flat_map spell_dump_line (root_lines (drop l.entry-index l.roots)));
   none_failed : l.writes.failed ≡ false;
 }
