@@ -1,3 +1,12 @@
 pub mod AnswersInTurn
+pub mod WrittenInTurn
 pub mod PlainAnswers
 pub mod WorkedTraces
+pub mod WorkedAnswers
+pub mod TrayEntries
+pub mod NamedTrays
+pub mod EngineLemmas
+pub mod DealOrder
+pub mod TrayNames
+pub mod PutTrays
+pub mod LineOrder

@@ -4,8 +4,6 @@ use Rattle.std.specs.Prelude.{IfOk, IsErrOf}
 use Rattle.std.specs.Io.KnownBytes.{Appends, Consumes}
 use Rattle.std.proofs.lemmas.List.{length-append}
 use Rattle.rh_layout.specs.declared.command.Command.{Command}
-use Rattle.rh_layout.specs.declared.command.Reply.{Reply}
-use Rattle.rh_layout.specs.declared.refusal.Refusal.{Refusal}
 use Rattle.rh_model.specs.Plain.{PlainHeap, empty_plain, step}
 use Rattle.rh_core.specs.declared.config.Config.{Config}
 use Rattle.rh_core.specs.declared.config.ConfigFault.{ConfigFault}
@@ -21,8 +19,12 @@ use Rattle.rh_trace.specs.declared.summary.Summary.{Summary}
 use Rattle.rh_text.specs.Output.{AppendsLess}
 use Rattle.rh_trace.specs.Spelling.{Script}
 use Rattle.rh_trace.specs.Reading.{trace_of}
-use Rattle.rh_trace.specs.Line.{owner_of, command_of}
-use Rattle.rh_trace.specs.Run.{config_of, line_step, answers_to, answers_of, summary_of, output_of, run_of_script, run_of_trace, text_of, Ends, AreTransparent, IsPlainRun}
+use Rattle.rh_dump.specs.HeapDump.{dump_of, plain_dump_of}
+use Rattle.rh_trace.specs.declared.line.Asked.{Asked}
+use Rattle.rh_trace.specs.declared.line.Asked.TheVariants as asked
+use Rattle.rh_trace.specs.Line.{asked_of}
+use Rattle.rh_trace.specs.Answers.{Answered}
+use Rattle.rh_trace.specs.Run.{RunState, config_of, asked_step, line_step, answers_to, new_run, answers_of, summary_of, output_of, run_of_script, run_of_trace, text_of, Ends, IsPlainAnswer, plain_after, AreTransparent, IsPlainRun}
 use Rattle.rh_trace.specs.lemmas.ReadIsSpelled.{trace_of-means}
 
 -- a heap that stands for a plain heap answers as it does, and goes on to stand for it
@@ -35,20 +37,30 @@ Steps = (h : HeapState) (p : PlainHeap) → StandsFor h.mutators p → (owner : 
 abbrev pub Begins : Type 0
 Begins = (c : Config) → StandsFor (new_heap c).mutators (empty_plain c.owners c.slots)
 
-answers-transparent : Steps → (lines : List Line) (h : HeapState) (p : PlainHeap) → StandsFor h.mutators p → AreTransparent p lines (answers_to h lines)
-answers-transparent steps [] h p stands = tt
-answers-transparent steps (line ∷ lines) h p stands =
-    let one = steps h p stands (owner_of line) (command_of line) in
-    (one.0, answers-transparent steps lines (line_step h line).0 (plain_unless (is_limit_answer (line_step h line).1) p (owner_of line) (command_of line)) one.1)
+-- a heap has the dump of each plain heap that it stands for
+abbrev pub Dumps : Type 0
+Dumps = (h : HeapState) (p : PlainHeap) → StandsFor h.mutators p → dump_of h ≡ plain_dump_of p
+
+-- what is asked is answered as by the plain heap, and the heap goes on to stand for it
+asked-transparent : Steps → Dumps → (what : Asked) (state : RunState) (p : PlainHeap) → StandsFor state.heap.mutators p
+    → IsPlainAnswer p what (asked_step state what).1 × StandsFor (asked_step state what).0.heap.mutators (plain_after p what (asked_step state what).1)
+asked-transparent steps dumps (asked.Command owner command) state p stands = steps state.heap p stands owner command
+asked-transparent steps dumps asked.Dump state p stands = (dumps state.heap p stands, stands)
+
+answers-transparent : Steps → Dumps → (lines : List Line) (state : RunState) (p : PlainHeap) → StandsFor state.heap.mutators p → AreTransparent p lines (answers_to state lines)
+answers-transparent steps dumps [] state p stands = tt
+answers-transparent steps dumps (line ∷ lines) state p stands =
+    let one = asked-transparent steps dumps (asked_of line) state p stands in
+    (one.0, answers-transparent steps dumps lines (line_step state line).0 (plain_after p (asked_of line) (line_step state line).1) one.1)
 
 -- a trace that was read, with its answers
-plain_run : Begins → Steps → (input : List ℕ) (script : Script) (old new : Option (List ℕ)) → Consumes old new input → trace_of input ≡ Ok script → IsPlainRun script (answers_of script) old new
-plain_run begins steps input script old new consumed is =
+plain_run : Begins → Steps → Dumps → (input : List ℕ) (script : Script) (old new : Option (List ℕ)) → Consumes old new input → trace_of input ≡ Ok script → IsPlainRun script (answers_of script) old new
+plain_run begins steps dumps input script old new consumed is =
     let takes = trace_of-means input script is in
     record {
       fits = takes.0;
       read = subst (Consumes old new) takes.1 consumed;
-      answered = answers-transparent steps script.lines (new_heap (config_of script.header)) (empty_plain script.header.owners script.header.slots) (begins (config_of script.header));
+      answered = answers-transparent steps dumps script.lines (new_run script) (empty_plain script.header.owners script.header.slots) (begins (config_of script.header));
     }
 
 -- ---- from what a run was to give to the trace that was read
@@ -75,20 +87,20 @@ run_is_due : (due : Result (List ℕ × Summary) RunFault) (prefix rest : List �
 run_is_due (Ok run) prefix rest e some = (run, refl)
 run_is_due (Err fault) prefix rest e some = absurd (omega (arith, ap length e, length-append prefix rest, some))
 
-module _ (begins : Begins) (steps : Steps) (input : List ℕ) (from to old new : Option (List ℕ)) (consumed : Consumes from to input) where
+module _ (begins : Begins) (steps : Steps) (dumps : Dumps) (input : List ℕ) (from to old new : Option (List ℕ)) (consumed : Consumes from to input) where
   pub plain : (result : Result Summary RunFault) → Ends (run_of_trace (trace_of input)) result old new
-      → IfOk result (λ summary. (script : Script) × (answers : List (Result Reply Refusal)) × IsPlainRun script answers from to × (summary ≡ summary_of answers) × Appends old new (output_of answers))
+      → IfOk result (λ summary. (script : Script) × (answers : List Answered) × IsPlainRun script answers from to × (summary ≡ summary_of answers) × Appends old new (output_of answers))
   plain (Err fault) ends = tt
   plain (Ok summary) ends =
       let due = run_of_trace (trace_of input) in
       let ran = run_ok (trace_of input) (text_of due, summary) ends.0 in
-      (ran.script, answers_of ran.script, plain_run begins steps input ran.script from to consumed ran.is, ran.summary, subst (Appends old new) ran.text ends.1)
+      (ran.script, answers_of ran.script, plain_run begins steps dumps input ran.script from to consumed ran.is, ran.summary, subst (Appends old new) ran.text ends.1)
 
   pub plain_prefix : (result : Result Summary RunFault) → Ends (run_of_trace (trace_of input)) result old new
-      → IsErrOf result faults.Write → (script : Script) × (answers : List (Result Reply Refusal)) × IsPlainRun script answers from to × AppendsLess old new (output_of answers)
+      → IsErrOf result faults.Write → (script : Script) × (answers : List Answered) × IsPlainRun script answers from to × AppendsLess old new (output_of answers)
   plain_prefix result ends failed =
       let due = run_of_trace (trace_of input) in
       let less : AppendsLess old new (text_of due) = subst (λ (r : Result Summary RunFault). Ends due r old new) failed ends in
       let some = run_is_due due less.0 less.1 less.2 less.3 in
       let ran = run_ok (trace_of input) some.0 some.1 in
-      (ran.script, answers_of ran.script, plain_run begins steps input ran.script from to consumed ran.is, subst (AppendsLess old new) (ap text_of some.1 ∙ ran.text) less)
+      (ran.script, answers_of ran.script, plain_run begins steps dumps input ran.script from to consumed ran.is, subst (AppendsLess old new) (ap text_of some.1 ∙ ran.text) less)

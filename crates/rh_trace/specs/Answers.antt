@@ -1,11 +1,19 @@
--- The texts of answers, and of the line that ends them.
-use Rattle.std.specs.Prelude.{ℕ, true, false, List, [], ◌∷◌, ◌++◌, Result, Ok, Err, codes, decimal}
+-- What is answered to a line, its text, and the line that ends the answers.
+use Rattle.std.specs.Prelude.{ℕ, Bool, true, false, is_err, List, [], ◌∷◌, ◌++◌, Result, Ok, Err, codes, decimal}
 use Rattle.std.specs.Fmt.{signed_decimal}
 use Rattle.rh_layout.specs.declared.command.Reply.{Reply}
 use Rattle.rh_layout.specs.declared.command.Reply.TheVariants.{Done, Nil, Int, Object, Same}
 use Rattle.rh_layout.specs.declared.refusal.Refusal.{Refusal}
 use Rattle.rh_layout.specs.declared.refusal.Refusal.TheVariants.{NoRoot, NotYours, NotObject, NoField, IntRange, FieldsRange, SpaceFull, LogFull, NumbersSpent}
+use Rattle.rh_dump.specs.Dump.{GraphState}
+use Rattle.rh_dump.specs.Line as dumps
+use Rattle.rh_dump.specs.Line.{dump_text}
 use Rattle.rh_trace.specs.declared.summary.Summary.{Summary}
+
+-- what is answered to a line: a reply or a refusal to a command, or the dump of a graph
+pub data Answered : Type 0 where
+  Answer : (answer : Result Reply Refusal) → Answered
+  Dump : (graph : GraphState) → Answered
 
 -- what a reply is written as
 abbrev pub reply_text : Reply → List ℕ
@@ -36,7 +44,8 @@ refusal_parts NotObject = []
 refusal_parts NoField = []
 refusal_parts IntRange = []
 refusal_parts FieldsRange = []
-refusal_parts (SpaceFull need free) = codes " need " ++ (decimal need ++ (codes " free " ++ decimal free))
+refusal_parts (SpaceFull need free) =
+    codes " need " ++ (decimal need ++ (codes " free " ++ decimal free))
 refusal_parts LogFull = []
 refusal_parts NumbersSpent = []
 
@@ -53,7 +62,24 @@ answer_text (Err refusal) = refused_text refusal
 abbrev pub answer_line : Result Reply Refusal → List ℕ
 answer_line answer = answer_text answer ++ 10 ∷ []
 
+-- the text of what is answered to a line: one line, or those of a dump
+abbrev pub answered_text : Answered → List ℕ
+answered_text (Answer answer) = answer_line answer
+answered_text (Dump graph) = dump_text graph
+
+-- a command was answered
+abbrev pub is_answer : Answered → Bool
+is_answer (Answer answer) = true
+is_answer (Dump graph) = false
+
+-- a command was refused
+abbrev pub is_refused : Answered → Bool
+is_refused (Answer answer) = is_err answer
+is_refused (Dump graph) = false
+
 -- the line after the last answer: total commands C refused R flips F rootwords W
 abbrev pub total_line : Summary → List ℕ
 total_line s =
-    codes "total commands " ++ (decimal s.commands ++ (codes " refused " ++ (decimal s.refused ++ (codes " flips " ++ (decimal s.flips ++ (codes " rootwords " ++ (decimal s.root_words ++ 10 ∷ [])))))))
+    codes "total commands " ++ (decimal s.commands ++ (codes " refused " ++ (decimal s.refused
+        ++ (codes " flips " ++ (decimal s.flips ++ (codes " rootwords " ++ (decimal s.root_words
+        ++ 10 ∷ [])))))))

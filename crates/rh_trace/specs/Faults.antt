@@ -1,11 +1,10 @@
 -- When each fault holds of a trace's text, in the order of the format. No reader is named here.
 use Rattle.std.specs.Prelude.{◌≡◌, ◌≢◌, ℕ, ◌<◌, ◌≤◌, ◌⊎◌, ⊤, false, List, [], ◌∷◌, length, Option, Some, None, if◌then◌else◌, codes, decimal, ℤ}
 use Rattle.std.specs.Fmt.{signed_decimal}
-use Rattle.std.specs.List.{AllByRecursion}
 use Rattle.std.specs.Str.{bytes_eq}
 use Rattle.rh_layout.specs.declared.command.RootId.{RootId}
 use Rattle.rh_text.specs.RawLine.{RawLine}
-use Rattle.rh_text.specs.Parts.{parts_of}
+use Rattle.rh_text.specs.Parts.{parts_of, IsFormedLine}
 use Rattle.rh_text.specs.Number.{IsU32, IsI64}
 use Rattle.rh_text.specs.Root.{root_text, RootFits}
 use Rattle.rh_text.specs.Stages.{◌when◌, no_fault, ◌▸◌, in_lines}
@@ -34,18 +33,16 @@ command_forms =
     ∷ (codes "drop", number ∷ keyword ∷ root ∷ [])
     ∷ []
 
+-- each keyword that begins a line, with the sorts of its line's parts
+abbrev pub keyword_forms : List (List ℕ × List Sort)
+keyword_forms =
+    (codes "dump", keyword ∷ [])
+    ∷ []
+
 -- the form that a table gives a keyword
 abbrev pub lookup : List ℕ → List (List ℕ × List Sort) → Option (List Sort)
 lookup word [] = None
 lookup word (entry ∷ entries) = if bytes_eq word entry.0 then Some entry.1 else lookup word entries
-
--- a byte that a line may have
-abbrev pub IsPrintable : ℕ → Type 0
-IsPrintable b = (32 ≤ b) × (b ≤ 126)
-
--- a line of printable bytes, none of whose parts is empty
-abbrev pub IsWellFormed : List ℕ → Type 0
-IsWellFormed line = AllByRecursion IsPrintable line × AllByRecursion (λ part. part ≢ []) (parts_of line)
 
 -- the part is the decimal of a number below 2^32
 abbrev pub IsNumber : List ℕ → Type 0
@@ -103,8 +100,8 @@ form_of [] = None
 form_of (owner ∷ []) = None
 form_of (owner ∷ word ∷ args) = lookup word command_forms
 
--- the faults of the parts of a command line: the commands' keywords alone are in the table, and each
--- stands after an owner
+-- the faults of the parts of a command line: the commands' keywords alone are in the table, and
+-- each stands after an owner
 abbrev pub command_part_faults : List (List ℕ) → ℕ → Kind → Type 0
 command_part_faults parts =
     Form when LacksKeyword parts
@@ -113,11 +110,26 @@ command_part_faults parts =
 
 -- the faults of a single command line, without its line end
 abbrev pub command_faults : List ℕ → ℕ → Kind → Type 0
-command_faults line = Form when (¬ IsWellFormed line) ▸ command_part_faults (parts_of line)
+command_faults line = Form when (¬ IsFormedLine line) ▸ command_part_faults (parts_of line)
 
--- the faults of the parts of a line after the first; today each is a command line
+-- the form that the first part names
+abbrev pub keyword_form_of : List (List ℕ) → Option (List Sort)
+keyword_form_of [] = None
+keyword_form_of (word ∷ args) = lookup word keyword_forms
+
+-- the faults of the parts of a line that begins with no owner: its keyword stands first
+abbrev pub keyword_part_faults : List (List ℕ) → ℕ → Kind → Type 0
+keyword_part_faults parts =
+    Form when (parts ≡ [])
+    ▸ Word when (keyword_form_of parts ≡ None)
+    ▸ form_faults (keyword_form_of parts) parts
+
+-- the faults of the parts of a line after the first: those of a command line where it begins with
+-- an owner, and else those of a line that begins with its keyword
 abbrev pub line_part_faults : List (List ℕ) → ℕ → Kind → Type 0
-line_part_faults parts = command_part_faults parts
+line_part_faults parts place kind =
+    (BeginsWithOwner parts × command_part_faults parts place kind)
+    ⊎ ((¬ BeginsWithOwner parts) × keyword_part_faults parts place kind)
 
 -- the first part is this word
 abbrev pub IsFirstPart : List ℕ → List (List ℕ) → Type 0
@@ -135,7 +147,7 @@ abbrev pub raw_line_faults : (List (List ℕ) → ℕ → Kind → Type 0) → �
 raw_line_faults part_faults n line =
     Long when ((1048576 < n) ⊎ (256 < length line.bytes))
     ▸ Cut when (line.ended ≡ false)
-    ▸ Form when (¬ IsWellFormed line.bytes)
+    ▸ Form when (¬ IsFormedLine line.bytes)
     ▸ part_faults (parts_of line.bytes)
 
 -- the faults of the first line

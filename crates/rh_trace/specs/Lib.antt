@@ -1,3 +1,7 @@
+pub mod TrayName
+pub mod Trays
+pub mod Engine
+pub mod CycleAnswers
 pub mod Line
 pub mod Spelling
 pub mod Reading

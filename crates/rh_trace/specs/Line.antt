@@ -1,27 +1,21 @@
--- A command line: whose command it is, and which.
+-- What a line asks.
 use Rattle.std.specs.Prelude.{ℕ}
 use Rattle.rh_layout.specs.declared.command.Command.{Command}
 use Rattle.rh_layout.specs.declared.command.Command.TheVariants as commands
+use Rattle.rh_trace.specs.declared.line.Asked.{Asked}
+use Rattle.rh_trace.specs.declared.line.Asked.TheVariants as asked
 use Rattle.rh_trace.specs.declared.line.Line.{Line}
-use Rattle.rh_trace.specs.declared.line.Line.TheVariants.{Alloc, Load, Store, Copy, Same, Drop}
+use Rattle.rh_trace.specs.declared.line.Line.TheVariants.{Alloc, Load, Store, Copy, Same, Drop, Dump}
 
--- whose command a line is
-abbrev pub owner_of : Line → ℕ
-owner_of (Alloc owner dst fields) = owner
-owner_of (Load owner dst src field) = owner
-owner_of (Store owner obj field operand) = owner
-owner_of (Copy owner dst src) = owner
-owner_of (Same owner a b) = owner
-owner_of (Drop owner root) = owner
-
--- which command a line is
-abbrev pub command_of : Line → Command
-command_of (Alloc owner dst fields) = commands.Alloc dst fields
-command_of (Load owner dst src field) = commands.Load dst src field
-command_of (Store owner obj field operand) = commands.Store obj field operand
-command_of (Copy owner dst src) = commands.Copy dst src
-command_of (Same owner a b) = commands.Same a b
-command_of (Drop owner root) = commands.Drop root
+-- what a line asks: an owner's command, or a dump
+abbrev pub asked_of : Line → Asked
+asked_of (Alloc owner dst fields) = asked.Command owner (commands.Alloc dst fields)
+asked_of (Load owner dst src field) = asked.Command owner (commands.Load dst src field)
+asked_of (Store owner obj field operand) = asked.Command owner (commands.Store obj field operand)
+asked_of (Copy owner dst src) = asked.Command owner (commands.Copy dst src)
+asked_of (Same owner a b) = asked.Command owner (commands.Same a b)
+asked_of (Drop owner root) = asked.Command owner (commands.Drop root)
+asked_of Dump = asked.Dump
 
 -- the line of an owner's command
 abbrev pub line_of : ℕ → Command → Line

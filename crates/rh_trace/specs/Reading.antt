@@ -18,6 +18,7 @@ use Rattle.rh_trace.specs.declared.fault.ParseError.{ParseError}
 use Rattle.rh_trace.specs.declared.fault.ParseError.TheVariants as errors
 use Rattle.rh_trace.specs.declared.line as declared
 use Rattle.rh_trace.specs.declared.line.Line.{Line}
+use Rattle.rh_trace.specs.declared.line.Line.TheVariants as lines
 use Rattle.rh_trace.specs.Line.{line_of}
 use Rattle.rh_trace.specs.Spelling.{Script}
 
@@ -120,20 +121,35 @@ command_or_fault owner (keyword ∷ args) =
 -- the command of a line after the first
 unfoldable pub owned_command : List (List ℕ) → Result (ℕ × Command) Kind
 owned_command [] = Err Form
-owned_command (first ∷ rest) = if begins_with_digit first then command_or_fault first rest else Err Word
+owned_command (first ∷ rest) =
+    if begins_with_digit first then command_or_fault first rest else Err Word
 
 -- the owner and the command of a single line, without its line end
 unfoldable pub single_command : List ℕ → Result (ℕ × Command) Kind
 single_command line = if not (is_formed line) then Err Form else owned_command (parts_of line)
 
--- a line after the first
-abbrev pub line_of_parts : List (List ℕ) → Result Line Kind
-line_of_parts parts = do
-  owned ← owned_command parts
-  Ok (line_of owned.0 owned.1)
+-- this line, where nothing stands after its keyword
+abbrev pub alone : List (List ℕ) → Line → Result Line Kind
+alone [] line = Ok line
+alone (arg ∷ args) line = Err Form
+
+-- a line that begins with its keyword
+unfoldable pub keyword_line : List ℕ → List (List ℕ) → Result Line Kind
+keyword_line keyword args =
+    if bytes_eq keyword (codes "dump") then alone args lines.Dump
+    else Err Word
+
+-- a line after the first: a command line where it begins with an owner, and else by its keyword
+unfoldable pub line_of_parts : List (List ℕ) → Result Line Kind
+line_of_parts [] = Err Form
+line_of_parts (first ∷ rest) =
+    if begins_with_digit first
+    then (command_or_fault first rest >>= λ owned. Ok (line_of owned.0 owned.1))
+    else keyword_line first rest
 
 -- WORDS RATIO LOG OWNERS SLOTS
-unfoldable pub sizes_of : List ℕ → List ℕ → List ℕ → List ℕ → List ℕ → Result declared.Header.Header Kind
+unfoldable pub sizes_of : List ℕ → List ℕ → List ℕ → List ℕ → List ℕ
+    → Result declared.Header.Header Kind
 sizes_of words ratio log owners slots = do
   words ← number_or_fault words
   ratio ← number_or_fault ratio

@@ -9,7 +9,9 @@ use Rattle.rh_layout.specs.declared.command.Operand.TheVariants as operands
 use Rattle.rh_text.specs.Number.{IsU32, IsI64}
 use Rattle.rh_text.specs.Parts.{spell_parts}
 use Rattle.rh_text.specs.Root.{root_text, RootFits}
-use Rattle.rh_trace.specs.Line.{owner_of, command_of}
+use Rattle.rh_trace.specs.Line.{asked_of}
+use Rattle.rh_trace.specs.declared.line.Asked.{Asked}
+use Rattle.rh_trace.specs.declared.line.Asked.TheVariants as asked
 use Rattle.rh_trace.specs.declared.line.Header.{Header}
 use Rattle.rh_trace.specs.declared.line.Line.{Line}
 
@@ -26,20 +28,31 @@ operand_text (operands.Root root) = root_text root
 
 -- the parts of a command line
 abbrev pub command_parts : ℕ → Command → List (List ℕ)
-command_parts owner (Alloc dst fields) = decimal owner ∷ codes "alloc" ∷ root_text dst ∷ decimal fields ∷ []
-command_parts owner (Load dst src field) = decimal owner ∷ codes "load" ∷ root_text dst ∷ root_text src ∷ decimal field ∷ []
-command_parts owner (Store obj field operand) = decimal owner ∷ codes "store" ∷ root_text obj ∷ decimal field ∷ operand_text operand ∷ []
-command_parts owner (Copy dst src) = decimal owner ∷ codes "copy" ∷ root_text dst ∷ root_text src ∷ []
+command_parts owner (Alloc dst fields) =
+    decimal owner ∷ codes "alloc" ∷ root_text dst ∷ decimal fields ∷ []
+command_parts owner (Load dst src field) =
+    decimal owner ∷ codes "load" ∷ root_text dst ∷ root_text src ∷ decimal field ∷ []
+command_parts owner (Store obj field operand) =
+    decimal owner ∷ codes "store" ∷ root_text obj ∷ decimal field ∷ operand_text operand ∷ []
+command_parts owner (Copy dst src) =
+    decimal owner ∷ codes "copy" ∷ root_text dst ∷ root_text src ∷ []
 command_parts owner (Same a b) = decimal owner ∷ codes "same" ∷ root_text a ∷ root_text b ∷ []
 command_parts owner (Drop root) = decimal owner ∷ codes "drop" ∷ root_text root ∷ []
 
+-- the parts of a line that asks this
+abbrev pub asked_parts : Asked → List (List ℕ)
+asked_parts (asked.Command owner command) = command_parts owner command
+asked_parts asked.Dump = codes "dump" ∷ []
+
 -- the parts of a line
 abbrev pub line_parts : Line → List (List ℕ)
-line_parts line = command_parts (owner_of line) (command_of line)
+line_parts line = asked_parts (asked_of line)
 
 -- the parts of the first line
 abbrev pub header_parts : Header → List (List ℕ)
-header_parts header = codes "heap" ∷ decimal header.words ∷ decimal header.ratio ∷ decimal header.log ∷ decimal header.owners ∷ decimal header.slots ∷ []
+header_parts header =
+    codes "heap" ∷ decimal header.words ∷ decimal header.ratio ∷ decimal header.log
+    ∷ decimal header.owners ∷ decimal header.slots ∷ []
 
 -- the text of a command line, without its line end
 abbrev pub command_text : ℕ → Command → List ℕ
@@ -71,20 +84,29 @@ OperandFits (operands.Root root) = RootFits root
 abbrev pub CommandFits : ℕ → Command → Type 0
 CommandFits owner (Alloc dst fields) = IsU32 owner × RootFits dst × IsU32 fields
 CommandFits owner (Load dst src field) = IsU32 owner × RootFits dst × RootFits src × IsU32 field
-CommandFits owner (Store obj field operand) = IsU32 owner × RootFits obj × IsU32 field × OperandFits operand
+CommandFits owner (Store obj field operand) =
+    IsU32 owner × RootFits obj × IsU32 field × OperandFits operand
 CommandFits owner (Copy dst src) = IsU32 owner × RootFits dst × RootFits src
 CommandFits owner (Same a b) = IsU32 owner × RootFits a × RootFits b
 CommandFits owner (Drop root) = IsU32 owner × RootFits root
 
--- a line whose owner and command fit
+-- an owner and a command that fit, or a dump
+abbrev pub AskedFits : Asked → Type 0
+AskedFits (asked.Command owner command) = CommandFits owner command
+AskedFits asked.Dump = ⊤
+
+-- a line that asks what fits
 abbrev pub LineFits : Line → Type 0
-LineFits line = CommandFits (owner_of line) (command_of line)
+LineFits line = AskedFits (asked_of line)
 
 -- a first line whose numbers have 32 bits
 abbrev pub HeaderFits : Header → Type 0
-HeaderFits header = IsU32 header.words × IsU32 header.ratio × IsU32 header.log × IsU32 header.owners × IsU32 header.slots
+HeaderFits header =
+    IsU32 header.words × IsU32 header.ratio × IsU32 header.log × IsU32 header.owners
+    × IsU32 header.slots
 
--- what has a spelling: lines and a header whose numbers fit, and at most 1,048,576 lines with the first
+-- what has a spelling: lines and a header whose numbers fit, and at most 1,048,576 lines with the
+-- first
 pub record IsScript (script : Script) : Type 0 where
   pub header : HeaderFits script.header
   pub lines : AllByRecursion LineFits script.lines

@@ -1,11 +1,12 @@
 //! The texts of answers.
 
 ghost use Rattle.std.specs.Prelude.{◌≡◌, ◌≤◌, length};
-ghost use Rattle.rh_trace.specs.Answers.{reply_text, refusal_name, refused_text, answer_text, answer_line, total_line};
+ghost use Rattle.rh_trace.specs.Answers.{reply_text, refusal_name, refused_text, answer_text};
+ghost use Rattle.rh_trace.specs.Answers.{answer_line, total_line};
 
 use crate::summary::Summary;
-use crate::text::LineText;
 use rh_layout::{Refusal, Reply};
+use rh_text::LineText;
 
 /// The text becomes that of a reply.
 fn put_reply(text: &mut LineText, reply: Reply)

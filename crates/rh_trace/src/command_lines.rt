@@ -9,10 +9,9 @@ ghost use Rattle.rh_trace.specs.Reading.{command_or_fault, owned_command};
 ghost use Rattle.rh_trace.specs.Spelling.{command_text, spell_command};
 
 use crate::fault::Kind;
-use crate::text::LineText;
-use crate::values::{number_or_fault, operand_or_fault, root_or_fault};
+use crate::values::{number_or_fault, operand_or_fault, put_operand, root_or_fault};
 use rh_layout::{Command, Operand, RootId};
-use rh_text::{begins_with_digit, next_part, one_part, three_parts, two_parts};
+use rh_text::{LineText, begins_with_digit, next_part, one_part, three_parts, two_parts};
 
 /// `OWNER alloc ROOT FIELDS`, from the owner and what stands after the keyword.
 #[tactic(auto, unfolding(crate::specs::Reading::alloc_of))]
@@ -97,7 +96,7 @@ fn put_store(text: &mut LineText, owner: u32, obj: RootId, field: u32, operand: 
     text.put(b" ");
     text.put_integer(field);
     text.put(b" ");
-    text.put_operand(operand);
+    put_operand(text, operand);
 }
 
 /// `OWNER copy DST SRC`, from the owner and what stands after the keyword.
@@ -174,7 +173,7 @@ fn put_drop(text: &mut LineText, owner: u32, root: RootId)
 
 /// A line that begins with an owner, by the keyword after it.
 #[tactic(auto, unfolding(crate::specs::Reading::command_or_fault))]
-fn command_or_fault(owner: &[u8], rest: Option<&[u8]>) -> Result<(u32, Command), Kind>
+pub(crate) fn command_or_fault(owner: &[u8], rest: Option<&[u8]>) -> Result<(u32, Command), Kind>
     ensures { result ≡ command_or_fault owner.now (parts_left rest.entry) }
 {
     let (keyword, rest) = next_part(rest).ok_or(Kind::Form)?;

@@ -7,9 +7,8 @@ ghost use Rattle.rh_trace.specs.Spelling.{spell_header};
 
 use crate::fault::Kind;
 use crate::line::Header;
-use crate::text::LineText;
 use crate::values::number_or_fault;
-use rh_text::six_parts;
+use rh_text::{LineText, six_parts};
 
 /// `WORDS RATIO LOG OWNERS SLOTS`.
 #[tactic(auto, unfolding(crate::specs::Reading::sizes_of))]

@@ -14,6 +14,8 @@ ghost use Rattle.rh_trace.specs.declared.fault.TraceFault.{TraceFault as FaultOf
 ghost use Rattle.rh_trace.specs.declared.line.Header.{Header as HeaderOf};
 ghost use Rattle.rh_trace.specs.declared.line.Line.{Line as LineOf};
 
+pub mod trays;
+
 /// The fault that reading names is the one that comes first in the order of the format: it holds on
 /// its line, and any other that holds is on a later line or at a later place of this line. What is
 /// read has no fault, and a line without a fault is the spelling of one that fits.
@@ -36,8 +38,8 @@ pub fn what_is_spelled_is_read()
 {}
 
 /// What a single command line is spelled as is read as that command, and nothing else is read as
-/// it. The fault that reading names is the one that comes first in the order of the format, and what
-/// is read has no fault.
+/// it. The fault that reading names is the one that comes first in the order of the format, and
+/// what is read has no fault.
 pub fn a_single_command_is_read_as_spelled()
     ensures spelled { (owner : ℕ) (command : CommandOf) → CommandFits owner command
         → single_command (command_text owner command) ≡ Ok (owner, command) }

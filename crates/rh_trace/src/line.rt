@@ -1,7 +1,7 @@
 //! The lines of a trace.
 
 ghost use Rattle.std.specs.Prelude.{◌≡◌};
-ghost use Rattle.rh_trace.specs.Line.{owner_of, command_of, line_of};
+ghost use Rattle.rh_trace.specs.Line.{asked_of, line_of};
 
 use rh_layout::{Command, Operand, RootId};
 
@@ -81,6 +81,22 @@ pub enum Line {
         /// The root.
         root: RootId,
     },
+    /// `dump`: the dump of what the roots reach.
+    Dump,
+}
+
+/// What a line asks.
+#[derive(Clone, Copy, Debug, PartialEq, Eq)]
+pub enum Asked {
+    /// An owner's command.
+    Command {
+        /// Whose command it is.
+        owner: u32,
+        /// Which command.
+        command: Command,
+    },
+    /// The dump of what the roots reach.
+    Dump,
 }
 
 impl Line {
@@ -112,12 +128,11 @@ impl Line {
         }
     }
 
-    /// Whose command the line is, and which.
-    pub fn command(&self) -> (u32, Command)
-        ensures owner { result.0 ≡ owner_of self.now }
-        ensures command { result.1 ≡ command_of self.now }
+    /// What the line asks.
+    pub fn asks(&self) -> Asked
+        ensures { result ≡ asked_of self.now }
     {
-        match *self {
+        let (owner, command) = match *self {
             Line::Alloc { owner, dst, fields } => (owner, Command::Alloc { dst, fields }),
             Line::Load {
                 owner,
@@ -141,6 +156,8 @@ impl Line {
             Line::Copy { owner, dst, src } => (owner, Command::Copy { dst, src }),
             Line::Same { owner, a, b } => (owner, Command::Same { a, b }),
             Line::Drop { owner, root } => (owner, Command::Drop { root }),
-        }
+            Line::Dump => return Asked::Dump,
+        };
+        Asked::Command { owner, command }
     }
 }

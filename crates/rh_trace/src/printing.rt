@@ -8,10 +8,10 @@ ghost use Rattle.rh_trace.specs.Spelling.{spell_line, spelling};
 
 use crate::command_lines::put_command;
 use crate::header_line::put_header;
-use crate::line::Line;
-use crate::text::LineText;
+use crate::keyword_lines::put_dump;
+use crate::line::{Asked, Line};
 use crate::trace::Trace;
-use rh_text::{Calls, Write, send};
+use rh_text::{Calls, LineText, Write, send};
 use std::alloc::Allocator;
 use std::io;
 
@@ -19,8 +19,10 @@ use std::io;
 fn put_line(text: &mut LineText, line: &Line)
     ensures { text.new ≡ spell_line line.now }
 {
-    let (owner, command) = line.command();
-    put_command(text, owner, &command);
+    match line.asks() {
+        Asked::Command { owner, command } => put_command(text, owner, &command),
+        Asked::Dump => put_dump(text),
+    }
 }
 
 /// Writes the text of a trace, one line in each write that the writer takes whole. It takes no
@@ -28,8 +30,8 @@ fn put_line(text: &mut LineText, line: &Line)
 ///
 /// # Errors
 ///
-/// `Write` where a write failed, or 33,554,432 writes of one line didn't come to its end. A prefix
-/// of the text was written then.
+/// `Write` where a write failed, or 33,554,432 writes of one line didn't come to its end
+/// (`print_told` says that it comes nowhere else). A prefix of the text was written then.
 pub fn print<A: Allocator, W: io::Write>(trace: &Trace<A>, writer: &mut W) -> Result<(), Write>
     ensures ok { OnOk result (Appends (W.contents writer.old) (W.contents writer.new)
         (spelling trace.now)) }

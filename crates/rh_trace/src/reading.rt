@@ -7,12 +7,13 @@ ghost use Rattle.rh_trace.specs.Reading.{line_of_parts, checked_parts, fault_at}
 ghost use Rattle.rh_trace.specs.Reading.{line_or_kind, header_or_kind};
 ghost use Rattle.rh_trace.specs.Reading.{line_or_fault, header_or_fault};
 
-use crate::command_lines::owned_command;
+use crate::command_lines::command_or_fault;
 use crate::fault::{Kind, TraceFault};
 use crate::header_line::header_of_parts;
+use crate::keyword_lines::keyword_line;
 use crate::line::{Header, Line};
 use rh_layout::limits::{MAX_LINE_BYTES, MAX_LINES};
-use rh_text::is_formed;
+use rh_text::{begins_with_digit, is_formed, next_part};
 
 /// The line's parts, where the line of this number (from 1) is within the limits, ended and well
 /// formed.
@@ -43,11 +44,16 @@ pub fn checked_parts(number: u32, bytes: &[u8], ended: bool) -> Result<Option<&[
 }
 
 /// A line after the first, from its parts.
+#[tactic(auto, unfolding(crate::specs::Reading::line_of_parts))]
 fn line_of_parts(rest: Option<&[u8]>) -> Result<Line, Kind>
     ensures { result ≡ line_of_parts (parts_left rest.entry) }
 {
-    let (owner, command) = owned_command(rest)?;
-    Ok(Line::of(owner, command))
+    let (first, rest) = next_part(rest).ok_or(Kind::Form)?;
+    if begins_with_digit(first) {
+        let (owner, command) = command_or_fault(first, rest)?;
+        return Ok(Line::of(owner, command));
+    }
+    keyword_line(first, rest)
 }
 
 /// The line of this number, by its limits, its form and its parts.

@@ -12,9 +12,8 @@ ghost use Rattle.rh_trace.specs.Spelling.{command_text, CommandFits};
 use crate::answers::put_answer_text;
 use crate::command_lines::{owned_command, put_command_text};
 use crate::fault::Kind;
-use crate::text::LineText;
 use rh_layout::{Command, Refusal, Reply};
-use rh_text::{Calls, Write, is_formed, send};
+use rh_text::{Calls, LineText, Write, is_formed, send};
 use std::io;
 
 /// The owner and the command of a single line, by its form and its parts.
@@ -54,8 +53,8 @@ pub fn command_of(line: &[u8]) -> Result<(u32, Command), Kind>
 ///
 /// # Errors
 ///
-/// `Write` where a write failed, or 33,554,432 writes didn't come to the end. A prefix of the text
-/// was written then.
+/// `Write` where a write failed, or 33,554,432 writes didn't come to the end (`write_command_told`
+/// says that it comes nowhere else). A prefix of the text was written then.
 pub fn write_command<W: io::Write>(
     owner: u32,
     command: &Command,
@@ -99,8 +98,8 @@ pub fn write_command_told<W: io::Write>(
 ///
 /// # Errors
 ///
-/// `Write` where a write failed, or 33,554,432 writes didn't come to the end. A prefix of the text
-/// was written then.
+/// `Write` where a write failed, or 33,554,432 writes didn't come to the end (`write_answer_told`
+/// says that it comes nowhere else). A prefix of the text was written then.
 pub fn write_answer<W: io::Write>(
     answer: &Result<Reply, Refusal>,
     writer: &mut W,

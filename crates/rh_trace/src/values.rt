@@ -1,12 +1,13 @@
-//! What a part of a trace's line says: a number, a root or an operand.
+//! What a part of a trace's line says: a number, a root or an operand; and an operand's text.
 
-ghost use Rattle.std.specs.Prelude.{◌≡◌};
+ghost use Rattle.std.specs.Prelude.{◌≡◌, ◌+◌, ◌≤◌, ◌++◌, length};
 ghost use Rattle.rh_trace.specs.Reading.{number_or_fault, integer_or_fault};
 ghost use Rattle.rh_trace.specs.Reading.{root_or_fault, operand_or_fault};
+ghost use Rattle.rh_trace.specs.Spelling.{operand_text};
 
 use crate::fault::Kind;
 use rh_layout::{Operand, RootId};
-use rh_text::{has_dot, read_integer, read_number, read_root};
+use rh_text::{LineText, has_dot, read_integer, read_number, read_root};
 
 /// The number that a part says.
 pub fn number_or_fault(part: &[u8]) -> Result<u32, Kind>
@@ -41,4 +42,17 @@ pub fn operand_or_fault(part: &[u8]) -> Result<Operand, Kind>
         return Ok(Operand::Root(root_or_fault(part)?));
     }
     Ok(Operand::Int(integer_or_fault(part)?))
+}
+
+/// Puts `nil`, a whole number or `OWNER.SLOT` at the end.
+pub fn put_operand(text: &mut LineText, operand: Operand)
+    requires { length text.old ≤ 235 }
+    ensures value { text.new ≡ text.old ++ operand_text operand }
+    ensures len { length text.new ≤ length text.old + 21 }
+{
+    match operand {
+        Operand::Nil => text.put(b"nil"),
+        Operand::Int(number) => text.put_integer(number),
+        Operand::Root(root) => text.put_root(root),
+    }
 }

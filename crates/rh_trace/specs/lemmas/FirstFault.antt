@@ -2,7 +2,6 @@
 use Rattle.std.proofs.Common.{◌≡◌, ℕ, ℤ, ◌+◌, ◌<◌, ◌≤◌, ◌⊎◌, Bool, true, false, cond, ltb, leb, eqb, not, ◌||◌, ◌&&◌, List, [], ◌∷◌, length, Option, Some, None, Result, Ok, Err, refl, sym, ap, subst, ◌∙◌, arith, inl, inr}
 use Rattle.std.specs.Bool.{Decides}
 use Rattle.std.specs.Prelude.{codes, ⊤}
-use Rattle.std.specs.List.{AllByRecursion, list_all}
 use Rattle.std.specs.Str.{bytes_eq}
 use Rattle.std.proofs.lemmas.Bool.{false≢true, and_parts, and_from, leb-true, le-leb}
 use Rattle.std.proofs.lemmas.Bool.Decides.{Decides-or, Decides-ltb, Decides-not, not_from_Decides, Decides-eqb}
@@ -12,30 +11,30 @@ use Rattle.rh_layout.specs.declared.command.Operand.{Operand}
 use Rattle.rh_layout.specs.declared.command.Operand.TheVariants as operands
 use Rattle.rh_layout.specs.declared.command.RootId.{RootId}
 use Rattle.rh_text.specs.Number.{number_of, integer_of}
-use Rattle.rh_text.specs.Parts.{parts_of, is_formed, is_printable, is_filled, has_dot, begins_with_digit, one_part, two_parts, three_parts, six_parts}
+use Rattle.rh_text.specs.Parts.{parts_of, is_formed, has_dot, begins_with_digit, one_part, two_parts, three_parts, six_parts, IsFormedLine}
 use Rattle.rh_text.specs.RawLine.{RawLine, lines_of, raw_text}
 use Rattle.rh_text.specs.Root.{root_of}
 use Rattle.rh_text.specs.Stages.{◌when◌, ◌▸◌, in_lines, IsFirst, IsLeast}
 use Rattle.rh_text.specs.Steps.{◌>>=◌, or_fault, with_fault}
+use Rattle.rh_text.specs.lemmas.Formed.{is_formed-Decides, not_ended}
 use Rattle.rh_text.specs.lemmas.Integers.{integer_means, integer_of-decimal}
 use Rattle.rh_text.specs.lemmas.Numbers.{number_means, number_of-decimal}
 use Rattle.rh_text.specs.lemmas.Roots.{root_means, root_of-text}
 use Rattle.rh_text.specs.lemmas.Stages.{Judges, JudgesLines, judges-end, judges-here, judges-later, judges-test, judges-found, judges-line, judges-no_lines, judges-made, judges-step, in_lines-from}
+use Rattle.rh_text.specs.lemmas.Steps.{none_some, bind_bind}
 use Rattle.rh_trace.specs.declared.fault.Kind.{Kind}
 use Rattle.rh_trace.specs.declared.fault.Kind.TheVariants.{Empty, Long, Cut, Form, Header, Word, Number, Root}
 use Rattle.rh_trace.specs.declared.fault.TraceFault.{TraceFault}
 use Rattle.rh_trace.specs.declared.line as declared
 use Rattle.rh_trace.specs.declared.line.Line.{Line}
-use Rattle.rh_trace.specs.Faults.{Sort, keyword, number, root, operand, header_form, command_forms, lookup, IsPrintable, IsWellFormed, IsNumber, IsRoot, IsInteger, HasDot, IsDigitFirst, each_part, form_faults, BeginsWithOwner, LacksKeyword, form_of, command_part_faults, command_faults, line_part_faults, IsFirstPart, header_part_faults, raw_line_faults, header_faults, line_faults, trace_faults}
+use Rattle.rh_trace.specs.declared.line.Line.TheVariants as lines
+use Rattle.rh_trace.specs.Faults.{Sort, keyword, number, root, operand, header_form, command_forms, keyword_forms, lookup, IsNumber, IsRoot, IsInteger, HasDot, IsDigitFirst, each_part, form_faults, BeginsWithOwner, LacksKeyword, form_of, command_part_faults, command_faults, keyword_part_faults, line_part_faults, IsFirstPart, header_part_faults, raw_line_faults, header_faults, line_faults, trace_faults}
 use Rattle.rh_trace.specs.Line.{line_of}
-use Rattle.rh_trace.specs.Reading.{number_or_fault, integer_or_fault, root_or_fault, operand_or_fault, alloc_of, load_of, store_of, copy_of, same_of, drop_of, command_or_fault, owned_command, single_command, line_of_parts, sizes_of, header_of_parts, checked_parts, fault_at, line_or_kind, header_or_kind, lines_from, script_or_fault, trace_of}
+use Rattle.rh_trace.specs.Reading.{number_or_fault, integer_or_fault, root_or_fault, operand_or_fault, alloc_of, load_of, store_of, copy_of, same_of, drop_of, command_or_fault, owned_command, single_command, alone, keyword_line, line_of_parts, sizes_of, header_of_parts, checked_parts, fault_at, line_or_kind, header_or_kind, lines_from, script_or_fault, trace_of}
 use Rattle.rh_trace.specs.Spelling.{Script, spell_line, spell_header, LineFits, HeaderFits}
 use Rattle.rh_trace.specs.lemmas.ReadIsSpelled.{line_or_fault-means, header_or_fault-means}
 
 -- ---- numbers, roots and operands
-
-none_some : {A : Type 0} (o : Option A) (x : A) → o ≡ None → o ≡ Some x → ⊥
-none_some o x e f = let clash : ◌≡◌ {A = Option _} None (Some x) = sym e ∙ f in absurd cc
 
 pub no_number : (part : List ℕ) → number_of part ≡ None → ¬ IsNumber part
 no_number part e h = none_some (number_of part) h.0 e (ap number_of h.2 ∙ number_of-decimal h.0 h.1)
@@ -71,11 +70,6 @@ has_dot-Decides (b ∷ bs) = dot_step (eqb b 46) (has_dot bs) (b ≡ 46) (HasDot
 -- nil has no dot
 nil_dotless : (part : List ℕ) → part ≡ codes "nil" → ¬ HasDot part
 nil_dotless part e h = false≢true (ap has_dot (sym e) ∙ (has_dot-Decides part).1 h)
-
--- one step after another
-pub bind_bind : {A B C : Type 0} (r : Result A Kind) (g : A → Result B Kind) (f : B → Result C Kind) → ((r >>= g) >>= f) ≡ (r >>= λ x. g x >>= f)
-bind_bind (Ok x) g f = refl
-bind_bind (Err kind) g f = refl
 
 abbrev operand_faults : List ℕ → (ℕ → Kind → Type 0) → ℕ → Kind → Type 0
 operand_faults part others = Root when (HasDot part × (¬ IsRoot part)) ▸ Number when ((¬ HasDot part) × ((part ≡ codes "nil") → ⊥) × (¬ IsInteger part)) ▸ others
@@ -239,8 +233,62 @@ unfolding owned_command
 judges-owned [] = judges-here Form ⊤ (keyword_faults [] None) tt
 judges-owned (first ∷ rest) = by_first (begins_with_digit first) first rest (begins_with_digit-Decides first)
 
+-- ---- the lines that begin with their keyword
+
+cons_nil : {A : Type 0} (x : A) (xs : List A) → ◌≡◌ {A = List A} (x ∷ xs) [] → ⊥
+cons_nil x xs e = cc
+
+judges-alone : (word : List ℕ) (args : List (List ℕ)) (line : Line) → Judges (form_faults (Some (keyword ∷ [])) (word ∷ args)) (alone args line)
+judges-alone word [] line = judges-later Form (¬ (length (word ∷ []) ≡ 1)) (each_part (keyword ∷ []) (word ∷ [])) (Ok line) (λ fails. fails refl) (judges-end line)
+judges-alone word (a ∷ args) line = judges-here Form (¬ (length (word ∷ a ∷ args) ≡ 1)) (each_part (keyword ∷ []) (word ∷ a ∷ args)) (λ e. absurd (omega (arith, e)))
+
+-- the word, and then the form that it names
+abbrev named_faults : List (List ℕ) → Option (List Sort) → ℕ → Kind → Type 0
+named_faults parts form = Word when (form ≡ None) ▸ form_faults form parts
+
+module _ {A : Type 0} (parts : List (List ℕ)) where
+  named : (form : List Sort) (this : Result A Kind) → Judges (form_faults (Some form) parts) this → Judges (named_faults parts (Some form)) this
+  named form this judged = judges-later Word (◌≡◌ {A = Option (List Sort)} (Some form) None) (form_faults (Some form) parts) this (some_none form) judged
+
+  unnamed : Judges {A = A} (named_faults parts None) (Err Word)
+  unnamed = judges-here Word (◌≡◌ {A = Option (List Sort)} None None) (form_faults None parts) refl
+
+  by_name : (t : Bool) (form : List Sort) (o : Option (List Sort)) (this others : Result A Kind) → Judges (named_faults parts (Some form)) this → Judges (named_faults parts o) others
+      → Judges (named_faults parts (cond t (Some form) o)) (cond t this others)
+  by_name true form o this others here there = here
+  by_name false form o this others here there = there
+
+judges-keyword_line : (word : List ℕ) (args : List (List ℕ)) → Judges (keyword_part_faults (word ∷ args)) (keyword_line word args)
+unfolding keyword_line
+judges-keyword_line word args =
+    let parts = word ∷ args in
+    judges-later Form (parts ≡ []) (named_faults parts (lookup word keyword_forms)) (keyword_line word args) (cons_nil word args)
+    (by_name parts (bytes_eq word (codes "dump")) _ _ _ _ (named parts _ _ (judges-alone word args lines.Dump))
+    (unnamed parts))
+
+-- ---- all lines
+
+-- the same faults, in other words
+judges-alike : {A : Type 0} (faults others : ℕ → Kind → Type 0) (r : Result A Kind) → ((p : ℕ) (k : Kind) → faults p k → others p k) → ((p : ℕ) (k : Kind) → others p k → faults p k) → Judges faults r → Judges others r
+judges-alike faults others r to from judged = record {
+  none = λ x e p k h. judged.none x e p k (from p k h);
+  least = λ kind e. let l = judged.least kind e in record { place = l.place; holds = to l.place kind l.holds; least = λ p k h. l.least p k (from p k h) };
+}
+
+judges-with_owner : {A : Type 0} (parts : List (List ℕ)) (r : Result A Kind) → BeginsWithOwner parts → Judges (command_part_faults parts) r → Judges (line_part_faults parts) r
+judges-with_owner parts r owned judged = judges-alike (command_part_faults parts) (line_part_faults parts) r (λ p k h. inl (owned, h)) (λ p k h. elim h [ inl command ↦ command.1 | inr other ↦ absurd (other.0 owned) ]) judged
+
+judges-without_owner : {A : Type 0} (parts : List (List ℕ)) (r : Result A Kind) → ¬ BeginsWithOwner parts → Judges (keyword_part_faults parts) r → Judges (line_part_faults parts) r
+judges-without_owner parts r bare judged = judges-alike (keyword_part_faults parts) (line_part_faults parts) r (λ p k h. inr (bare, h)) (λ p k h. elim h [ inl command ↦ absurd (bare command.0) | inr other ↦ other.1 ]) judged
+
+by_owner : (t : Bool) (first : List ℕ) (rest : List (List ℕ)) → Decides t (IsDigitFirst first) → Judges (line_part_faults (first ∷ rest)) (cond t (command_or_fault first rest >>= λ owned. Ok (line_of owned.0 owned.1)) (keyword_line first rest))
+by_owner true first rest decides = judges-with_owner (first ∷ rest) (command_or_fault first rest >>= λ owned. Ok (line_of owned.0 owned.1)) (decides.0 refl) (judges-step (command_or_fault first rest) (λ owned. line_of owned.0 owned.1) (judges-command first rest (decides.0 refl)))
+by_owner false first rest decides = judges-without_owner (first ∷ rest) (keyword_line first rest) (not_from_Decides false decides refl) (judges-keyword_line first rest)
+
 judges-line_parts : (parts : List (List ℕ)) → Judges (line_part_faults parts) (line_of_parts parts)
-judges-line_parts parts = judges-step (owned_command parts) (λ owned. line_of owned.0 owned.1) (judges-owned parts)
+unfolding line_of_parts
+judges-line_parts [] = judges-without_owner [] (Err Form) (λ h. h) (judges-here Form (◌≡◌ {A = List (List ℕ)} [] []) (named_faults [] None) refl)
+judges-line_parts (first ∷ rest) = by_owner (begins_with_digit first) first rest (begins_with_digit-Decides first)
 
 -- ---- the first line
 
@@ -276,34 +324,6 @@ judges-header_parts (a ∷ b ∷ c ∷ d ∷ f ∷ g ∷ h ∷ parts) = wrong_co
 
 -- ---- a raw line
 
-pub all_Decides : {X : Type 0} (test : X → Bool) (P : X → Type 0) → ((x : X) → Decides (test x) (P x)) → (xs : List X) → Decides (list_all test xs) (AllByRecursion P xs)
-all_Decides test P each [] = (λ e. tt, λ h. refl)
-all_Decides test P each (x ∷ xs) =
-    let others = all_Decides test P each xs in (
-      λ e. let p = and_parts (test x) (list_all test xs) e in ((each x).0 p.0, others.0 p.1),
-      λ h. and_from (test x) (list_all test xs) ((each x).1 h.0) (others.1 h.1),
-    )
-
-cons_nil : {A : Type 0} (x : A) (xs : List A) → ◌≡◌ {A = List A} (x ∷ xs) [] → ⊥
-cons_nil x xs e = cc
-
-is_filled-Decides : (part : List ℕ) → Decides (is_filled part) (¬ (part ≡ []))
-is_filled-Decides [] = (λ e. absurd (false≢true e), λ h. absurd (h refl))
-is_filled-Decides (b ∷ bs) = (λ e f. cons_nil b bs f, λ h. refl)
-
-pub is_formed-Decides : (line : List ℕ) → Decides (is_formed line) (IsWellFormed line)
-unfolding is_formed
-is_formed-Decides line =
-    let bytes = all_Decides is_printable IsPrintable (in_range_Decides 32 126) line in
-    let filled = all_Decides is_filled (λ part. ¬ (part ≡ [])) is_filled-Decides (parts_of line) in (
-      λ e. let p = and_parts (list_all is_printable line) (list_all is_filled (parts_of line)) e in (bytes.0 p.0, filled.0 p.1),
-      λ h. and_from (list_all is_printable line) (list_all is_filled (parts_of line)) (bytes.1 h.0) (filled.1 h.1),
-    )
-
-pub not_ended : (ended : Bool) → Decides (not ended) (ended ≡ false)
-not_ended true = (λ e. absurd (false≢true e), λ e. absurd (false≢true (sym e)))
-not_ended false = (λ e. refl, λ e. refl)
-
 pub judges-raw_line : {A : Type 0} (part_faults : List (List ℕ) → ℕ → Kind → Type 0) (n : ℕ) (line : RawLine) (f : List (List ℕ) → Result A Kind) → Judges (part_faults (parts_of line.bytes)) (f (parts_of line.bytes))
     → Judges (raw_line_faults part_faults n line) (checked_parts n line >>= f)
 unfolding checked_parts
@@ -311,7 +331,7 @@ judges-raw_line part_faults n line f judged =
     let limits : Decides (ltb 1048576 n || ltb 256 (length line.bytes)) ((1048576 < n) ⊎ (256 < length line.bytes)) = Decides-or (ltb 1048576 n) (ltb 256 (length line.bytes)) (Decides-ltb 1048576 n) (Decides-ltb 256 (length line.bytes)) in
     judges-test (ltb 1048576 n || ltb 256 (length line.bytes)) Long ((1048576 < n) ⊎ (256 < length line.bytes)) _ _ f limits (λ short.
     judges-test (not line.ended) Cut (line.ended ≡ false) _ _ f (not_ended line.ended) (λ ended.
-    judges-test (not (is_formed line.bytes)) Form (¬ IsWellFormed line.bytes) _ _ f (Decides-not (is_formed line.bytes) (is_formed-Decides line.bytes)) (λ formed. judged)))
+    judges-test (not (is_formed line.bytes)) Form (¬ IsFormedLine line.bytes) _ _ f (Decides-not (is_formed line.bytes) (is_formed-Decides line.bytes)) (λ formed. judged)))
 
 pub judges-line_or_kind : (n : ℕ) (line : RawLine) → Judges (line_faults n line) (line_or_kind n line)
 unfolding line_or_kind
@@ -330,7 +350,7 @@ judges-checked false kind P others r decides judged = judges-later kind P others
 
 pub judges-single : (line : List ℕ) → Judges (command_faults line) (single_command line)
 unfolding single_command
-judges-single line = judges-checked (not (is_formed line)) Form (¬ IsWellFormed line) (command_part_faults (parts_of line)) (owned_command (parts_of line)) (Decides-not (is_formed line) (is_formed-Decides line)) (judges-owned (parts_of line))
+judges-single line = judges-checked (not (is_formed line)) Form (¬ IsFormedLine line) (command_part_faults (parts_of line)) (owned_command (parts_of line)) (Decides-not (is_formed line) (is_formed-Decides line)) (judges-owned (parts_of line))
 
 pub no_fault_of_single : (line : List ℕ) (owned : ℕ × Command) → single_command line ≡ Ok owned → (p : ℕ) (k : Kind) → command_faults line p k → ⊥
 no_fault_of_single line owned e = (judges-single line).none owned e

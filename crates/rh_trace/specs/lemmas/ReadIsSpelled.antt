@@ -1,5 +1,5 @@
 -- What is read is spelled so, and fits.
-use Rattle.std.proofs.Common.{◌≡◌, ℕ, ℤ, ◌+◌, ◌≤◌, Bool, true, false, cond, ltb, not, ◌||◌, List, [], ◌∷◌, ◌++◌, length, Option, Some, None, Result, Ok, Err, refl, sym, ap, subst, ◌∙◌, arith}
+use Rattle.std.proofs.Common.{◌≡◌, ℕ, ℤ, ◌+◌, ◌≤◌, Bool, true, false, cond, ltb, not, ◌||◌, List, [], ◌∷◌, ◌++◌, length, Some, Result, Ok, Err, refl, sym, ap, subst, ◌∙◌, arith}
 use Rattle.std.specs.Prelude.{codes, decimal, IfOk}
 use Rattle.std.specs.Fmt.{signed_decimal}
 use Rattle.std.specs.List.{flat_map, join_with_byte, AllByRecursion}
@@ -18,41 +18,23 @@ use Rattle.rh_text.specs.RawLine.{RawLine, lines_of, raw_text}
 use Rattle.rh_text.specs.Root.{root_of, root_text, RootFits}
 use Rattle.rh_text.specs.Steps.{◌>>=◌, or_fault, with_fault}
 use Rattle.rh_text.specs.lemmas.Cuts.{some_is}
+use Rattle.rh_text.specs.lemmas.Formed.{ended_text, one_part-means, two_parts-means, three_parts-means}
 use Rattle.rh_text.specs.lemmas.Integers.{integer_means}
 use Rattle.rh_text.specs.lemmas.Numbers.{number_means}
 use Rattle.rh_text.specs.lemmas.RawLines.{lines_text}
 use Rattle.rh_text.specs.lemmas.Roots.{root_means}
+use Rattle.rh_text.specs.lemmas.Steps.{bind_ok, chosen, refused, ok_is, or_fault_ok}
 use Rattle.rh_trace.specs.declared.fault.Kind.{Kind}
 use Rattle.rh_trace.specs.declared.fault.Kind.TheVariants.{Long, Cut, Form, Header, Word, Number, Root}
 use Rattle.rh_trace.specs.declared.fault.ParseError.{ParseError}
 use Rattle.rh_trace.specs.declared.fault.TraceFault.{TraceFault}
 use Rattle.rh_trace.specs.declared.line as declared
 use Rattle.rh_trace.specs.declared.line.Line.{Line}
+use Rattle.rh_trace.specs.declared.line.Line.TheVariants as line_variants
 use Rattle.rh_trace.specs.Line.{line_of}
 use Rattle.rh_trace.specs.Spelling.{Script, operand_text, command_parts, command_text, line_parts, header_parts, spell_line, spell_header, spelling, OperandFits, CommandFits, LineFits, HeaderFits, IsScript}
-use Rattle.rh_trace.specs.Reading.{number_or_fault, integer_or_fault, root_or_fault, operand_or_fault, alloc_of, load_of, store_of, copy_of, same_of, drop_of, command_or_fault, owned_command, single_command, line_of_parts, sizes_of, header_of_parts, checked_parts, fault_at, line_or_kind, header_or_kind, line_or_fault, header_or_fault, lines_from, script_or_fault, trace_of, Gives}
+use Rattle.rh_trace.specs.Reading.{number_or_fault, integer_or_fault, root_or_fault, operand_or_fault, alloc_of, load_of, store_of, copy_of, same_of, drop_of, command_or_fault, owned_command, single_command, alone, keyword_line, line_of_parts, sizes_of, header_of_parts, checked_parts, fault_at, line_or_kind, header_or_kind, line_or_fault, header_or_fault, lines_from, script_or_fault, trace_of, Gives}
 use Rattle.rh_trace.specs.lemmas.LinesInTurn.{number_within}
-
--- the value of a step that did not fail
-pub bind_ok : {A B E : Type 0} (r : Result A E) (f : A → Result B E) (y : B) → (r >>= f) ≡ Ok y → (x : A) × (r ≡ Ok x) × (f x ≡ Ok y)
-bind_ok (Ok x) f y e = (x, refl, e)
-bind_ok (Err d) f y e = absurd cc
-
--- a test that was passed
-pub chosen : {A K : Type 0} (b : Bool) (d : K) (r : Result A K) (y : A) → cond b r (Err d) ≡ Ok y → (b ≡ true) × (r ≡ Ok y)
-chosen true d r y e = (refl, e)
-chosen false d r y e = absurd cc
-
-pub refused : {A K : Type 0} (b : Bool) (d : K) (r : Result A K) (y : A) → cond b (Err d) r ≡ Ok y → (b ≡ false) × (r ≡ Ok y)
-refused true d r y e = absurd cc
-refused false d r y e = (refl, e)
-
-pub ok_is : {A E : Type 0} (x y : A) → ◌≡◌ {A = Result A E} (Ok x) (Ok y) → x ≡ y
-ok_is x y e = cc
-
-pub or_fault_ok : {A K : Type 0} (o : Option A) (kind : K) (x : A) → or_fault o kind ≡ Ok x → o ≡ Some x
-or_fault_ok (Some y) kind x e = cc
-or_fault_ok None kind x e = absurd cc
 
 with_fault_ok : {A : Type 0} (number : ℕ) (r : Result A Kind) (x : A) → with_fault (fault_at number) r ≡ Ok x → r ≡ Ok x
 with_fault_ok number (Ok y) x e = cc
@@ -85,28 +67,6 @@ operand_by false false part operand is e =
 operand_or_fault-means : (part : List ℕ) (operand : Operand) → operand_or_fault part ≡ Ok operand → Spells part operand
 unfolding operand_or_fault
 operand_or_fault-means part operand e = operand_by (bytes_eq part (codes "nil")) (has_dot part) part operand (bytes_eq-Decides part (codes "nil")).0 e
-
--- so many parts
-pub one_part-means : (args : List (List ℕ)) (x : List ℕ) → one_part args ≡ Some x → args ≡ x ∷ []
-unfolding one_part
-one_part-means [] x e = absurd cc
-one_part-means (a ∷ []) x e = ap (λ (y : List ℕ). y ∷ []) (some_is a x e)
-one_part-means (a ∷ b ∷ args) x e = absurd cc
-
-two_parts-means : (args : List (List ℕ)) (x : List ℕ × List ℕ) → two_parts args ≡ Some x → args ≡ x.0 ∷ x.1 ∷ []
-unfolding two_parts
-two_parts-means [] x e = absurd cc
-two_parts-means (a ∷ []) x e = absurd cc
-two_parts-means (a ∷ b ∷ []) x e = ap (λ (y : List ℕ × List ℕ). y.0 ∷ y.1 ∷ []) (some_is (a, b) x e)
-two_parts-means (a ∷ b ∷ c ∷ args) x e = absurd cc
-
-pub three_parts-means : (args : List (List ℕ)) (x : List ℕ × List ℕ × List ℕ) → three_parts args ≡ Some x → args ≡ x.0 ∷ x.1 ∷ x.2 ∷ []
-unfolding three_parts
-three_parts-means [] x e = absurd cc
-three_parts-means (a ∷ []) x e = absurd cc
-three_parts-means (a ∷ b ∷ []) x e = absurd cc
-three_parts-means (a ∷ b ∷ c ∷ []) x e = ap (λ (y : List ℕ × List ℕ × List ℕ). y.0 ∷ y.1 ∷ y.2 ∷ []) (some_is (a, b, c) x e)
-three_parts-means (a ∷ b ∷ c ∷ d ∷ args) x e = absurd cc
 
 -- the command lines, keyword by keyword
 abbrev pub Reads : List (List ℕ) → ℕ × Command → Type 0
@@ -290,10 +250,6 @@ header_of_parts-means parts h e =
     let sizes = sizes_of-means a.0.1 a.0.2 a.0.3 a.0.4 a.0.5 h b.1 in
     (parts_6 parts a.0.0 a.0.1 a.0.2 a.0.3 a.0.4 a.0.5 (codes "heap") (decimal h.words) (decimal h.ratio) (decimal h.log) (decimal h.owners) (decimal h.slots) are ((bytes_eq-Decides a.0.0 (codes "heap")).0 b.0) sizes.0 sizes.1 sizes.2 sizes.3 sizes.4, sizes.5)
 
-ended_text : (ended : Bool) (bytes parts : List ℕ) → ended ≡ true → bytes ≡ parts → cond ended (bytes ++ 10 ∷ []) bytes ≡ parts ++ 10 ∷ []
-ended_text true bytes parts is e = ap (λ (t : List ℕ). t ++ 10 ∷ []) e
-ended_text false bytes parts is e = absurd (cc)
-
 pub checked_parts-means : (number : ℕ) (raw : RawLine) (parts : List (List ℕ)) → checked_parts number raw ≡ Ok parts → raw_text raw ≡ spell_parts parts
 unfolding checked_parts
 checked_parts-means number raw parts e =
@@ -312,12 +268,42 @@ line_of-parts owner (Copy dst src) fits = (refl, fits)
 line_of-parts owner (Same a b) fits = (refl, fits)
 line_of-parts owner (Drop root) fits = (refl, fits)
 
-line_of_parts-means : (parts : List (List ℕ)) (line : Line) → line_of_parts parts ≡ Ok line → (parts ≡ line_parts line) × LineFits line
-line_of_parts-means parts line e =
-    let a = bind_ok (owned_command parts) (λ owned. Ok (line_of owned.0 owned.1)) line e in
-    let b = owned_command-means parts a.0 a.1 in
+-- the parts are those of the line, which fits
+abbrev ReadsLine : List (List ℕ) → Line → Type 0
+ReadsLine parts line = (parts ≡ line_parts line) × LineFits line
+
+command_line-means : (first : List ℕ) (rest : List (List ℕ)) (line : Line) → (command_or_fault first rest >>= λ owned. Ok (line_of owned.0 owned.1)) ≡ Ok line → ReadsLine (first ∷ rest) line
+command_line-means first rest line e =
+    let a = bind_ok (command_or_fault first rest) (λ owned. Ok (line_of owned.0 owned.1)) line e in
+    let b = command_or_fault-means first rest a.0 a.1 in
     let same = line_of-parts a.0.0 a.0.1 b.1 in
-    subst (λ (l : Line). (parts ≡ line_parts l) × LineFits l) (ok_is (line_of a.0.0 a.0.1) line a.2) (b.0 ∙ sym same.0, same.1)
+    subst (ReadsLine (first ∷ rest)) (ok_is (line_of a.0.0 a.0.1) line a.2) (b.0 ∙ sym same.0, same.1)
+
+-- a line that begins with its keyword
+alone-means : (word : List ℕ) (args : List (List ℕ)) (this line : Line) → ReadsLine (word ∷ []) this → alone args this ≡ Ok line → ReadsLine (word ∷ args) line
+alone-means word [] this line reads e = subst (ReadsLine (word ∷ [])) (ok_is this line e) reads
+alone-means word (a ∷ args) this line reads e = absurd cc
+
+-- one keyword more: the line where the keyword is this one, or else that of the other keywords
+by_first_word : (is : Bool) (word text : List ℕ) (args : List (List ℕ)) (this others : Result Line Kind) (line : Line) → (is ≡ true → word ≡ text)
+    → (this ≡ Ok line → ReadsLine (text ∷ args) line) → (others ≡ Ok line → ReadsLine (word ∷ args) line) → cond is this others ≡ Ok line → ReadsLine (word ∷ args) line
+by_first_word true word text args this others line same here there e = subst (λ (w : List ℕ). ReadsLine (w ∷ args) line) (sym (same refl)) (here e)
+by_first_word false word text args this others line same here there e = there e
+
+keyword_line-means : (word : List ℕ) (args : List (List ℕ)) (line : Line) → keyword_line word args ≡ Ok line → ReadsLine (word ∷ args) line
+unfolding keyword_line
+keyword_line-means word args line e =
+    by_first_word (bytes_eq word (codes "dump")) word (codes "dump") args (alone args line_variants.Dump) (Err Word) line (bytes_eq-Decides word (codes "dump")).0 (alone-means (codes "dump") args line_variants.Dump line (refl, tt))
+    (λ no. absurd cc) e
+
+by_owner : (t : Bool) (first : List ℕ) (rest : List (List ℕ)) (line : Line) → cond t (command_or_fault first rest >>= λ owned. Ok (line_of owned.0 owned.1)) (keyword_line first rest) ≡ Ok line → ReadsLine (first ∷ rest) line
+by_owner true first rest line e = command_line-means first rest line e
+by_owner false first rest line e = keyword_line-means first rest line e
+
+line_of_parts-means : (parts : List (List ℕ)) (line : Line) → line_of_parts parts ≡ Ok line → ReadsLine parts line
+unfolding line_of_parts
+line_of_parts-means [] line e = absurd cc
+line_of_parts-means (first ∷ rest) line e = by_owner (begins_with_digit first) first rest line e
 
 pub line_or_fault-means : (number : ℕ) (raw : RawLine) (line : Line) → line_or_fault number raw ≡ Ok line → (raw_text raw ≡ spell_line line) × LineFits line
 unfolding line_or_kind

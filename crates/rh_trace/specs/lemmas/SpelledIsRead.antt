@@ -27,9 +27,10 @@ use Rattle.rh_trace.specs.declared.fault.TraceFault.{TraceFault}
 use Rattle.rh_trace.specs.declared.line as declared
 use Rattle.rh_trace.specs.declared.line.Line.{Line}
 use Rattle.rh_trace.specs.declared.line.Line.TheVariants as lines
-use Rattle.rh_trace.specs.Line.{owner_of, command_of, line_of}
-use Rattle.rh_trace.specs.Spelling.{Script, operand_text, command_parts, command_text, header_parts, spell_line, spelling, OperandFits, CommandFits, LineFits, HeaderFits, IsScript}
-use Rattle.rh_trace.specs.Reading.{number_or_fault, integer_or_fault, root_or_fault, operand_or_fault, alloc_of, load_of, store_of, copy_of, same_of, drop_of, command_or_fault, owned_command, single_command, line_of_parts, sizes_of, header_of_parts, checked_parts, fault_at, line_or_kind, header_or_kind, line_or_fault, header_or_fault, lines_from, script_or_fault, trace_of}
+use Rattle.rh_trace.specs.declared.line.Asked.TheVariants as asked
+use Rattle.rh_trace.specs.Line.{asked_of, line_of}
+use Rattle.rh_trace.specs.Spelling.{Script, operand_text, asked_parts, command_parts, command_text, line_parts, header_parts, spell_line, spelling, OperandFits, CommandFits, LineFits, HeaderFits, IsScript}
+use Rattle.rh_trace.specs.Reading.{number_or_fault, integer_or_fault, root_or_fault, operand_or_fault, alloc_of, load_of, store_of, copy_of, same_of, drop_of, command_or_fault, owned_command, single_command, keyword_line, line_of_parts, sizes_of, header_of_parts, checked_parts, fault_at, line_or_kind, header_or_kind, line_or_fault, header_or_fault, lines_from, script_or_fault, trace_of}
 
 -- ---- what the parts of a spelled line are like
 
@@ -60,6 +61,9 @@ same_part = record { filled = refl; glyphs = refl; short = omega arith }
 
 drop_part : IsPart (codes "drop")
 drop_part = record { filled = refl; glyphs = refl; short = omega arith }
+
+dump_part : IsPart (codes "dump")
+dump_part = record { filled = refl; glyphs = refl; short = omega arith }
 
 heap_part : IsPart (codes "heap")
 heap_part = record { filled = refl; glyphs = refl; short = omega arith }
@@ -219,18 +223,46 @@ single_command-text owner command fits =
     ∙ ap owned_command (parts_of-join a.first a.others a.are.each)
     ∙ a.read
 
--- the line of its own owner and command
-line_of-own : (line : Line) → line_of (owner_of line) (command_of line) ≡ line
-line_of-own (lines.Alloc owner dst fields) = refl
-line_of-own (lines.Load owner dst src field) = refl
-line_of-own (lines.Store owner obj field operand) = refl
-line_of-own (lines.Copy owner dst src) = refl
-line_of-own (lines.Same owner a b) = refl
-line_of-own (lines.Drop owner root) = refl
+-- the line of a command that is read after an owner
+by_owner : (t : Bool) (owned : Result (ℕ × Command) Kind) (other : Result Line Kind) (owner : ℕ) (command : Command) → cond t owned (Err Word) ≡ Ok (owner, command) → cond t (owned >>= λ o. Ok (line_of o.0 o.1)) other ≡ Ok (line_of owner command)
+by_owner true owned other owner command e = ap (λ (r : Result (ℕ × Command) Kind). r >>= λ o. Ok (line_of o.0 o.1)) e
+by_owner false owned other owner command e = absurd cc
 
-line_of_parts-owned : (parts : List (List ℕ)) (line : Line) → owned_command parts ≡ Ok (owner_of line, command_of line) → line_of_parts parts ≡ Ok line
-line_of_parts-owned parts line e =
-    ap (λ (r : Result (ℕ × Command) Kind). r >>= λ owned. Ok (line_of owned.0 owned.1)) e ∙ ap (λ (l : Line). Ok l) (line_of-own line)
+line_of_parts-owned : (first : List ℕ) (rest : List (List ℕ)) (owner : ℕ) (command : Command) → owned_command (first ∷ rest) ≡ Ok (owner, command) → line_of_parts (first ∷ rest) ≡ Ok (line_of owner command)
+unfolding owned_command line_of_parts
+line_of_parts-owned first rest owner command e = by_owner (begins_with_digit first) (command_or_fault first rest) (keyword_line first rest) owner command e
+
+-- the parts of a line are parts, and the line is read from them
+record IsLineReadFrom (line : Line) : Type 0 where
+  first : List ℕ
+  others : List (List ℕ)
+  spelled : line_parts line ≡ first ∷ others
+  are : AreParts first others
+  read : line_of_parts (first ∷ others) ≡ Ok line
+
+command_line-read : (line : Line) (owner : ℕ) (command : Command) → CommandFits owner command → line_of owner command ≡ line → asked_of line ≡ asked.Command owner command → IsLineReadFrom line
+command_line-read line owner command fits is asks =
+    let a = command-read owner command fits in
+    record {
+      first = a.first;
+      others = a.others;
+      spelled = ap asked_parts asks ∙ a.spelled;
+      are = a.are;
+      read = line_of_parts-owned a.first a.others owner command a.read ∙ ap (λ (l : Line). Ok l) is;
+    }
+
+dump-read : line_of_parts (codes "dump" ∷ []) ≡ Ok lines.Dump
+unfolding line_of_parts keyword_line
+dump-read = refl
+
+line-read : (line : Line) → LineFits line → IsLineReadFrom line
+line-read (lines.Alloc owner dst fields) fits = command_line-read (lines.Alloc owner dst fields) owner (Alloc dst fields) fits refl refl
+line-read (lines.Load owner dst src field) fits = command_line-read (lines.Load owner dst src field) owner (Load dst src field) fits refl refl
+line-read (lines.Store owner obj field operand) fits = command_line-read (lines.Store owner obj field operand) owner (Store obj field operand) fits refl refl
+line-read (lines.Copy owner dst src) fits = command_line-read (lines.Copy owner dst src) owner (Copy dst src) fits refl refl
+line-read (lines.Same owner a b) fits = command_line-read (lines.Same owner a b) owner (Same a b) fits refl refl
+line-read (lines.Drop owner root) fits = command_line-read (lines.Drop owner root) owner (Drop root) fits refl refl
+line-read lines.Dump fits = record { first = codes "dump"; others = []; spelled = refl; are = record { each = (dump_part, tt); few = omega arith }; read = dump-read }
 
 header_parts_are : (h : declared.Header.Header) → HeaderFits h → AreParts (codes "heap") (decimal h.words ∷ decimal h.ratio ∷ decimal h.log ∷ decimal h.owners ∷ decimal h.slots ∷ [])
 header_parts_are h fits = record {
@@ -257,11 +289,11 @@ lines_from-spelled : (lines : List Line) (number : ℕ) → AllByRecursion LineF
 unfolding lines_from
 lines_from-spelled [] number fit few = refl
 lines_from-spelled (line ∷ lines) number fit few =
-    let a = command-read (owner_of line) (command_of line) fit.0 in
+    let a = line-read line fit.0 in
     let rest = flat_map spell_line lines in
     let text : spell_line line ++ rest ≡ spell_parts (a.first ∷ a.others) ++ rest = ap (λ (ps : List (List ℕ)). spell_parts ps ++ rest) a.spelled in
     let raws : lines_of (spell_line line ++ rest) ≡ ended_line (join_with_byte 32 (a.first ∷ a.others)) ∷ lines_of rest = ap lines_of text ∙ lines_of-parts a.first a.others rest a.are in
-    let read = line_or_fault-join number line a.first a.others (omega (arith, few)) a.are (line_of_parts-owned (a.first ∷ a.others) line a.read) in
+    let read = line_or_fault-join number line a.first a.others (omega (arith, few)) a.are a.read in
     let others = lines_from-spelled lines (number + 1) fit.1 (omega (arith, few)) in
     ap (lines_from number) raws
     ∙ ap (λ (r : Result Line TraceFault). r >>= λ first. lines_from (number + 1) (lines_of rest) >>= λ others. Ok (first ∷ others)) read

@@ -4,10 +4,11 @@ use Rattle.rh_core.specs.declared.config.HeapError.TheVariants as errors
 use Rattle.rh_core.specs.Config.{fault_of}
 use Rattle.rh_core.specs.Heap.{new_heap}
 use Rattle.rh_trace.specs.Reading.{trace_of}
-use Rattle.rh_trace.specs.Run.{config_of, answers_to, answers_of, summary_of, output_of, run_of_trace, text_of}
-use Rattle.rh_text.specs.Output.{AppendsLess}
+use Rattle.rh_trace.specs.Run.{config_of, answers_to, new_run, answers_of, summary_of, output_of, run_of_trace, text_of}
+use Rattle.rh_text.specs.Output.{AppendsPrefix, AppendsLess}
 use Rattle.rh_text.specs.lemmas.Appends.{Keeps-same}
 use Rattle.rh_trace.proofs.AnswersInTurn.{run-new, run-made, no_fault, refused_with, not_refused}
+use Rattle.rh_trace.proofs.WrittenInTurn.{write_failed, memory_refused}
 use Rattle.rh_trace.proofs.running.run_input.Goals as goal
 
 pub returns-in-Err-Config-clause-ends : goal.returns-in-Err-Config-clause-ends
@@ -17,19 +18,35 @@ returns-in-Err-Config-clause-ends g c =
     let config_is : c.config_of.result ≡ config_of script.header = c.config_of.ensures ∙ ap config_of c.header.ensures in
     let refused = refused_with c.new.result c.in-Err-Config.field-0 (errors.Config fault) c.in-Err-Config.is c.in-Err-Config.field-0-is in
     let bad : fault_of (config_of script.header) ≡ Some fault = ap fault_of (sym config_is) ∙ (c.new.ensures.fault fault).0 refused in
-    (run-new (trace_of c.args.input.now) script fault c.in-Ok.ensures.exact bad, Keeps-same (g.W.Write.contents c.args.writer.now))
+    rw c.in-Err-Config.field-0-is (run-new (trace_of c.args.input.now) script fault c.in-Ok.ensures.exact bad, Keeps-same (g.W.Write.contents c.args.writer.now))
 
-pub returns-clause-ends : goal.returns-clause-ends
-returns-clause-ends g c =
+pub returns-in-Err-Write-clause-ends : goal.returns-in-Err-Write-clause-ends
+returns-in-Err-Write-clause-ends g c =
     let script = c.in-Ok.trace in
+    let known = g.W.Write.contents in
     let config_is : c.config_of.result ≡ config_of script.header = c.config_of.ensures ∙ ap config_of c.header.ensures in
     let good : fault_of (config_of script.header) ≡ None =
     no_fault (fault_of (config_of script.header)) (λ f e. not_refused c.new.result c.in-Ok-new.heap (errors.Config f) c.in-Ok-new.is ((c.new.ensures.fault f).1 (ap fault_of config_is ∙ e))) in
     let text : text_of (run_of_trace (trace_of c.args.input.now)) ≡ output_of (answers_of script) = ap text_of (run-made (trace_of c.args.input.now) script c.in-Ok.ensures.exact good) in
     let heap_is : c.in-Ok-new.heap ≡ new_heap (config_of script.header) = c.in-Ok-new.ensures.made ∙ ap new_heap config_is in
-    let output : output_of (answers_to c.in-Ok-new.heap c.lines.result.now) ≡ output_of (answers_of script) =
-    ap (λ h. output_of (answers_to h c.lines.result.now)) heap_is ∙ ap (λ lines. output_of (answers_to (new_heap (config_of script.header)) lines)) c.lines.ensures in
-    subst (AppendsLess (g.W.Write.contents c.args.writer.now) (g.W.Write.contents c.play.new.writer)) (output ∙ sym text) c.in-Err.ensures.err
+    let output : output_of (answers_to (record { heap = c.in-Ok-new.heap }) c.lines.result.now) ≡ output_of (answers_of script) =
+    ap (λ h. output_of (answers_to (record { heap = h }) c.lines.result.now)) heap_is ∙ ap (λ lines. output_of (answers_to (new_run script) lines)) c.lines.ensures in
+    let cut = write_failed _ c.play.result c.in-Err-Write.field-0 (output_of (answers_to (record { heap = c.in-Ok-new.heap }) c.lines.result.now)) (known c.args.writer.now) (known c.play.new.writer) c.in-Err-Write.is c.in-Err-Write.field-0-is c.play.ensures.written in
+    subst (AppendsLess (known c.args.writer.now) (known c.play.new.writer)) (output ∙ sym text) cut
+
+pub returns-clause-ends : goal.returns-clause-ends
+returns-clause-ends g c =
+    let script = c.in-Ok.trace in
+    let known = g.W.Write.contents in
+    let config_is : c.config_of.result ≡ config_of script.header = c.config_of.ensures ∙ ap config_of c.header.ensures in
+    let good : fault_of (config_of script.header) ≡ None =
+    no_fault (fault_of (config_of script.header)) (λ f e. not_refused c.new.result c.in-Ok-new.heap (errors.Config f) c.in-Ok-new.is ((c.new.ensures.fault f).1 (ap fault_of config_is ∙ e))) in
+    let text : text_of (run_of_trace (trace_of c.args.input.now)) ≡ output_of (answers_of script) = ap text_of (run-made (trace_of c.args.input.now) script c.in-Ok.ensures.exact good) in
+    let heap_is : c.in-Ok-new.heap ≡ new_heap (config_of script.header) = c.in-Ok-new.ensures.made ∙ ap new_heap config_is in
+    let output : output_of (answers_to (record { heap = c.in-Ok-new.heap }) c.lines.result.now) ≡ output_of (answers_of script) =
+    ap (λ h. output_of (answers_to (record { heap = h }) c.lines.result.now)) heap_is ∙ ap (λ lines. output_of (answers_to (new_run script) lines)) c.lines.ensures in
+    let cut = memory_refused _ c.play.result c.in-Err-OutOfMemory-play.field-0 (output_of (answers_to (record { heap = c.in-Ok-new.heap }) c.lines.result.now)) (known c.args.writer.now) (known c.play.new.writer) c.in-Err-OutOfMemory-play.is c.in-Err-OutOfMemory-play.field-0-is c.play.ensures.written in
+    subst (AppendsPrefix (known c.args.writer.now) (known c.play.new.writer)) (output ∙ sym text) cut
 
 pub returns-in-Ok-play-clause-ends : goal.returns-in-Ok-play-clause-ends
 returns-in-Ok-play-clause-ends g c =
@@ -41,9 +58,9 @@ returns-in-Ok-play-clause-ends g c =
     let made : due ≡ Ok (output_of (answers_of script), summary_of (answers_of script)) = run-made (trace_of c.args.input.now) script c.in-Ok.ensures.exact good in
     let text : text_of due ≡ output_of (answers_of script) = ap text_of made in
     let heap_is : c.in-Ok-new.heap ≡ new_heap (config_of script.header) = c.in-Ok-new.ensures.made ∙ ap new_heap config_is in
-    let answers : answers_to c.in-Ok-new.heap c.lines.result.now ≡ answers_of script =
-    ap (λ h. answers_to h c.lines.result.now) heap_is ∙ ap (λ lines. answers_to (new_heap (config_of script.header)) lines) c.lines.ensures in
+    let answers : answers_to (record { heap = c.in-Ok-new.heap }) c.lines.result.now ≡ answers_of script =
+    ap (λ h. answers_to (record { heap = h }) c.lines.result.now) heap_is ∙ ap (λ lines. answers_to (new_run script) lines) c.lines.ensures in
     let summary : c.in-Ok-play.summary ≡ summary_of (answers_of script) = c.in-Ok-play.ensures.summary ∙ ap summary_of answers in (
       made ∙ ap (λ t. Ok (t, summary_of (answers_of script))) (sym text) ∙ ap (λ s. Ok (text_of due, s)) (sym summary),
-      subst (Appends (g.W.Write.contents c.args.writer.now) (g.W.Write.contents c.play.new.writer)) (ap output_of answers ∙ sym text) c.in-Ok-play.ensures.ok,
+      subst (Appends (g.W.Write.contents c.args.writer.now) (g.W.Write.contents c.play.new.writer)) (ap output_of answers ∙ sym text) c.in-Ok-play.ensures.written,
     )

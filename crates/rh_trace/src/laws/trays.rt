@@ -1,0 +1,91 @@
+//! Laws of trays, and of the lines that deal into them.
+
+ghost use Rattle.std.specs.Prelude.{◌≡◌, ◌≢◌, ◌++◌, ◌∷◌, [], ℕ, List, Some, Ok, Err, is_some, map};
+ghost use Rattle.std.specs.Prelude.{None};
+ghost use Rattle.std.specs.Prelude.{if◌then◌else◌};
+ghost use Rattle.std.specs.List.Sorted.{IsStrictlySortedBy};
+ghost use Rattle.std.specs.Map.{keys_of};
+ghost use Rattle.rh_layout.specs.Item.{place_cmp, place_of};
+ghost use Rattle.rh_layout.specs.declared.item.Item.{Item};
+ghost use Rattle.rh_partial.specs.Item.{newest};
+ghost use Rattle.rh_partial.specs.PartialReplica.{pair_at, joined_newest};
+ghost use Rattle.rh_text.specs.Stages.{IsFaultless, IsLeast};
+ghost use Rattle.rh_core.specs.declared.outcomes.Kind.{Kind as KindOf};
+ghost use Rattle.rh_trace.specs.declared.engine.Counted.{Counted};
+ghost use Rattle.rh_trace.specs.declared.engine.DealRefusal.{DealRefusal};
+ghost use Rattle.rh_trace.specs.declared.engine.GiveRefusal.{GiveRefusal};
+ghost use Rattle.rh_trace.specs.declared.trays.JoinRefusal.{JoinRefusal};
+ghost use Rattle.rh_core.specs.declared.outcomes.Given.{Given as GivenOf};
+ghost use Rattle.rh_trace.specs.TrayName.{tray_name_of, IsTrayName};
+ghost use Rattle.rh_trace.specs.Trays.{Trays as TraysOf, Tray, tray_named, trays_with};
+ghost use Rattle.rh_trace.specs.Trays.{entries_with_all};
+ghost use Rattle.rh_trace.specs.Engine.{EngineState, deal_line_step, refusals_of_deal};
+ghost use Rattle.rh_trace.specs.Engine.{join_line_step, refusals_of_join, give_line_step};
+ghost use Rattle.rh_trace.specs.Engine.{refusals_of_give};
+
+/// What is read as the name of a tray is one, and each name is read as itself.
+pub fn the_names_of_trays_are_read()
+    ensures read { (part name : List ℕ) → tray_name_of part ≡ Some name
+        → (name ≡ part) × IsTrayName name }
+    ensures named { (name : List ℕ) → IsTrayName name → tray_name_of name ≡ Some name }
+{}
+
+/// Entries with items joined in have at each place what they had, joined with the newest of the
+/// items, and stand in order of place where they did before.
+pub fn joined_items_are_the_newest()
+    ensures content { (entries items : List Item) → pair_at (entries_with_all entries items)
+        ≡ joined_newest (pair_at entries) (newest items) }
+    ensures order { (entries items : List Item)
+        → IsStrictlySortedBy place_cmp (map place_of entries)
+        → IsStrictlySortedBy place_cmp (map place_of (entries_with_all entries items)) }
+{}
+
+/// A tray that takes a name is the one of that name, and the trays of all other names stay. A name
+/// that is there keeps its place, and a new one goes last.
+pub fn a_tray_takes_its_name_alone()
+    ensures there { (trays : TraysOf) (name : List ℕ) (t : Tray)
+        → tray_named (trays_with trays name t) name ≡ Some t }
+    ensures others { (trays : TraysOf) (name other : List ℕ) (t : Tray) → other ≢ name
+        → tray_named (trays_with trays name t) other ≡ tray_named trays other }
+    ensures order { (trays : TraysOf) (name : List ℕ) (t : Tray)
+        → keys_of (trays_with trays name t)
+        ≡ (if is_some (tray_named trays name) then keys_of trays
+        else keys_of trays ++ name ∷ []) }
+{}
+
+/// A deal into a tray is refused by the first of its refusals that holds, and makes no tray and
+/// changes nothing then. Where something is dealt none of them holds.
+pub fn deals_into_trays_are_refused_in_order()
+    ensures refused { (e : EngineState) (kind : KindOf) (most : ℕ) (name : List ℕ)
+        (why : DealRefusal) → (deal_line_step e kind most name).1 ≡ Err why
+        → IsLeast (refusals_of_deal e kind most name) why
+        × ((deal_line_step e kind most name).0 ≡ e) }
+    ensures dealt { (e : EngineState) (kind : KindOf) (most : ℕ) (name : List ℕ)
+        (done : Counted) → (deal_line_step e kind most name).1 ≡ Ok done
+        → IsFaultless (refusals_of_deal e kind most name) }
+{}
+
+/// A join of trays is refused by the first of its refusals that holds, and changes nothing then.
+/// Where trays are joined none of them holds.
+pub fn joins_of_trays_are_refused_in_order()
+    ensures refused { (e : EngineState) (into other : List ℕ) (why : JoinRefusal)
+        → (join_line_step e into other).1 ≡ Err why
+        → IsLeast (refusals_of_join e into other) why
+        × ((join_line_step e into other).0 ≡ e) }
+    ensures joined { (e : EngineState) (into other : List ℕ) (entries : ℕ)
+        → (join_line_step e into other).1 ≡ Ok entries
+        → IsFaultless (refusals_of_join e into other) }
+{}
+
+/// A give of a tray is refused by the first of its refusals that holds; where there is no such tray
+/// nothing changes, and the trays never do. Where something is given none of them holds.
+pub fn gives_of_trays_are_refused_in_order()
+    ensures refused { (e : EngineState) (name : List ℕ) (why : GiveRefusal)
+        → (give_line_step e name).1 ≡ Err why → IsLeast (refusals_of_give e name) why }
+    ensures given { (e : EngineState) (name : List ℕ) (given : GivenOf)
+        → (give_line_step e name).1 ≡ Ok given → IsFaultless (refusals_of_give e name) }
+    ensures absent { (e : EngineState) (name : List ℕ) → tray_named e.trays name ≡ None
+        → (give_line_step e name).0 ≡ e }
+    ensures trays { (e : EngineState) (name : List ℕ)
+        → (give_line_step e name).0.trays ≡ e.trays }
+{}

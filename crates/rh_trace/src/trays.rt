@@ -1,0 +1,230 @@
+//! Trays: partial replicas with names, in the order in which the names were first used.
+
+ghost use Rattle.std.specs.Prelude.{◌≡◌, [], length, slice_get, OnOk, IfOk};
+ghost use Rattle.std.specs.Option.{option_map};
+ghost use Rattle.rh_trace.specs.Trays.{tray_named, trays_with, tray_or_empty, tray_of};
+ghost use Rattle.rh_trace.specs.Trays.{tray_with, joined_trays, joined_into};
+ghost use Rattle.rh_trace.specs.Trays.{join_step, with_join, is_beyond as is_beyond_in};
+
+use crate::tray_name::TrayName;
+use indexmap::IndexMap;
+use rh_layout::OutOfMemory;
+use rh_partial::{PartialReplica, Piece};
+use std::alloc::Allocator;
+use std::hash::{BuildHasherDefault, FoldHasher};
+use std::marker::Model;
+use thiserror::Error;
+
+/// The most trays of a trace.
+const MAX_TRAYS: usize = 64;
+
+/// Why no tray was joined into another.
+#[derive(Clone, Copy, Debug, PartialEq, Eq, Error)]
+pub enum JoinRefusal {
+    /// There is no tray of the second name.
+    #[error("NoTray")]
+    NoTray,
+    /// There is no tray of the first name, and there are 64 others.
+    #[error("TooManyTrays")]
+    TooManyTrays,
+}
+
+/// The trays of a trace, in the order in which their names were first used.
+///
+/// Contracts see the names and, for each, the epoch and the entries.
+#[derive(Drop)]
+pub struct Trays<A: Allocator + Copy> {
+    alloc: A,
+    replicas: IndexMap<TrayName, PartialReplica<A>, BuildHasherDefault<FoldHasher>, A>,
+}
+
+impl<A: Allocator + Copy> Model for Trays<A> {
+    ghost use Rattle.rh_trace.specs.Trays.{Trays as TraysOf, named_trays};
+
+    ghost Value = { TraysOf };
+
+    ghost view = { λ t. named_trays t.replicas.entries };
+}
+
+impl<A: Allocator + Copy> Trays<A> {
+    /// No trays. They will take their memory from `alloc`.
+    pub fn new(alloc: A) -> Self
+        ensures { result ≡ [] }
+    {
+        Trays {
+            alloc,
+            replicas: IndexMap::new(alloc),
+        }
+    }
+
+    /// How many trays there are.
+    pub fn len(&self) -> usize
+        ensures { result ≡ length self.now }
+    {
+        self.replicas.len()
+    }
+
+    /// The name and the replica of the tray that was first used after `i` others.
+    pub fn tray(&self, i: usize) -> Option<(TrayName, &PartialReplica<A>)>
+        ensures { option_map (λ t. (t.0, tray_of t.1.now)) result ≡ slice_get self.now i }
+    {
+        match self.replicas.get_index(i) {
+            Some((name, replica)) => Some((*name, replica)),
+            None => None,
+        }
+    }
+
+    /// The replica in the tray of this name.
+    pub fn get(&self, name: TrayName) -> Option<&PartialReplica<A>>
+        ensures { option_map (λ r. tray_of r.now) result ≡ tray_named self.now name }
+    {
+        self.replicas.get(&name)
+    }
+
+    /// Whether a tray of this name would be one too many.
+    pub fn is_beyond(&self, name: TrayName) -> bool
+        ensures { result ≡ is_beyond_in self.now name }
+    {
+        match self.get(name) {
+            Some(_) => false,
+            None => self.len() >= MAX_TRAYS,
+        }
+    }
+
+    /// The tray of this name takes a replica in place of what it had.
+    fn put(&mut self, name: TrayName, replica: PartialReplica<A>) -> Result<(), OutOfMemory>
+        ensures { OnOk result (self.new ≡ trays_with self.old name (tray_of replica)) }
+    {
+        match self.replicas.insert(name, replica) {
+            Ok(_) => Ok(()),
+            Err(_) => Err(OutOfMemory),
+        }
+    }
+
+    /// A copy of the replica in the tray of this name, or an empty one of this epoch.
+    fn copy_or_empty(&self, name: TrayName, epoch: u64) -> Result<PartialReplica<A>, OutOfMemory>
+        ensures { IfOk result (λ r. tray_of r ≡ tray_or_empty self.now name epoch) }
+    {
+        match self.get(name) {
+            Some(replica) => copied(replica),
+            None => Ok(PartialReplica::empty(self.alloc, epoch)),
+        }
+    }
+
+    /// Folds a piece into the tray of this name, which is made where it isn't there. The tray must
+    /// be of the piece's epoch, which isn't looked at here.
+    pub(crate) fn fold_in(&mut self, name: TrayName, piece: &Piece) -> Result<(), OutOfMemory>
+        ensures { OnOk result (self.new ≡ trays_with self.old name
+            (tray_with (tray_or_empty self.old name piece.now.epoch) piece.now.items)) }
+    {
+        let replica = self.copy_or_empty(name, piece.epoch())?;
+        let more = taken(replica, piece)?;
+        self.put(name, more)
+    }
+
+    /// Joins the second tray into the first, which becomes a copy of it where it isn't there.
+    /// Answers how many entries the first has then.
+    ///
+    /// # Errors
+    ///
+    /// The first of these that holds, and nothing has changed then: `NoTray` where there is no tray
+    /// of the second name, `TooManyTrays` where there is none of the first and there are 64 others.
+    /// Outside of these `OutOfMemory` where a growth was refused.
+    pub fn join(
+        &mut self,
+        into: TrayName,
+        other: TrayName,
+    ) -> Result<Result<u64, JoinRefusal>, OutOfMemory>
+        ensures state { OnOk result (self.new ≡ (join_step self.old into other).0) }
+        ensures answer { IfOk result (λ answer. answer ≡ (join_step self.old into other).1) }
+    {
+        let Some(second) = self.get(other) else {
+            return Ok(Err(JoinRefusal::NoTray));
+        };
+        if self.is_beyond(into) {
+            return Ok(Err(JoinRefusal::TooManyTrays));
+        }
+        let second = copied(second)?;
+        let entries = self.join_in(into, second)?;
+        Ok(Ok(entries))
+    }
+
+    /// Joins a replica into the tray of this name, which becomes it where it isn't there.
+    fn join_in(&mut self, into: TrayName, second: PartialReplica<A>) -> Result<u64, OutOfMemory>
+        ensures state { OnOk result (self.new ≡ (with_join self.old into (tray_of second)).0) }
+        ensures answer { IfOk result (λ entries. entries
+            ≡ length (joined_into (tray_named self.old into) (tray_of second)).entries) }
+    {
+        let both = self.joined_with(into, second)?;
+        let entries = both.len() as u64;
+        self.put(into, both)?;
+        Ok(entries)
+    }
+
+    /// What the tray of this name becomes with which a replica is joined.
+    fn joined_with(
+        &self,
+        into: TrayName,
+        second: PartialReplica<A>,
+    ) -> Result<PartialReplica<A>, OutOfMemory>
+        ensures { IfOk result (λ both.
+            tray_of both ≡ joined_into (tray_named self.now into) (tray_of second)) }
+    {
+        match self.get(into) {
+            Some(first) => joined(copied(first)?, second),
+            None => Ok(second),
+        }
+    }
+}
+
+/// A replica with the items of a piece, which must be of its epoch.
+fn taken<A: Allocator + Copy>(
+    replica: PartialReplica<A>,
+    piece: &Piece,
+) -> Result<PartialReplica<A>, OutOfMemory>
+    ensures { IfOk result (λ more. tray_of more ≡ tray_with (tray_of replica) piece.now.items) }
+{
+    // What the order of the entries is, from which the clause follows.
+    let _ = replica.len();
+    match replica.take(piece) {
+        Ok(more) => {
+            let _ = more.len();
+            Ok(more)
+        }
+        Err(_) => Err(OutOfMemory),
+    }
+}
+
+/// Two replicas joined.
+fn joined<A: Allocator + Copy>(
+    first: PartialReplica<A>,
+    second: PartialReplica<A>,
+) -> Result<PartialReplica<A>, OutOfMemory>
+    ensures { IfOk result (λ both. tray_of both ≡ joined_trays (tray_of first) (tray_of second)) }
+{
+    // What the order of the entries is, from which the clause follows.
+    let _ = (first.len(), second.len());
+    match first.join(second) {
+        Ok(both) => {
+            let _ = both.len();
+            Ok(both)
+        }
+        Err(_) => Err(OutOfMemory),
+    }
+}
+
+/// A second replica with the entries of the first.
+fn copied<A: Allocator + Copy>(
+    replica: &PartialReplica<A>,
+) -> Result<PartialReplica<A>, OutOfMemory>
+    ensures { IfOk result (λ second. tray_of second ≡ tray_of replica.now) }
+{
+    match replica.copy() {
+        Ok(second) => {
+            // What the order of the entries is, from which the clause follows.
+            let _ = (replica.len(), second.len());
+            Ok(second)
+        }
+        Err(OutOfMemory) => Err(OutOfMemory),
+    }
+}
