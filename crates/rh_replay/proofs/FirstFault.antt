@@ -10,7 +10,7 @@ use Rattle.rh_layout.specs.declared.command.Command.{Command}
 use Rattle.rh_layout.specs.declared.command.Reply.{Reply}
 use Rattle.rh_layout.specs.declared.refusal.Refusal.{Refusal}
 use Rattle.rh_text.specs.Number.{IsU32, number_of}
-use Rattle.rh_text.specs.Parts.{parts_of, is_formed, one_part, three_parts}
+use Rattle.rh_text.specs.Parts.{parts_of, is_formed, one_part, three_parts, IsFormedLine}
 use Rattle.rh_text.specs.RawLine.{RawLine, lines_of}
 use Rattle.rh_text.specs.Stages.{◌when◌, ◌▸◌, no_fault, in_lines, IsFaultless, IsLeast, IsFirst}
 use Rattle.rh_text.specs.Steps.{◌>>=◌, or_fault, with_fault}
@@ -18,31 +18,24 @@ use Rattle.rh_text.specs.lemmas.Numbers.{number_means, number_of-decimal}
 use Rattle.rh_text.specs.lemmas.Stages.{Judges, JudgesLines, judges-end, judges-here, judges-later, judges-test, judges-found, judges-line, judges-no_lines, judges-made, judges-step, in_lines-from}
 use Rattle.rh_trace.specs.declared.fault.Kind.{Kind}
 use Rattle.rh_trace.specs.declared.fault.Kind.TheVariants.{Empty, Long, Cut, Form, Header, Word, Number}
-use Rattle.rh_trace.specs.Faults.{IsWellFormed, IsNumber, IsFirstPart, command_part_faults, raw_line_faults}
+use Rattle.rh_trace.specs.Faults.{IsNumber, IsFirstPart, command_part_faults, raw_line_faults}
 use Rattle.rh_trace.specs.Reading.{owned_command, checked_parts}
 use Rattle.rh_text.specs.lemmas.Cuts.{some_is}
-use Rattle.rh_trace.specs.lemmas.ReadIsSpelled.{bind_ok, refused}
-use Rattle.rh_trace.specs.lemmas.FirstFault.{judges-owned, judges-raw_line, is_formed-Decides, not_ended, no_number, number_is}
+use Rattle.rh_text.specs.lemmas.Formed.{is_formed-Decides, not_ended}
+use Rattle.rh_text.specs.lemmas.Steps.{ok_is, err_is, ok_err, none_some, bind_ok, refused}
+use Rattle.rh_trace.specs.lemmas.FirstFault.{judges-owned, judges-raw_line, no_number, number_is}
 use Rattle.rh_replay.specs.declared.call.Call.{Call}
 use Rattle.rh_replay.specs.declared.fault.HistoryKind.{HistoryKind}
 use Rattle.rh_replay.specs.declared.fault.HistoryKind.TheVariants.{Line, Trailing, Answer, Count, End}
 use Rattle.rh_replay.specs.declared.fault.HistoryFault.{HistoryFault}
 use Rattle.rh_replay.specs.History.{HistoryState}
-use Rattle.rh_replay.specs.Faults.{◌▹◌, chosen_faults, of_line, IsUpTo, size_faults, header_part_faults, header_faults, IsAnswer, command_before_faults, call_faults, IsCount, end_faults, line_part_faults, line_faults, trailing_faults, begins_with_end, later_faults, text_faults}
-use Rattle.rh_replay.specs.Reading.{answer_of, before_equals, after_equals, command_before, call_of_parts, end_of_parts, line_of_parts, line_or_kind, number_up_to, sizes_of, header_of_parts, header_of_line, header_or_kind, fault_at, kind_after_end, end_from, line_or_fault, next_calls, calls_from, header_or_fault, history_or_fault, history_of}
-use Rattle.rh_replay.proofs.ReadIsSpelled.{answer_of-means, number_up_to-means, with_ok}
-use Rattle.rh_replay.proofs.SpelledIsRead.{answer_read, number_up_to-decimal}
+use Rattle.rh_replay.specs.Faults.{◌▹◌, chosen_faults, of_line, IsUpTo, size_faults, header_part_faults, header_faults, IsAnswer, command_before_faults, cut_call_faults, call_faults, IsCount, end_faults, line_part_faults, line_faults, trailing_faults, begins_with_end, later_faults, text_faults}
+use Rattle.rh_replay.proofs.FirstEquals.{cut_is, cut_once}
+use Rattle.rh_replay.specs.Reading.{answer_of, before_equals, after_equals, command_before, call_of_parts, end_of_parts, line_of_parts, line_or_kind, size_up_to, sizes_of, header_of_parts, header_of_line, header_or_kind, fault_at, kind_after_end, end_from, line_or_fault, next_calls, calls_from, header_or_fault, history_or_fault, history_of}
+use Rattle.rh_replay.proofs.ReadIsSpelled.{answer_of-means, size_up_to-means, with_ok}
+use Rattle.rh_replay.proofs.SpelledIsRead.{answer_read, size_up_to-decimal}
 
 -- ---- faults of a trace's line
-
-ok_is : {A K : Type 0} (x y : A) → ◌≡◌ {A = Result A K} (Ok x) (Ok y) → x ≡ y
-ok_is x y e = cc
-
-err_is : {A K : Type 0} (k j : K) → ◌≡◌ {A = Result A K} (Err k) (Err j) → k ≡ j
-err_is k j e = cc
-
-ok_err : {A K : Type 0} (x : A) (k : K) → ◌≡◌ {A = Result A K} (Ok x) (Err k) → ⊥
-ok_err x k e = cc
 
 none_of_line : (faults : ℕ → Kind → Type 0) → ((p : ℕ) (k : Kind) → faults p k → ⊥) → (p : ℕ) (k : HistoryKind) → of_line faults p k → ⊥
 none_of_line faults none p (Line k) h = none p k h
@@ -99,21 +92,38 @@ unfolding command_before
 judges-before [] = judges-here Word ⊤ no_fault tt
 judges-before (part ∷ parts) = judges-owned (part ∷ parts)
 
-none_some : {A : Type 0} (o : Option A) (x : A) → o ≡ None → o ≡ Some x → ⊥
-none_some o x e f = let clash : ◌≡◌ {A = Option _} None (Some x) = sym e ∙ f in absurd cc
-
 no_answer : (parts : List (List ℕ)) → answer_of parts ≡ None → ¬ IsAnswer parts
 no_answer parts e h = none_some (answer_of parts) h.0 e (ap answer_of h.2 ∙ answer_read h.0 h.1)
 
 answer_is : (parts : List (List ℕ)) (a : Result Reply Refusal) → answer_of parts ≡ Some a → IsAnswer parts
 answer_is parts a e = let m = answer_of-means parts a e in (a, m.1, m.0)
 
-judges-call : (parts : List (List ℕ)) → Judges (call_faults parts) (call_of_parts parts)
+judges-cut_call : (parts : List (List ℕ)) → Judges (cut_call_faults (before_equals parts) (after_equals parts)) (call_of_parts parts)
 unfolding call_of_parts
-judges-call parts =
+judges-cut_call parts =
     let answers : ℕ → HistoryKind → Type 0 = Answer when (¬ IsAnswer (after_equals parts)) ▸ no_fault in
     judges-after (of_line (command_before_faults (before_equals parts))) answers (with_fault Line (command_before (before_equals parts))) _ (judges-of_line (command_before_faults (before_equals parts)) (command_before (before_equals parts)) (judges-before (before_equals parts)))
     (λ owned. judges-found (answer_of (after_equals parts)) Answer (¬ IsAnswer (after_equals parts)) no_fault _ (no_answer (after_equals parts)) (λ a e fails. fails (answer_is (after_equals parts) a e)) (λ a e. judges-end _))
+
+-- a fault of the line is one of its parts before and after the first that is `=`
+fault_of_cut : (parts : List (List ℕ)) (p : ℕ) (k : HistoryKind) → call_faults parts p k → cut_call_faults (before_equals parts) (after_equals parts) p k
+fault_of_cut parts p k h =
+    let same = cut_once parts h.0 h.1 h.2 in
+    subst (λ before. cut_call_faults before (after_equals parts) p k) same.0 (subst (λ after. cut_call_faults h.0 after p k) same.1 h.3)
+
+judges-call : (parts : List (List ℕ)) → Judges (call_faults parts) (call_of_parts parts)
+judges-call parts =
+    let judged = judges-cut_call parts in
+    record {
+      none = λ call e p k h. judged.none call e p k (fault_of_cut parts p k h);
+      least = λ kind e.
+          let l = judged.least kind e in
+          record {
+            place = l.place;
+            holds = (before_equals parts, after_equals parts, cut_is parts, l.holds);
+            least = λ p k h. l.least p k (fault_of_cut parts p k h);
+          };
+    }
 
 -- ---- the last line
 
@@ -162,7 +172,7 @@ unfolding line_or_kind checked_parts
 judges-line_or_kind number line =
     line_test (ltb 1048576 number || ltb 256 (length line.bytes)) Long ((1048576 < number) ⊎ (256 < length line.bytes)) _ _ (line_of_parts number) (limits_decided number line)
     (line_test (not line.ended) Cut (line.ended ≡ false) _ _ (line_of_parts number) (not_ended line.ended)
-    (line_test (not (is_formed line.bytes)) Form (¬ IsWellFormed line.bytes) _ _ (line_of_parts number) (Decides-not (is_formed line.bytes) (is_formed-Decides line.bytes))
+    (line_test (not (is_formed line.bytes)) Form (¬ IsFormedLine line.bytes) _ _ (line_of_parts number) (Decides-not (is_formed line.bytes) (is_formed-Decides line.bytes))
     (judges-line_parts number (parts_of line.bytes))))
 
 -- ---- a line after the last
@@ -285,17 +295,17 @@ judges-calls_from n (line ∷ lines) =
 
 -- ---- the first line
 
-no_size : (most : ℕ) → most ≤ 256 → (part : List ℕ) → number_up_to most part ≡ None → ¬ IsUpTo most part
-no_size most small part e h = none_some (number_up_to most part) h.0 e (ap (number_up_to most) h.3 ∙ number_up_to-decimal most h.0 (omega (arith, h.2)) h.1 h.2)
+no_size : (most : ℕ) → most ≤ 256 → (part : List ℕ) → size_up_to most part ≡ None → ¬ IsUpTo most part
+no_size most small part e h = none_some (size_up_to most part) h.0 e (ap (size_up_to most) h.3 ∙ size_up_to-decimal most h.0 (omega (arith, h.2)) h.1 h.2)
 
-size_is : (most : ℕ) (part : List ℕ) (n : ℕ) → number_up_to most part ≡ Some n → IsUpTo most part
-size_is most part n e = let m = number_up_to-means most part n e in (n, m.1, m.2, m.0)
+size_is : (most : ℕ) (part : List ℕ) (n : ℕ) → size_up_to most part ≡ Some n → IsUpTo most part
+size_is most part n e = let m = size_up_to-means most part n e in (n, m.1, m.2, m.0)
 
 judges-sizes : (word owners slots : List ℕ) → Judges (size_faults (word ∷ owners ∷ slots ∷ [])) (sizes_of owners slots)
 unfolding sizes_of
 judges-sizes word owners slots =
-    judges-found (number_up_to 16 owners) Number (¬ IsUpTo 16 owners) _ _ (no_size 16 (omega arith) owners) (λ n e fails. fails (size_is 16 owners n e)) (λ n e.
-    judges-found (number_up_to 256 slots) Number (¬ IsUpTo 256 slots) no_fault _ (no_size 256 (omega arith) slots) (λ m f fails. fails (size_is 256 slots m f)) (λ m f. judges-end _))
+    judges-found (size_up_to 16 owners) Number (¬ IsUpTo 16 owners) _ _ (no_size 16 (omega arith) owners) (λ n e fails. fails (size_is 16 owners n e)) (λ n e.
+    judges-found (size_up_to 256 slots) Number (¬ IsUpTo 256 slots) no_fault _ (no_size 256 (omega arith) slots) (λ m f fails. fails (size_is 256 slots m f)) (λ m f. judges-end _))
 
 abbrev header_stage : List (List ℕ) → Type 0
 header_stage parts = (¬ IsFirstPart (codes "history") parts) ⊎ (¬ (length parts ≡ 3))

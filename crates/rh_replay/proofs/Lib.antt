@@ -4,4 +4,5 @@ pub mod Equals
 pub mod CallsInTurn
 pub mod ReadIsSpelled
 pub mod SpelledIsRead
+pub mod FirstEquals
 pub mod FirstFault

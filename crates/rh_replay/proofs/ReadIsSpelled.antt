@@ -18,15 +18,17 @@ use Rattle.rh_text.specs.Parts.{parts_of, is_formed, spell_parts, one_part, two_
 use Rattle.rh_text.specs.RawLine.{RawLine, lines_of, raw_text}
 use Rattle.rh_text.specs.Steps.{◌>>=◌, or_fault, with_fault}
 use Rattle.rh_text.specs.lemmas.Cuts.{some_is}
+use Rattle.rh_text.specs.lemmas.Formed.{one_part-means, three_parts-means}
 use Rattle.rh_text.specs.lemmas.Integers.{integer_means}
 use Rattle.rh_text.specs.lemmas.Numbers.{number_means}
 use Rattle.rh_text.specs.lemmas.RawLines.{lines_text}
+use Rattle.rh_text.specs.lemmas.Steps.{bind_ok, chosen, refused, ok_is, or_fault_ok}
 use Rattle.rh_trace.specs.Answers.{answer_text}
 use Rattle.rh_trace.specs.Reading.{owned_command, checked_parts}
 use Rattle.rh_trace.specs.Spelling.{command_parts, command_text, CommandFits}
 use Rattle.rh_trace.specs.declared.fault.Kind.{Kind}
 use Rattle.rh_trace.specs.declared.fault.Kind.TheVariants as kinds
-use Rattle.rh_trace.specs.lemmas.ReadIsSpelled.{bind_ok, ok_is, or_fault_ok, chosen, refused, owned_command-means, checked_parts-means, one_part-means, three_parts-means, Reads}
+use Rattle.rh_trace.specs.lemmas.ReadIsSpelled.{owned_command-means, checked_parts-means, Reads}
 use Rattle.rh_replay.specs.declared.call.Call.{Call}
 use Rattle.rh_replay.specs.declared.fault.HistoryKind.{HistoryKind}
 use Rattle.rh_replay.specs.declared.fault.HistoryKind.TheVariants.{Line, Trailing, Answer, Count, End}
@@ -34,7 +36,7 @@ use Rattle.rh_replay.specs.declared.fault.HistoryFault.{HistoryFault}
 use Rattle.rh_replay.specs.declared.fault.HistoryError.{HistoryError}
 use Rattle.rh_replay.specs.History.{HistoryState, IsHistory, AnswerFits, CallFits}
 use Rattle.rh_replay.specs.Spelling.{header_parts, header_line, call_line, end_parts, end_line, spelling, answer_parts, IsReadable}
-use Rattle.rh_replay.specs.Reading.{bare_answer, sameness_of, refusal_named, answer_with, answer_or, answer_of, before_equals, after_equals, command_before, call_of_parts, end_of_parts, line_of_parts, line_or_kind, number_up_to, sizes_of, header_of_parts, header_of_line, header_or_kind, fault_at, end_from, line_or_fault, next_calls, calls_from, header_or_fault, history_or_fault, history_of, Gives}
+use Rattle.rh_replay.specs.Reading.{bare_answer, sameness_of, refusal_named, answer_with, answer_or, answer_of, before_equals, after_equals, command_before, call_of_parts, end_of_parts, line_of_parts, line_or_kind, size_up_to, sizes_of, header_of_parts, header_of_line, header_or_kind, fault_at, end_from, line_or_fault, next_calls, calls_from, header_or_fault, history_or_fault, history_of, Gives}
 
 -- ---- answers
 
@@ -236,7 +238,7 @@ err_count : {A : Type 0} (x : A) → ◌≡◌ {A = Result A HistoryKind} (Err C
 err_count x e = cc
 
 count_is : (t : Bool) (r : Option Call) → cond t (Ok None) (Err Count) ≡ Ok r → (t ≡ true) × (None ≡ r)
-count_is true r e = (refl, ok_is {E = HistoryKind} None r e)
+count_is true r e = (refl, ok_is {K = HistoryKind} None r e)
 count_is false r e = absurd (err_count r e)
 
 end_of_parts-means : (number : ℕ) (args : List (List ℕ)) (r : Option Call) → end_of_parts number args ≡ Ok r → MeansLine number (codes "end" ∷ args) r
@@ -296,7 +298,7 @@ pub record ReadAs (raws : List RawLine) (number : ℕ) (calls : List Call) : Typ
 
 ends_there : (number : ℕ) (raws : List RawLine) (calls : List Call) → end_from number raws ≡ Ok calls → (raws ≡ []) × ([] ≡ calls)
 unfolding end_from
-ends_there number [] calls e = (refl, ok_is {E = HistoryFault} [] calls e)
+ends_there number [] calls e = (refl, ok_is {K = HistoryFault} [] calls e)
 ends_there number (raw ∷ raws) calls e = absurd cc
 
 next-means : (number : ℕ) (raw : RawLine) (raws : List RawLine) (r : Option Call) (calls : List Call) → IsLine number raw r × (number ≤ 1048576)
@@ -333,9 +335,9 @@ kept false m n e = absurd (none_is n e)
 abbrev pub IsSize : ℕ → List ℕ → ℕ → Type 0
 IsSize most part n = (part ≡ decimal n) × (1 ≤ n) × (n ≤ most)
 
-pub number_up_to-means : (most : ℕ) (part : List ℕ) (n : ℕ) → number_up_to most part ≡ Some n → IsSize most part n
-unfolding number_up_to
-number_up_to-means most part n e =
+pub size_up_to-means : (most : ℕ) (part : List ℕ) (n : ℕ) → size_up_to most part ≡ Some n → IsSize most part n
+unfolding size_up_to
+size_up_to-means most part n e =
     let a = then_some (number_of part) (λ m. cond (leb 1 m && leb m most) (Some m) None) n e in
     let b = kept (leb 1 a.0 && leb a.0 most) a.0 n a.2 in
     let m = number_means part a.0 a.1 in
@@ -351,14 +353,14 @@ header_parts_are parts a b c x y z e p q r = cc
 header_of_parts-means : (parts : List (List ℕ)) (sizes : ℕ × ℕ) → header_of_parts parts ≡ Ok sizes → HeaderMeans parts sizes
 unfolding header_of_parts sizes_of
 header_of_parts-means parts sizes e =
-    let read : List ℕ × List ℕ × List ℕ → Result (ℕ × ℕ) Kind = λ three. or_fault (number_up_to 16 three.1) kinds.Number >>= λ owners. or_fault (number_up_to 256 three.2) kinds.Number >>= λ slots. Ok (owners, slots) in
+    let read : List ℕ × List ℕ × List ℕ → Result (ℕ × ℕ) Kind = λ three. or_fault (size_up_to 16 three.1) kinds.Number >>= λ owners. or_fault (size_up_to 256 three.2) kinds.Number >>= λ slots. Ok (owners, slots) in
     let a = bind_ok (or_fault (three_parts parts) kinds.Header) (λ three. cond (bytes_eq three.0 (codes "history")) (read three) (Err kinds.Header)) sizes e in
     let are = three_parts-means parts a.0 (or_fault_ok (three_parts parts) kinds.Header a.0 a.1) in
     let b = chosen (bytes_eq a.0.0 (codes "history")) kinds.Header (read a.0) sizes a.2 in
-    let c = bind_ok (or_fault (number_up_to 16 a.0.1) kinds.Number) (λ owners. or_fault (number_up_to 256 a.0.2) kinds.Number >>= λ slots. Ok (owners, slots)) sizes b.1 in
-    let d = bind_ok (or_fault (number_up_to 256 a.0.2) kinds.Number) (λ slots. Ok (c.0, slots)) sizes c.2 in
-    let owners = number_up_to-means 16 a.0.1 c.0 (or_fault_ok (number_up_to 16 a.0.1) kinds.Number c.0 c.1) in
-    let slots = number_up_to-means 256 a.0.2 d.0 (or_fault_ok (number_up_to 256 a.0.2) kinds.Number d.0 d.1) in
+    let c = bind_ok (or_fault (size_up_to 16 a.0.1) kinds.Number) (λ owners. or_fault (size_up_to 256 a.0.2) kinds.Number >>= λ slots. Ok (owners, slots)) sizes b.1 in
+    let d = bind_ok (or_fault (size_up_to 256 a.0.2) kinds.Number) (λ slots. Ok (c.0, slots)) sizes c.2 in
+    let owners = size_up_to-means 16 a.0.1 c.0 (or_fault_ok (size_up_to 16 a.0.1) kinds.Number c.0 c.1) in
+    let slots = size_up_to-means 256 a.0.2 d.0 (or_fault_ok (size_up_to 256 a.0.2) kinds.Number d.0 d.1) in
     let whole : parts ≡ header_parts c.0 d.0 = header_parts_are parts a.0.0 a.0.1 a.0.2 (codes "history") (decimal c.0) (decimal d.0) are (word_is a.0.0 (codes "history") b.0) owners.0 slots.0 in
     subst (HeaderMeans parts) (ok_is (c.0, d.0) sizes d.2) (whole, owners.1, owners.2, slots.1, slots.2)
 

@@ -37,7 +37,7 @@ use Rattle.rh_replay.specs.declared.fault.HistoryKind.TheVariants.{Line, Answer,
 use Rattle.rh_replay.specs.declared.fault.HistoryFault.{HistoryFault}
 use Rattle.rh_replay.specs.History.{HistoryState, IsHistory, AnswerFits, CallFits}
 use Rattle.rh_replay.specs.Spelling.{header_parts, header_line, call_line, end_parts, end_line, spelling, answer_parts, IsReadable}
-use Rattle.rh_replay.specs.Reading.{bare_answer, sameness_of, refusal_named, answer_with, answer_or, answer_of, before_equals, after_equals, command_before, call_of_parts, end_of_parts, line_of_parts, line_or_kind, number_up_to, sizes_of, header_of_parts, header_of_line, fault_at, end_from, line_or_fault, next_calls, calls_from, header_or_fault, history_or_fault, history_of}
+use Rattle.rh_replay.specs.Reading.{bare_answer, sameness_of, refusal_named, answer_with, answer_or, answer_of, before_equals, after_equals, command_before, call_of_parts, end_of_parts, line_of_parts, line_or_kind, size_up_to, sizes_of, header_of_parts, header_of_line, fault_at, end_from, line_or_fault, next_calls, calls_from, header_or_fault, history_or_fault, history_of}
 use Rattle.rh_replay.proofs.Equals.{before_equals-append, after_equals-append}
 use Rattle.rh_replay.proofs.ReadIsSpelled.{call_parts, call_text, some_command}
 
@@ -261,9 +261,9 @@ calls_from-spelled (call ∷ calls) number count fit counted few =
 
 -- ---- the first line, and the whole text
 
-pub number_up_to-decimal : (most n : ℕ) → IsU32 n → 1 ≤ n → n ≤ most → number_up_to most (decimal n) ≡ Some n
-unfolding number_up_to
-number_up_to-decimal most n small some few =
+pub size_up_to-decimal : (most n : ℕ) → IsU32 n → 1 ≤ n → n ≤ most → size_up_to most (decimal n) ≡ Some n
+unfolding size_up_to
+size_up_to-decimal most n small some few =
     ap (λ (o : Option ℕ). o >>=? λ m. cond (leb 1 m && leb m most) (Some m) None) (number_of-decimal n small)
     ∙ ap (λ (t : Bool). cond t (Some n) None) (and_from (leb 1 n) (leb n most) (le-leb 1 n some) (le-leb n most few))
 
@@ -273,9 +273,9 @@ header_parts_are owners slots o s = record { each = (record { filled = refl; gly
 header_of_parts-spelled : (h : HistoryState) → IsHistory h → header_of_parts (header_parts h.owners h.slots) ≡ Ok (h.owners, h.slots)
 unfolding header_of_parts three_parts sizes_of
 header_of_parts-spelled h is =
-    let owners = number_up_to-decimal 16 h.owners (omega (arith, is.few_owners)) is.some_owner is.few_owners in
-    let slots = number_up_to-decimal 256 h.slots (omega (arith, is.few_slots)) is.some_slot is.few_slots in
-    ap (λ (o : Option ℕ). or_fault o kinds.Number >>= λ n. or_fault (number_up_to 256 (decimal h.slots)) kinds.Number >>= λ m. Ok (n, m)) owners
+    let owners = size_up_to-decimal 16 h.owners (omega (arith, is.few_owners)) is.some_owner is.few_owners in
+    let slots = size_up_to-decimal 256 h.slots (omega (arith, is.few_slots)) is.some_slot is.few_slots in
+    ap (λ (o : Option ℕ). or_fault o kinds.Number >>= λ n. or_fault (size_up_to 256 (decimal h.slots)) kinds.Number >>= λ m. Ok (n, m)) owners
     ∙ ap (λ (o : Option ℕ). or_fault o kinds.Number >>= λ m. Ok (h.owners, m)) slots
 
 header_or_fault-join : (h : HistoryState) → IsHistory h → header_or_fault (ended_line (join_with_byte 32 (header_parts h.owners h.slots))) ≡ Ok (h.owners, h.slots)

@@ -1,19 +1,19 @@
 -- When each fault holds of a history's text, in the order of the format. No reader is named here.
-use Rattle.std.specs.Prelude.{◌≡◌, ◌≢◌, ℕ, ◌+◌, ◌<◌, ◌≤◌, ◌⊎◌, ⊤, Bool, true, false, List, [], ◌∷◌, length, Result, codes, decimal}
+use Rattle.std.specs.Prelude.{◌≡◌, ◌≢◌, ℕ, ◌+◌, ◌<◌, ◌≤◌, ◌⊎◌, ⊤, Bool, true, false, List, [], ◌∷◌, ◌++◌, length, Result, codes, decimal}
+use Rattle.std.specs.List.{AllByRecursion}
 use Rattle.std.specs.Str.{bytes_eq}
 use Rattle.rh_layout.specs.declared.command.Reply.{Reply}
 use Rattle.rh_layout.specs.declared.refusal.Refusal.{Refusal}
 use Rattle.rh_text.specs.Number.{IsU32}
 use Rattle.rh_text.specs.RawLine.{RawLine}
-use Rattle.rh_text.specs.Parts.{parts_of}
+use Rattle.rh_text.specs.Parts.{parts_of, IsFormedLine}
 use Rattle.rh_text.specs.Stages.{◌when◌, no_fault, ◌▸◌, in_lines, IsFaultless}
 use Rattle.rh_trace.specs.declared.fault.Kind.{Kind}
 use Rattle.rh_trace.specs.declared.fault.Kind.TheVariants.{Empty, Long, Cut, Form, Header, Word, Number}
-use Rattle.rh_trace.specs.Faults.{IsWellFormed, IsNumber, IsFirstPart, command_part_faults, raw_line_faults}
+use Rattle.rh_trace.specs.Faults.{IsNumber, IsFirstPart, command_part_faults, raw_line_faults}
 use Rattle.rh_replay.specs.declared.fault.HistoryKind.{HistoryKind}
 use Rattle.rh_replay.specs.declared.fault.HistoryKind.TheVariants.{Line, Trailing, Answer, Count, End}
 use Rattle.rh_replay.specs.History.{AnswerFits}
-use Rattle.rh_replay.specs.Reading.{before_equals, after_equals}
 use Rattle.rh_replay.specs.Spelling.{answer_parts}
 
 -- the faults of a chain, and of another that is looked at only where none of these holds
@@ -22,7 +22,8 @@ abbrev pub ◌▹◌ : {K : Type 0} → (ℕ → K → Type 0) → (ℕ → K �
 (faults ▹ later) place kind = faults place kind ⊎ (IsFaultless faults × later place kind)
 
 -- one of two chains of faults, by a test
-abbrev pub chosen_faults : {K : Type 0} → Bool → (ℕ → K → Type 0) → (ℕ → K → Type 0) → ℕ → K → Type 0
+abbrev pub chosen_faults : {K : Type 0} → Bool → (ℕ → K → Type 0) → (ℕ → K → Type 0) → ℕ → K
+    → Type 0
 chosen_faults true these those place kind = these place kind
 chosen_faults false these those place kind = those place kind
 
@@ -63,11 +64,22 @@ abbrev pub command_before_faults : List (List ℕ) → ℕ → Kind → Type 0
 command_before_faults [] = Word when ⊤ ▸ no_fault
 command_before_faults (part ∷ parts) = command_part_faults (part ∷ parts)
 
--- the faults of the parts of a call's line: those of its command, and then of what follows `=`
+-- the parts stand before and after the first of them that is `=`; where none is, all stand before
+abbrev pub AreCutAtEquals : List (List ℕ) → List (List ℕ) → List (List ℕ) → Type 0
+AreCutAtEquals parts before after =
+    AllByRecursion (λ part. part ≢ codes "=") before
+    × ((parts ≡ before ++ codes "=" ∷ after) ⊎ ((parts ≡ before) × (after ≡ [])))
+
+-- the faults of a command that stands before `=`, and then of the answer that stands after it
+abbrev pub cut_call_faults : List (List ℕ) → List (List ℕ) → ℕ → HistoryKind → Type 0
+cut_call_faults before after =
+    of_line (command_before_faults before) ▹ Answer when (¬ IsAnswer after) ▸ no_fault
+
+-- the faults of the parts of a call's line
 abbrev pub call_faults : List (List ℕ) → ℕ → HistoryKind → Type 0
-call_faults parts =
-    of_line (command_before_faults (before_equals parts))
-    ▹ Answer when (¬ IsAnswer (after_equals parts)) ▸ no_fault
+call_faults parts place kind =
+    (before : List (List ℕ)) × (after : List (List ℕ))
+    × AreCutAtEquals parts before after × cut_call_faults before after place kind
 
 -- the part is the decimal of the number of lines between the first line and the line of this number
 abbrev pub IsCount : ℕ → List ℕ → Type 0
@@ -91,7 +103,7 @@ abbrev pub line_faults : ℕ → RawLine → ℕ → HistoryKind → Type 0
 line_faults number line =
     Line Long when ((1048576 < number) ⊎ (256 < length line.bytes))
     ▸ Line Cut when (line.ended ≡ false)
-    ▸ Line Form when (¬ IsWellFormed line.bytes)
+    ▸ Line Form when (¬ IsFormedLine line.bytes)
     ▸ line_part_faults number (parts_of line.bytes)
 
 -- the faults of a line after one that begins with `end`
@@ -113,7 +125,8 @@ abbrev pub later_faults : ℕ → List RawLine → ℕ → ℕ → HistoryKind �
 later_faults number [] line place kind = (line ≡ number) × (place ≡ 0) × (kind ≡ End)
 later_faults number (l ∷ ls) line place kind =
     ((line ≡ number) × line_faults number l place kind)
-    ⊎ chosen_faults (begins_with_end (parts_of l.bytes)) (in_lines trailing_faults (number + 1) ls line)
+    ⊎ chosen_faults (begins_with_end (parts_of l.bytes))
+    (in_lines trailing_faults (number + 1) ls line)
     (later_faults (number + 1) ls line) place kind
 
 -- the faults of a text of these lines

@@ -35,7 +35,8 @@ abbrev pub AnswerFits : Result Reply Refusal → Type 0
 AnswerFits (Ok reply) = ReplyFits reply
 AnswerFits (Err refusal) = is_limit refusal ≡ false
 
--- an answer that a history keeps, whatever its numbers: a reply, or a refusal that isn't for a limit
+-- an answer that a history keeps, whatever its numbers: a reply, or a refusal that isn't for a
+-- limit
 abbrev pub AnswerIsKept : Result Reply Refusal → Type 0
 AnswerIsKept (Ok reply) = ⊤
 AnswerIsKept (Err refusal) = is_limit refusal ≡ false

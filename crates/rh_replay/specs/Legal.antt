@@ -20,11 +20,13 @@ replay h = heap_after (empty_plain h.owners h.slots) h.calls
 -- the answer of the step to a call that comes after the first calls of a history, so many of them
 abbrev pub answer_after : HistoryState → ℕ → Call → Result Reply Refusal
 answer_after h count call =
-    (step (heap_after (empty_plain h.owners h.slots) (take count h.calls)) call.owner call.command).1
+    (step (heap_after (empty_plain h.owners h.slots) (take count h.calls))
+    call.owner call.command).1
 
 -- the call at this place, counted from 0, has the answer of the step at its place
 abbrev pub IsRightAt : HistoryState → ℕ → Type 0
-IsRightAt h place = (call : Call) → slice_get h.calls place ≡ Some call → call.answer ≡ answer_after h place call
+IsRightAt h place =
+    (call : Call) → slice_get h.calls place ≡ Some call → call.answer ≡ answer_after h place call
 
 -- each call has the answer of the step at its place
 abbrev pub IsLegal : HistoryState → Type 0

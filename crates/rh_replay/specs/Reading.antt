@@ -108,15 +108,15 @@ line_or_kind number line = do
   line_of_parts number parts
 
 -- a number from 1 to this one
-unfoldable pub number_up_to : ℕ → List ℕ → Option ℕ
-number_up_to most part =
+unfoldable pub size_up_to : ℕ → List ℕ → Option ℕ
+size_up_to most part =
     number_of part >>=? λ n. if nat_le 1 n && nat_le n most then Some n else None
 
 -- OWNERS SLOTS
 unfoldable pub sizes_of : List ℕ → List ℕ → Result (ℕ × ℕ) Kind
 sizes_of owners slots = do
-  owners ← or_fault (number_up_to 16 owners) kinds.Number
-  slots ← or_fault (number_up_to 256 slots) kinds.Number
+  owners ← or_fault (size_up_to 16 owners) kinds.Number
+  slots ← or_fault (size_up_to 256 slots) kinds.Number
   Ok (owners, slots)
 
 -- history OWNERS SLOTS
@@ -157,7 +157,8 @@ line_or_fault number line = with_fault (fault_at number) (line_or_kind number li
 
 -- the calls from a line on, by what is read after it: further calls after a call, and nothing after
 -- the last line
-abbrev pub next_calls : Option Call → Result (List Call) HistoryFault → Result (List Call) HistoryFault → Result (List Call) HistoryFault
+abbrev pub next_calls : Option Call → Result (List Call) HistoryFault
+    → Result (List Call) HistoryFault → Result (List Call) HistoryFault
 next_calls None ended others = ended
 next_calls (Some call) ended others = others >>= λ calls. Ok (call ∷ calls)
 

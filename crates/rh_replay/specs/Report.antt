@@ -13,7 +13,8 @@ count_of calls owner = count_by (λ call. call.owner == owner) calls
 -- the line of an owner with so many calls, and none where there is no call: owner O calls N
 abbrev pub owner_line : ℕ → ℕ → List ℕ
 owner_line owner count =
-    if count == 0 then [] else codes "owner " ++ (decimal owner ++ (codes " calls " ++ (decimal count ++ 10 ∷ [])))
+    if count == 0 then []
+    else codes "owner " ++ (decimal owner ++ (codes " calls " ++ (decimal count ++ 10 ∷ [])))
 
 -- the lines of the owners below a number, in order
 abbrev pub owner_lines : List Call → ℕ → List ℕ

@@ -21,7 +21,8 @@ header_line owners slots = spell_parts (header_parts owners slots)
 
 -- the line of a call: COMMAND LINE = ANSWER
 abbrev pub call_line : Call → List ℕ
-call_line call = command_text call.owner call.command ++ (codes " = " ++ (answer_text call.answer ++ 10 ∷ []))
+call_line call =
+    command_text call.owner call.command ++ (codes " = " ++ (answer_text call.answer ++ 10 ∷ []))
 
 -- the parts of the last line: end N
 abbrev pub end_parts : ℕ → List (List ℕ)
@@ -33,7 +34,8 @@ end_line count = spell_parts (end_parts count)
 
 -- the text of a history
 abbrev pub spelling : HistoryState → List ℕ
-spelling h = header_line h.owners h.slots ++ (flat_map call_line h.calls ++ end_line (length h.calls))
+spelling h =
+    header_line h.owners h.slots ++ (flat_map call_line h.calls ++ end_line (length h.calls))
 
 -- the parts of an answer
 abbrev pub answer_parts : Result Reply Refusal → List (List ℕ)

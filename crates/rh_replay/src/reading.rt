@@ -6,7 +6,7 @@ ghost use Rattle.rh_text.specs.Steps.{with_fault};
 ghost use Rattle.rh_replay.specs.declared.fault.HistoryKind.TheVariants as history_kinds;
 ghost use Rattle.rh_replay.specs.Reading.{before_equals, after_equals, command_before};
 ghost use Rattle.rh_replay.specs.Reading.{call_of_parts, end_of_parts, line_of_parts, line_or_kind};
-ghost use Rattle.rh_replay.specs.Reading.{number_up_to, sizes_of, header_of_parts, header_of_line};
+ghost use Rattle.rh_replay.specs.Reading.{size_up_to, sizes_of, header_of_parts, header_of_line};
 ghost use Rattle.rh_replay.specs.Reading.{fault_at, kind_after_end, line_or_fault, header_or_fault};
 
 use crate::answers::answer_of;
@@ -51,7 +51,14 @@ fn before_equals(line: &[u8]) -> Option<&[u8]>
 }
 
 /// What stands after the first part that is `=`, if any.
-#[tactic(auto, using(crate::proofs::Equals::after_found, crate::proofs::Equals::after_next, crate::proofs::Equals::after_none))]
+#[tactic(
+    auto,
+    using(
+        crate::proofs::Equals::after_found,
+        crate::proofs::Equals::after_next,
+        crate::proofs::Equals::after_none,
+    )
+)]
 fn after_equals(line: &[u8]) -> Option<&[u8]>
     ensures { parts_left result ≡ after_equals (parts_of line.now) }
 {
@@ -142,9 +149,9 @@ fn line_or_kind(number: u32, bytes: &[u8], ended: bool) -> Result<Option<Call>, 
 }
 
 /// The number from 1 to `most` that a part says.
-#[tactic(auto, unfolding(crate::specs::Reading::number_up_to))]
-fn number_up_to(most: u32, part: &[u8]) -> Option<u32>
-    ensures { result ≡ number_up_to most part.now }
+#[tactic(auto, unfolding(crate::specs::Reading::size_up_to))]
+fn size_up_to(most: u32, part: &[u8]) -> Option<u32>
+    ensures { result ≡ size_up_to most part.now }
 {
     let number = read_number(part)?;
     if 1 <= number && number <= most {
@@ -159,8 +166,8 @@ fn number_up_to(most: u32, part: &[u8]) -> Option<u32>
 fn sizes_of(owners: &[u8], slots: &[u8]) -> Result<(u32, u32), Kind>
     ensures { result ≡ sizes_of owners.now slots.now }
 {
-    let owners = number_up_to(MAX_OWNERS, owners).ok_or(Kind::Number)?;
-    let slots = number_up_to(MAX_SLOTS, slots).ok_or(Kind::Number)?;
+    let owners = size_up_to(MAX_OWNERS, owners).ok_or(Kind::Number)?;
+    let slots = size_up_to(MAX_SLOTS, slots).ok_or(Kind::Number)?;
     Ok((owners, slots))
 }
 

@@ -5,13 +5,11 @@ ghost use Rattle.rh_replay.specs.History.{empty_history, with_call, AnswerIsKept
 
 use crate::call::{Call, answer_fits, command_fits};
 use crate::history::History;
+use rh_layout::limits::MAX_HISTORY_CALLS;
 use rh_layout::{Command, MAX_OWNERS, MAX_SLOTS, Refusal, Reply};
 use std::alloc::{AllocError, Allocator, Global};
 use std::marker::Model;
 use thiserror::Error;
-
-/// The most calls that a recorder notes.
-pub const MAX_HISTORY_CALLS: u32 = 1_048_576;
 
 /// Why there is no recorder.
 #[derive(Clone, Copy, Debug, PartialEq, Eq, Error)]

@@ -11,8 +11,8 @@ use crate::call::Call;
 use crate::checking::Verdict;
 use crate::history::History;
 use rh_layout::{Refusal, Reply};
-use rh_text::{Calls, Write, send};
-use rh_trace::{LineText, put_answer_text, put_command_text};
+use rh_text::{Calls, LineText, Write, send};
+use rh_trace::{put_answer_text, put_command_text};
 use std::alloc::Allocator;
 use std::io;
 
@@ -54,8 +54,8 @@ fn put_end(text: &mut LineText, count: u32)
 ///
 /// # Errors
 ///
-/// `Write` where a write failed, or 33,554,432 writes of one line didn't come to its end. A prefix
-/// of the text was written then.
+/// `Write` where a write failed, or 33,554,432 writes of one line didn't come to its end
+/// (`write_history_told` says that it comes nowhere else). A prefix of the text was written then.
 pub fn write_history<A: Allocator, W: io::Write>(
     history: &History<A>,
     writer: &mut W,
@@ -153,8 +153,8 @@ fn put_verdict(text: &mut LineText, verdict: &Verdict)
 ///
 /// # Errors
 ///
-/// `Write` where a write failed, or 33,554,432 writes of one line didn't come to its end. A prefix
-/// of the report was written then.
+/// `Write` where a write failed, or 33,554,432 writes of one line didn't come to its end
+/// (`report_told` says that it comes nowhere else). A prefix of the report was written then.
 pub fn report<A: Allocator, W: io::Write>(
     history: &History<A>,
     verdict: &Verdict,
