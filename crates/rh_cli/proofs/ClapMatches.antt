@@ -1,12 +1,14 @@
 -- What clap's matches hold, as far as a request is read from them.
-use Rattle.std.proofs.Common.{◌≡◌, List, Option, Some, None, option_map, ap, sym, codes, true, refl, ◌∙◌}
+use Rattle.std.proofs.Common.{◌≡◌, ◌≢◌, List, [], Option, Some, None, option_map, ap, sym, codes, true, refl, ◌∙◌}
 use Rattle.clap.specs.Words.{Row, Text, App, first_value, found_of, rows_of, subcommand_rows_of, is_simple, HasMatchesOf, subcommand_name_of, subcommand_of, takes}
 use Rattle.clap.specs.declared.parser.matches.ArgMatches.{ArgMatches}
 use Rattle.clap.specs.declared.parser.matches.ArgMatches.TheViews.{out-ArgMatches, out-SubCommand}
 use Rattle.std.specs.Box.{box_value}
 use Rattle.clap.proofs.WalkLemmas.{first_value-rows}
 use Rattle.clap.proofs.OnLiterals.{clap_on_literals}
-use Rattle.rh_cli.specs.Ask.{command_and_file_in, command_and_file_of, with_file, rheap_app, is_taken}
+use Rattle.rh_cli.specs.declared.ask.Subcommand.{Subcommand}
+use Rattle.rh_cli.specs.declared.ask.Subcommand.TheVariants.{Run, Replay, Dump}
+use Rattle.rh_cli.specs.Ask.{command_and_file_in, command_and_file_of, with_file, rheap_app, is_taken, name_of}
 
 abbrev both : {X : Type 0} → (X → Text) → (X → List Row) → X → Text × List Row
 both name rows x = (name x, rows x)
@@ -32,13 +34,27 @@ unfolding clap_on_literals
 is_simple_line = refl
 
 -- what the matches hold is what clap's parse of the arguments holds
-pub command_and_file_of-matches : (a : App) (words : List Text) (m : ArgMatches) → a ≡ rheap_app → HasMatchesOf a words m → command_and_file_of words ≡ command_and_file_in (subcommand_rows_of m)
+pub command_and_file_of-matches : (a : App) (arguments : List Text) (m : ArgMatches) → a ≡ rheap_app → HasMatchesOf a arguments m → command_and_file_of arguments ≡ command_and_file_in (subcommand_rows_of m)
 unfolding command_and_file_of
-command_and_file_of-matches a words m is h =
+command_and_file_of-matches a arguments m is h =
     let entered = (h (ap is_simple is ∙ is_simple_line)).1 in
-    ap command_and_file_in (sym (entered ∙ ap (λ (x : App). subcommand_of x words) is))
+    ap command_and_file_in (sym (entered ∙ ap (λ (x : App). subcommand_of x arguments) is))
 
 -- arguments that clap takes are taken by the same command line under another name
-pub taken-app : (a : App) (words : List Text) → a ≡ rheap_app → is_taken words ≡ true → takes a words ≡ true
+pub taken-app : (a : App) (arguments : List Text) → a ≡ rheap_app → is_taken arguments ≡ true → takes a arguments ≡ true
 unfolding is_taken
-taken-app a words is taken = ap (λ (x : App). takes x words) is ∙ taken
+taken-app a arguments is taken = ap (λ (x : App). takes x arguments) is ∙ taken
+
+-- no other name is a command's
+pub no_other_name : (name : Text) → name ≢ codes "run" → name ≢ codes "replay" → name ≢ codes "dump" → (s : Subcommand) → name_of s ≢ name
+no_other_name name run replay dump Run is = run (sym is)
+no_other_name name run replay dump Replay is = replay (sym is)
+no_other_name name run replay dump Dump is = dump (sym is)
+
+abbrev name_in : Option (Text × Text) → Text
+name_in None = []
+name_in (Some found) = found.0
+
+-- where two of a name and a file are the same, so are the names
+pub same_name : (n m file other : Text) → ◌≡◌ {A = Option (Text × Text)} (Some (n, file)) (Some (m, other)) → m ≡ n
+same_name n m file other is = sym (ap name_in is)

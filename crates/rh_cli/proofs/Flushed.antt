@@ -5,7 +5,7 @@ use Rattle.rh_trace.specs.declared.summary.Summary.{Summary}
 use Rattle.rh_trace.specs.declared.run_fault.RunFault.{RunFault}
 use Rattle.rh_trace.specs.declared.run_fault.RunFault.TheVariants as faults
 use Rattle.rh_trace.specs.Run.{Ends, text_of, run_of}
-use Rattle.rh_cli.specs.Drive.{Concludes, IsStatus}
+use Rattle.rh_cli.specs.Drive.{ConcludesRun, IsRunStatus}
 
 Keeps-kept : (old mid new : Option (List ℕ)) → Keeps old mid → Keeps mid new → Keeps old new
 Keeps-kept None mid new k l = tt
@@ -13,7 +13,7 @@ Keeps-kept (Some xs) None new k l = absurd k
 Keeps-kept (Some xs) (Some ys) None k l = absurd l
 Keeps-kept (Some xs) (Some ys) (Some zs) k l = l ∙ k
 
-Appends-kept : (old mid new : Option (List ℕ)) (bytes : List ℕ) → Appends old mid bytes → Keeps mid new → Appends old new bytes
+pub Appends-kept : (old mid new : Option (List ℕ)) (bytes : List ℕ) → Appends old mid bytes → Keeps mid new → Appends old new bytes
 Appends-kept None mid new bytes a l = tt
 Appends-kept (Some xs) None new bytes a l = absurd a
 Appends-kept (Some xs) (Some ys) None bytes a l = absurd l
@@ -30,6 +30,6 @@ Ends-flushed due (Err faults.Write) old mid new e k = (e.0, e.1, e.2, e.3, Appen
 Ends-flushed due (Err faults.OutOfMemory) old mid new e k = (e.0, e.1, e.2, Appends-kept old mid new e.0 e.3 k)
 
 -- how a run ended, for a reader that tells its bytes, is how it concludes after a flush
-pub Concludes-told : (known : Option (List ℕ)) (r : Result Summary RunFault) (status : ℕ) (old mid new : Option (List ℕ)) → IfSome known (λ input. Ends (run_of input) r old mid) → Keeps mid new → IsStatus r status → IfSome known (λ input. Concludes (run_of input) status old new)
-Concludes-told None r status old mid new e k s = tt
-Concludes-told (Some input) r status old mid new e k s = (r, Ends-flushed (run_of input) r old mid new e k, s)
+pub ConcludesRun-told : (known : Option (List ℕ)) (r : Result Summary RunFault) (status : ℕ) (old mid new : Option (List ℕ)) → IfSome known (λ input. Ends (run_of input) r old mid) → Keeps mid new → IsRunStatus r status → IfSome known (λ input. ConcludesRun (run_of input) status old new)
+ConcludesRun-told None r status old mid new e k s = tt
+ConcludesRun-told (Some input) r status old mid new e k s = (r, Ends-flushed (run_of input) r old mid new e k, s)

@@ -1,2 +1,5 @@
 pub mod ClapMatches
+pub mod Counted
 pub mod Flushed
+pub mod Inputs
+pub mod Statuses

@@ -1,8 +1,10 @@
 -- The status that a fault ends the program with.
-use Rattle.std.specs.Prelude.{ℕ, Result, Ok, Err}
+use Rattle.std.specs.Prelude.{◌≡◌, ◌⊎◌, ℕ, Result, Ok, Err}
 use Rattle.clap.specs.Words.{kind_of}
 use Rattle.clap.specs.declared.error.kind.ErrorKind.{ErrorKind}
 use Rattle.clap.specs.declared.error.kind.ErrorKind.TheVariants.{DisplayHelp, DisplayVersion}
+use Rattle.rh_cli.specs.declared.ending.Ending.{Ending}
+use Rattle.rh_cli.specs.declared.ending.Ending.TheVariants.{Done, WrongHistory}
 use Rattle.rh_cli.specs.declared.fault.LineFault.{LineFault}
 use Rattle.rh_cli.specs.declared.fault.LineFault.TheVariants as faults
 
@@ -17,7 +19,9 @@ abbrev pub status_of : LineFault → ℕ
 status_of (faults.Arguments error) = arguments_status (kind_of error)
 status_of faults.NoText = 2
 status_of faults.Incomplete = 2
-status_of (faults.Line line kind) = 1
+status_of (faults.Trace fault) = 1
+status_of (faults.History fault) = 1
+status_of (faults.Dump fault) = 1
 status_of (faults.Heap fault) = 1
 status_of faults.Open = 1
 status_of faults.Read = 1
@@ -25,7 +29,16 @@ status_of faults.Write = 1
 status_of faults.TooLong = 1
 status_of faults.OutOfMemory = 3
 
+-- a fault that comes once the command line is understood
+abbrev pub IsLateFault : LineFault → Type 0
+IsLateFault fault = (status_of fault ≡ 1) ⊎ (status_of fault ≡ 3)
+
+-- 0 where all is well, 4 for a wrong history
+abbrev pub ending_status : Ending → ℕ
+ending_status Done = 0
+ending_status WrongHistory = 4
+
 -- the status where all was done or there was a fault
-abbrev pub status_after : Result (Unit {0}) LineFault → ℕ
-status_after (Ok done) = 0
+abbrev pub status_after : Result Ending LineFault → ℕ
+status_after (Ok ending) = ending_status ending
 status_after (Err fault) = status_of fault

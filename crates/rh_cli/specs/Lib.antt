@@ -1,3 +1,5 @@
 pub mod Ask
+pub mod Count
 pub mod Drive
 pub mod Fault
+pub mod Replay

@@ -5,6 +5,10 @@
 pub enum Subcommand {
     /// Run the trace in it.
     Run,
+    /// Check the history in it, and report on it.
+    Replay,
+    /// Count what the dump in it has.
+    Dump,
 }
 
 /// A command line that was understood.

@@ -5,7 +5,9 @@ ghost use Rattle.rh_cli.specs.declared.fault.LineFault.TheVariants.{OutOfMemory}
 ghost use Rattle.rh_cli.specs.Fault.{status_of};
 
 use rh_core::ConfigFault;
-use rh_trace::Kind;
+use rh_dump::DumpFault;
+use rh_replay::HistoryFault;
+use rh_trace::TraceFault;
 use std::alloc::{AllocError, AllocFailed};
 use thiserror::Error;
 
@@ -21,27 +23,29 @@ pub enum LineFault {
     /// The arguments name no command or no file.
     #[error("rheap: no command and file")]
     Incomplete,
-    /// A line of the file is faulty: its number from 1, and the kind of fault.
-    #[error("rheap: line {line}: {kind}")]
-    Line {
-        /// The line, from 1.
-        line: u32,
-        /// The kind of fault.
-        kind: Kind,
-    },
+    /// The file is no trace.
+    #[error("rheap: {0}")]
+    Trace(TraceFault),
+    /// The file is no history.
+    #[error("rheap: {0}")]
+    History(HistoryFault),
+    /// The file is no dump.
+    #[error("rheap: {0}")]
+    Dump(DumpFault),
     /// No heap is made with the sizes that the file asks for.
     #[error("rheap: heap: {0}")]
     Heap(ConfigFault),
     /// The file can't be opened.
     #[error("rheap: open failed")]
     Open,
-    /// A read failed, or 33,554,432 reads didn't come to the end.
+    /// A read failed, or as many as may be made didn't come to the end: 33,554,432 of a trace or a
+    /// history, 536,870,912 of a dump.
     #[error("rheap: read failed")]
     Read,
     /// A write failed or took no byte, or the last flush failed.
     #[error("rheap: write failed")]
     Write,
-    /// The file has more than 16,777,216 bytes.
+    /// The trace or the history has more than 16,777,216 bytes.
     #[error("rheap: too long")]
     TooLong,
     /// Memory was refused.

@@ -3,12 +3,18 @@
 
 mod arguments;
 mod ask;
+mod counting;
 mod driving;
+mod ending;
 mod fault;
+mod help;
 mod program;
+mod replaying;
+mod running;
 
 pub use arguments::read_words;
 pub use ask::{Ask, Subcommand};
 pub use driving::{drive, tell};
+pub use ending::Ending;
 pub use fault::LineFault;
 pub use program::play;

@@ -29,15 +29,18 @@ fn carry_out<R: Env + Files + Input + Print + AllocGlobal, E: Write>(
     rt: &R,
     err: &mut E,
 ) -> Result<u8, LineFault> {
-    let args: Vec<String> = match env::args(rt) {
-        Ok(args) => args.collect(rt.alloc())?,
+    let arguments: Vec<String> = match env::args(rt) {
+        Ok(arguments) => arguments.collect(rt.alloc())?,
         Err(error) if error.kind() == io::ErrorKind::OutOfMemory => {
             return Err(LineFault::OutOfMemory);
         }
         Err(_) => return Err(LineFault::NoText),
     };
-    let args: Vec<&str> = args.iter().map(|arg| arg.as_str()).collect(rt.alloc())?;
-    let ask = read_words(rt.alloc(), args.as_slice())?;
+    let arguments: Vec<&str> = arguments
+        .iter()
+        .map(|argument| argument.as_str())
+        .collect(rt.alloc())?;
+    let ask = read_words(rt.alloc(), arguments.as_slice())?;
     with_file(rt, &ask, err)
 }
 

@@ -1,4 +1,22 @@
+use Rattle.rh_text.specs.lemmas.Appends.{Keeps-same}
+use Rattle.rh_cli.specs.Fault.{status_of}
+use Rattle.rh_cli.proofs.Statuses.{late_is_told}
 use Rattle.rh_cli.proofs.driving.drive.Goals as goal
+
+pub returns-in-Ok-clause-told : goal.returns-in-Ok-clause-told
+returns-in-Ok-clause-told g c = rw c.status.ensures c.in-Ok.ensures.told
+
+pub returns-in-Ok-clause-read : goal.returns-in-Ok-clause-read
+returns-in-Ok-clause-read g c = rw c.status.ensures c.in-Ok.ensures.read
 
 pub returns-in-Err-clause-told : goal.returns-in-Err-clause-told
 returns-in-Err-clause-told g c = rw c.tell.ensures c.in-Err.ensures.told
+
+pub returns-in-Err-clause-read : goal.returns-in-Err-clause-read
+returns-in-Err-clause-read g c = rw c.tell.ensures c.in-Err.ensures.read
+
+pub returns-in-Ok-clause-quiet : goal.returns-in-Ok-clause-quiet
+returns-in-Ok-clause-quiet g c = λ is. Keeps-same (g.E.Write.contents c.args.err.now)
+
+pub returns-in-Err-clause-quiet : goal.returns-in-Err-clause-quiet
+returns-in-Err-clause-quiet g c = λ is. absurd (late_is_told c.tell.result (status_of c.in-Err.fault) c.tell.ensures c.in-Err.ensures.late is)

@@ -1,9 +1,9 @@
 use Rattle.rh_trace.specs.Run.{run_of}
-use Rattle.rh_cli.proofs.Flushed.{Ends-flushed, Concludes-told}
-use Rattle.rh_cli.proofs.driving.run.Goals as goal
+use Rattle.rh_cli.proofs.Flushed.{Ends-flushed, ConcludesRun-told}
+use Rattle.rh_cli.proofs.running.run.Goals as goal
 
 pub returns-clause-told : goal.returns-clause-told
-returns-clause-told g c = Concludes-told _ c.run_trace-ran.result _ _ _ _ c.run_trace-ran.ensures.told c.flush-flushed.ensures.bytes c.conclude.ensures.status
+returns-clause-told g c = ConcludesRun-told _ c.run_trace-ran.result _ _ _ _ c.run_trace-ran.ensures.told c.flush-flushed.ensures.bytes c.conclude.ensures.status
 
 pub returns-clause-read : goal.returns-clause-read
 returns-clause-read g c =
