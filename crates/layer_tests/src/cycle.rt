@@ -1,7 +1,15 @@
-//! A collection cycle: begin, dealing, the flip.
+//! Collection cycles, played step by step.
 
-use crate::commands::{alloc, drop_root, load, root, store};
+ghost use Rattle.std.specs.Prelude.{◌≡◌, true, Err};
+ghost use Rattle.rh_core.specs.declared.refusals.BeginError.TheVariants.{CycleOn};
+
+use crate::commands::{alloc, load, root, same, store};
 use crate::expectations::expect_equal;
+use crate::steps::{
+    Step, after_a_flip, begins, deals_copies, deals_entries, drops, flips, gives, makes, places,
+    play, stores,
+};
+use rh_core::laws::a_command_leaves_the_cycle;
 use rh_core::laws::cycles::{
     a_closed_cycle_has_placed_what_it_refers_to, a_cycle_begins_with_nothing_placed,
     a_flip_ends_the_cycle, a_flip_is_refused_exactly_where_its_cycle_is_not_closed,
@@ -12,173 +20,288 @@ use rh_core::laws::deals::{
     copies_are_the_next_places_as_they_are, entries_are_the_next_of_placed_objects,
     no_place_is_dealt_twice,
 };
-use rh_core::laws::progress::a_cycle_keeps_what_was_dealt_logged_and_granted;
+use rh_core::laws::progress::{
+    a_cycle_keeps_what_was_dealt_logged_and_granted, a_well_formed_heap_is_bounded,
+};
 use rh_core::laws::stores::store_lists_go_on_over_a_flip;
-use rh_core::{BeginError, Config, DealError, FlipError, Flipped, Heap, Kind, ShadeError, Shaded};
-use rh_layout::{Item, Operand, Refusal, Reply, RootId, Value};
+use rh_core::{
+    BeginError, Config, DealError, FlipError, GiveError, Given, Heap, Kind, ShadeError, Shaded,
+    Stat,
+};
+use rh_layout::{Command, Item, Operand, Refusal, Reply, Value};
 use std::alloc::Allocator;
 use std::process::Abort;
 
-/// The sizes of a heap with two owners and two slots each.
-fn sizes(words: u32, last_epoch: u64) -> Config {
+/// The sizes of a heap with two owners and three slots each.
+fn sizes(words: u32, ratio: u32, log_limit: u32, last_epoch: u64) -> Config {
     Config {
         words,
-        ratio: 8,
+        ratio,
         owners: 2,
-        slots: 2,
-        log_limit: 4,
+        slots: 3,
+        log_limit,
         last_number: 100,
         last_epoch,
     }
 }
 
-/// Deals, and checks how many items there are and how many entries were passed over.
-fn expect_dealt<A: Allocator + Copy>(
-    rt: &impl Abort,
-    heap: &mut Heap<A>,
-    kind: Kind,
-    most: u32,
-    (items, passed): (usize, u32),
-) {
-    match heap.deal(kind, most) {
-        Ok(dealt) => {
-            expect_equal(rt, dealt.piece.epoch(), heap.stat().epoch);
-            expect_equal(rt, (dealt.piece.len(), dealt.passed), (items, passed));
-        }
-        Err(refusal) => expect_equal(rt, Some(refusal), None),
+/// A field is stored to after its copy was dealt: the copy is stale, and the store's entry is held.
+fn a_store_between_deal_and_give() -> [Step; 20] {
+    let (first, second, shared) = (root(1, 0), root(1, 1), root(0, 0));
+    [
+        makes(first, 2),
+        begins(1),
+        makes(second, 1),
+        stores(first, 0, Operand::Root(second)),
+        places(first),
+        places(second),
+        deals_copies(9, 3),
+        stores(first, 0, Operand::Int(7)),
+        gives(0, 2, 0, 1),
+        Step::Flip(Err(FlipError::Missing(1))),
+        makes(shared, 1),
+        deals_entries(2, 0),
+        gives(1, 1, 0, 0),
+        Step::Flip(Err(FlipError::RootUnplaced(shared))),
+        places(shared),
+        Step::Flip(Err(FlipError::Missing(1))),
+        deals_copies(9, 1),
+        gives(2, 1, 0, 0),
+        flips(3, 10),
+        after_a_flip((10, 6), 2, (48, 24), 3),
+    ]
+}
+
+/// A field is stored to twice, and holds at last the value that it had when its copy was dealt: the
+/// copy has another number, and is stale.
+fn equal_values_with_other_numbers() -> [Step; 15] {
+    let (first, second) = (root(1, 0), root(1, 1));
+    [
+        makes(first, 1),
+        begins(1),
+        makes(second, 1),
+        stores(first, 0, Operand::Int(5)),
+        places(first),
+        deals_copies(1, 1),
+        stores(first, 0, Operand::Int(6)),
+        stores(first, 0, Operand::Int(5)),
+        drops(second),
+        Step::Flip(Err(FlipError::Missing(1))),
+        deals_entries(3, 0),
+        gives(1, 1, 0, 0),
+        gives(0, 0, 0, 1),
+        flips(1, 3),
+        Step::Command(load(second, first, 0), Ok(Reply::Int(5))),
+    ]
+}
+
+/// An object refers to itself, and does so after the flip; its replica is kept for the next cycle.
+fn an_object_that_refers_to_itself() -> [Step; 14] {
+    let (first, second) = (root(1, 0), root(1, 1));
+    let late = GiveError::StaleEpoch { is: 2, was: 1 };
+    [
+        makes(first, 1),
+        stores(first, 0, Operand::Root(first)),
+        begins(1),
+        makes(second, 0),
+        drops(second),
+        places(first),
+        deals_copies(9, 1),
+        gives(0, 1, 0, 0),
+        flips(1, 3),
+        Step::Command(load(second, first, 0), Ok(Reply::Object(1))),
+        Step::Command(same(first, second), Ok(Reply::Same(true))),
+        Step::Give(0, Err(GiveError::NoCycle)),
+        begins(2),
+        Step::Give(0, Err(late)),
+    ]
+}
+
+/// Two pieces are dealt round a store. Their replicas are joined in both orders, and given again.
+fn joined_in_both_orders() -> [Step; 16] {
+    let (first, second) = (root(1, 0), root(1, 1));
+    [
+        makes(first, 2),
+        begins(1),
+        makes(second, 3),
+        drops(second),
+        places(first),
+        deals_copies(1, 1),
+        stores(first, 0, Operand::Int(9)),
+        deals_copies(1, 1),
+        deals_entries(1, 0),
+        Step::Join(1, 2, 2),
+        Step::Join(0, 3, 2),
+        Step::Join(3, 0, 2),
+        gives(4, 2, 0, 0),
+        gives(5, 0, 2, 0),
+        gives(5, 0, 2, 0),
+        flips(1, 4),
+    ]
+}
+
+/// A log of two entries has no room for a third, until the flip has come.
+fn log_limit() -> [Step; 13] {
+    let (first, second) = (root(1, 0), root(1, 1));
+    let third = store(first, 0, Operand::Int(3));
+    [
+        makes(first, 1),
+        begins(1),
+        stores(first, 0, Operand::Int(1)),
+        stores(first, 0, Operand::Int(2)),
+        Step::Command(third, Err(Refusal::LogFull)),
+        Step::Command(load(second, first, 0), Ok(Reply::Int(2))),
+        makes(root(0, 0), 1),
+        drops(root(0, 0)),
+        places(first),
+        deals_copies(9, 1),
+        gives(0, 1, 0, 0),
+        flips(1, 3),
+        Step::Command(third, Ok(Reply::Done)),
+    ]
+}
+
+/// At a unit for each word, a shade, a deal and a give come a unit or more too early.
+fn just_short_of_credit() -> [Step; 18] {
+    let (first, second) = (root(1, 0), root(1, 1));
+    let deal = DealError::CreditShort { need: 6, free: 5 };
+    [
+        makes(first, 1),
+        Step::Shade(first, Err(ShadeError::NoCycle)),
+        begins(1),
+        Step::Shade(first, Err(ShadeError::CreditShort { need: 3, free: 0 })),
+        Step::Shade(root(9, 0), Err(ShadeError::NoRoot)),
+        makes(second, 6),
+        drops(second),
+        Step::Shade(second, Ok(Shaded::NoReference)),
+        places(first),
+        Step::Deal(Kind::Copies, 9, Err(deal)),
+        makes(second, 0),
+        deals_copies(9, 1),
+        gives(0, 1, 0, 0),
+        Step::Give(0, Err(GiveError::CreditShort { need: 5, free: 4 })),
+        places(second),
+        Step::Shade(second, Ok(Shaded::Already)),
+        flips(2, 5),
+        after_a_flip((5, 59), 0, (10, 9), 2),
+    ]
+}
+
+/// Entries of an object that isn't placed are passed over, and are never dealt again: its field is
+/// copied.
+fn entries_passed_over() -> [Step; 18] {
+    let (first, second) = (root(1, 0), root(1, 1));
+    let after_entries = Stat {
+        used: 6,
+        free: 58,
+        cycle: true,
+        epoch: 1,
+        number: 2,
+        log: 2,
+        granted: 24,
+        spent: 5,
+        placed: 1,
+        missing: 1,
+        flips: 0,
+        root_words: 0,
+    };
+    [
+        makes(first, 1),
+        Step::Deal(Kind::Entries, 9, Err(DealError::NoCycle)),
+        begins(1),
+        makes(second, 1),
+        Step::Deal(Kind::Copies, 9, Err(DealError::NothingToDeal)),
+        stores(first, 0, Operand::Int(5)),
+        stores(second, 0, Operand::Int(6)),
+        places(first),
+        Step::Deal(Kind::Entries, 0, Ok((0, 0))),
+        deals_entries(1, 1),
+        Step::Stat(after_entries),
+        gives(1, 1, 0, 0),
+        places(second),
+        Step::Deal(Kind::Entries, 9, Err(DealError::NothingToDeal)),
+        deals_copies(9, 2),
+        gives(2, 1, 1, 0),
+        flips(2, 6),
+        Step::Command(load(root(0, 0), second, 0), Ok(Reply::Int(6))),
+    ]
+}
+
+/// What two fields share is shared after the flip; what no root reaches is gone.
+fn sharing() -> [Step; 15] {
+    let (first, second, third) = (root(1, 0), root(1, 1), root(1, 2));
+    let joined = Given {
+        joined: 2,
+        repeated: 0,
+        stale: 0,
+        placed: 1,
+    };
+    [
+        makes(first, 2),
+        makes(second, 0),
+        stores(first, 0, Operand::Root(second)),
+        stores(first, 1, Operand::Root(second)),
+        begins(1),
+        makes(second, 3),
+        drops(second),
+        Step::Flip(Err(FlipError::RootUnplaced(first))),
+        places(first),
+        deals_copies(9, 2),
+        Step::Give(0, Ok(joined)),
+        flips(1, 6),
+        Step::Command(load(second, first, 0), Ok(Reply::Object(0))),
+        Step::Command(load(third, first, 1), Ok(Reply::Object(0))),
+        Step::Command(same(second, third), Ok(Reply::Same(true))),
+    ]
+}
+
+/// Where all roots are nil nothing lives on, and all words are free again. The second epoch is the
+/// last.
+fn nothing_left() -> [Step; 11] {
+    let (first, shared) = (root(1, 0), root(0, 1));
+    [
+        Step::Flip(Err(FlipError::NoCycle)),
+        makes(first, 2),
+        begins(1),
+        Step::Begin(Err(BeginError::CycleOn)),
+        makes(shared, 0),
+        Step::Flip(Err(FlipError::RootUnplaced(shared))),
+        drops(shared),
+        drops(first),
+        flips(0, 0),
+        makes(first, 14),
+        Step::Begin(Err(BeginError::EpochsSpent)),
+    ]
+}
+
+#[test]
+fn whole_cycles(rt: HostRuntime) {
+    for &(words, steps) in &[
+        (16, a_store_between_deal_and_give().as_slice()),
+        (64, equal_values_with_other_numbers().as_slice()),
+        (16, an_object_that_refers_to_itself().as_slice()),
+        (64, joined_in_both_orders().as_slice()),
+        (64, entries_passed_over().as_slice()),
+        (64, sharing().as_slice()),
+    ] {
+        play(&rt, rt.alloc(), sizes(words, 8, 8, 9), steps);
     }
 }
 
 #[test]
-fn a_second_begin(rt: HostRuntime) {
-    let mut heap = Heap::new(rt.alloc(), sizes(16, 9)).expect(&rt, "a heap");
-    expect_equal(&rt, heap.begin(), Ok(1));
-    expect_equal(&rt, heap.begin(), Err(BeginError::CycleOn));
-    expect_equal(
-        &rt,
-        heap.flip(),
-        Ok(Flipped {
-            roots: 0,
-            live_words: 0,
-        }),
-    );
-    expect_equal(&rt, heap.begin(), Ok(2));
-}
-
-#[test]
-fn the_last_epoch(rt: HostRuntime) {
-    let mut heap = Heap::new(rt.alloc(), sizes(16, 1)).expect(&rt, "a heap");
-    expect_equal(&rt, heap.begin(), Err(BeginError::EpochsSpent));
-    let mut heap = Heap::new(rt.alloc(), sizes(16, 2)).expect(&rt, "a heap");
-    expect_equal(&rt, heap.begin(), Ok(1));
-    expect_equal(
-        &rt,
-        heap.flip(),
-        Ok(Flipped {
-            roots: 0,
-            live_words: 0,
-        }),
-    );
-    expect_equal(&rt, heap.begin(), Err(BeginError::EpochsSpent));
-}
-
-#[test]
-fn nothing_left(rt: HostRuntime) {
-    let mut heap = Heap::new(rt.alloc(), sizes(16, 9)).expect(&rt, "a heap");
-    let answer = heap.command(1, &alloc(root(1, 0), 2));
-    expect_equal(&rt, answer, Ok(Reply::Object(2)));
-    expect_equal(&rt, heap.begin(), Ok(1));
-    expect_equal(
-        &rt,
-        heap.command(1, &drop_root(root(1, 0))),
-        Ok(Reply::Done),
-    );
-    expect_equal(
-        &rt,
-        heap.flip(),
-        Ok(Flipped {
-            roots: 0,
-            live_words: 0,
-        }),
-    );
-    let answer = heap.command(1, &alloc(root(1, 0), 14));
-    expect_equal(&rt, answer, Ok(Reply::Object(14)));
-}
-
-#[test]
-fn refused_flips(rt: HostRuntime) {
-    let mut heap = Heap::new(rt.alloc(), sizes(16, 9)).expect(&rt, "a heap");
-    expect_equal(&rt, heap.flip(), Err(FlipError::NoCycle));
-    expect_equal(&rt, heap.begin(), Ok(1));
-    let second = root(1, 1);
-    let answer = heap.command(1, &alloc(second, 0));
-    expect_equal(&rt, answer, Ok(Reply::Object(0)));
-    expect_equal(&rt, heap.flip(), Err(FlipError::RootUnplaced(second)));
-    let shared = root(0, 1);
-    let answer = heap.command(1, &alloc(shared, 0));
-    expect_equal(&rt, answer, Ok(Reply::Object(0)));
-    expect_equal(&rt, heap.flip(), Err(FlipError::RootUnplaced(shared)));
-}
-
-#[test]
-fn entries_passed_over(rt: HostRuntime) {
-    let mut heap = Heap::new(rt.alloc(), sizes(64, 9)).expect(&rt, "a heap");
-    let object = root(1, 0);
-    let answer = heap.command(1, &alloc(object, 1));
-    expect_equal(&rt, answer, Ok(Reply::Object(1)));
-    expect_equal(
-        &rt,
-        heap.deal(Kind::Copies, 9).err(),
-        Some(DealError::NoCycle),
-    );
-    expect_equal(&rt, heap.begin(), Ok(1));
-    expect_equal(
-        &rt,
-        heap.deal(Kind::Copies, 9).err(),
-        Some(DealError::NothingToDeal),
-    );
-    let answer = heap.command(1, &store(object, 0, Operand::Int(5)));
-    expect_equal(&rt, answer, Ok(Reply::Done));
-    let short = DealError::CreditShort { need: 6, free: 0 };
-    expect_equal(&rt, heap.deal(Kind::Entries, 9).err(), Some(short));
-    let answer = heap.command(1, &alloc(root(1, 1), 1));
-    expect_equal(&rt, answer, Ok(Reply::Object(1)));
-    expect_dealt(&rt, &mut heap, Kind::Entries, 0, (0, 0));
-    expect_equal(&rt, heap.stat().spent, 0);
-    expect_dealt(&rt, &mut heap, Kind::Entries, 9, (0, 1));
-    expect_equal(&rt, (heap.stat().granted, heap.stat().spent), (24, 1));
-    expect_equal(
-        &rt,
-        heap.deal(Kind::Entries, 9).err(),
-        Some(DealError::NothingToDeal),
-    );
-}
-
-/// Shades roots, each of which refers to an object that isn't placed yet.
-fn shade_all<A: Allocator + Copy>(rt: &impl Abort, heap: &mut Heap<A>, roots: &[RootId]) {
-    for root in roots {
-        expect_equal(rt, heap.shade(*root), Ok(Shaded::Placed));
+fn limits_of_cycles(rt: HostRuntime) {
+    let spent = [Step::Begin(Err(BeginError::EpochsSpent))];
+    for &(config, steps) in &[
+        (sizes(64, 8, 2, 9), log_limit().as_slice()),
+        (sizes(64, 1, 8, 9), just_short_of_credit().as_slice()),
+        (sizes(16, 8, 8, 2), nothing_left().as_slice()),
+        (sizes(16, 8, 8, 1), spent.as_slice()),
+    ] {
+        play(&rt, rt.alloc(), config, steps);
     }
 }
 
-/// Deals, and checks the items and how many entries were passed over.
-fn expect_items<A: Allocator + Copy>(
-    rt: &impl Abort,
-    heap: &mut Heap<A>,
-    kind: Kind,
-    items: &[Item],
-    passed: u32,
-) {
-    match heap.deal(kind, 9) {
-        Ok(dealt) => {
-            expect_equal(rt, dealt.piece.items(), items);
-            expect_equal(rt, dealt.passed, passed);
-        }
-        Err(refusal) => expect_equal(rt, Some(refusal), None),
-    }
-}
-
-/// An item of the first object or of another.
+/// An item of the object whose header is this word.
 fn item(object: u32, field: u32, number: u64, value: Value) -> Item {
     Item {
         object,
@@ -188,110 +311,58 @@ fn item(object: u32, field: u32, number: u64, value: Value) -> Item {
     }
 }
 
-#[test]
-fn whole_cycle_through_its_deal(rt: HostRuntime) {
-    let mut heap = Heap::new(rt.alloc(), sizes(16, 9)).expect(&rt, "a heap");
-    let (first, second) = (root(1, 0), root(1, 1));
-    expect_equal(&rt, heap.command(1, &alloc(first, 2)), Ok(Reply::Object(2)));
-    expect_equal(&rt, heap.begin(), Ok(1));
-    expect_equal(
-        &rt,
-        heap.command(1, &alloc(second, 1)),
-        Ok(Reply::Object(1)),
-    );
-    let answer = heap.command(1, &store(first, 0, Operand::Root(second)));
-    expect_equal(&rt, answer, Ok(Reply::Done));
-    shade_all(&rt, &mut heap, &[first, second]);
-    let items = [
-        item(0, 0, 1, Value::Ref(4)),
-        item(0, 1, 0, Value::Nil),
-        item(4, 0, 0, Value::Nil),
-    ];
-    expect_items(&rt, &mut heap, Kind::Copies, &items, 0);
-    expect_equal(&rt, heap.flip(), Err(FlipError::Missing(3)));
+/// Deals of a kind, and checks the items.
+fn expect_items<A: Allocator + Copy>(
+    rt: &impl Abort,
+    heap: &mut Heap<A>,
+    kind: Kind,
+    items: &[Item],
+) {
+    let dealt = heap.deal(kind, 9).ok().expect(rt, "a piece");
+    expect_equal(rt, dealt.piece.epoch(), 1);
+    expect_equal(rt, dealt.piece.items(), items);
 }
 
+/// Copies come in order of placing, then of field; of the entries only those of placed objects.
 #[test]
-fn entries_of_placed_objects(rt: HostRuntime) {
-    let mut heap = Heap::new(rt.alloc(), sizes(64, 9)).expect(&rt, "a heap");
+fn items_of_deals(rt: HostRuntime) {
+    let mut heap = Heap::new(rt.alloc(), sizes(16, 16, 8, 9)).expect(&rt, "a heap");
     let (first, second) = (root(1, 0), root(1, 1));
-    expect_equal(&rt, heap.command(1, &alloc(first, 1)), Ok(Reply::Object(1)));
+    assert!(rt; heap.command(1, &alloc(first, 2)).is_ok());
     expect_equal(&rt, heap.begin(), Ok(1));
-    expect_equal(
-        &rt,
-        heap.command(1, &alloc(second, 1)),
-        Ok(Reply::Object(1)),
-    );
-    for (object, number) in [(first, 5), (second, 6)] {
-        let answer = heap.command(1, &store(object, 0, Operand::Int(number)));
-        expect_equal(&rt, answer, Ok(Reply::Done));
+    let refers = store(first, 0, Operand::Root(second));
+    for command in [alloc(second, 1), refers, store(second, 0, Operand::Nil)] {
+        assert!(rt; heap.command(1, &command).is_ok());
     }
-    shade_all(&rt, &mut heap, &[first]);
-    expect_items(
-        &rt,
-        &mut heap,
-        Kind::Entries,
-        &[item(0, 0, 1, Value::Int(5))],
-        1,
-    );
-    expect_equal(&rt, (heap.stat().granted, heap.stat().spent), (24, 5));
+    expect_equal(&rt, heap.shade(first), Ok(Shaded::Placed));
+    let stored = item(0, 0, 1, Value::Ref(4));
+    expect_items(&rt, &mut heap, Kind::Entries, &[stored]);
+    expect_equal(&rt, heap.stat().spent, 5);
+    expect_equal(&rt, heap.shade(second), Ok(Shaded::Placed));
+    let others = (item(0, 1, 0, Value::Nil), item(4, 0, 2, Value::Nil));
+    expect_items(&rt, &mut heap, Kind::Copies, &[stored, others.0, others.1]);
+}
+
+/// In a cycle a second one begins at no time, whatever command comes before.
+fn begins_after<A: Allocator + Copy>(
+    heap: &mut Heap<A>,
+    owner: u32,
+    command: &Command,
+) -> Result<u64, BeginError>
+    ensures { heap.old.mutators.cycle ≡ true → result ≡ Err CycleOn }
+{
+    a_command_leaves_the_cycle();
+    a_cycle_begins_with_nothing_placed();
+    let _ = heap.command(owner, command);
+    heap.begin()
 }
 
 #[test]
-fn just_short_of_credit(rt: HostRuntime) {
-    let config = Config {
-        ratio: 1,
-        ..sizes(64, 9)
-    };
-    let mut heap = Heap::new(rt.alloc(), config).expect(&rt, "a heap");
-    let (first, second) = (root(1, 0), root(1, 1));
-    expect_equal(&rt, heap.command(1, &alloc(first, 1)), Ok(Reply::Object(1)));
+fn a_command_before_a_second_begin(rt: HostRuntime) {
+    let mut heap = Heap::new(rt.alloc(), sizes(16, 8, 8, 9)).expect(&rt, "a heap");
     expect_equal(&rt, heap.begin(), Ok(1));
-    let short = ShadeError::CreditShort { need: 3, free: 0 };
-    expect_equal(&rt, heap.shade(first), Err(short));
-    expect_equal(
-        &rt,
-        heap.command(1, &alloc(second, 6)),
-        Ok(Reply::Object(6)),
-    );
-    expect_equal(&rt, heap.command(1, &drop_root(second)), Ok(Reply::Done));
-    shade_all(&rt, &mut heap, &[first]);
-    let short = DealError::CreditShort { need: 6, free: 5 };
-    expect_equal(&rt, heap.deal(Kind::Copies, 9).err(), Some(short));
-    expect_equal(
-        &rt,
-        heap.command(1, &alloc(second, 0)),
-        Ok(Reply::Object(0)),
-    );
-    expect_items(
-        &rt,
-        &mut heap,
-        Kind::Copies,
-        &[item(0, 0, 0, Value::Nil)],
-        0,
-    );
-}
-
-#[test]
-fn log_limit(rt: HostRuntime) {
-    let config = Config {
-        log_limit: 2,
-        ..sizes(64, 9)
-    };
-    let mut heap = Heap::new(rt.alloc(), config).expect(&rt, "a heap");
-    let first = root(1, 0);
-    expect_equal(&rt, heap.command(1, &alloc(first, 1)), Ok(Reply::Object(1)));
-    expect_equal(&rt, heap.begin(), Ok(1));
-    for (number, answer) in [
-        (1, Ok(Reply::Done)),
-        (2, Ok(Reply::Done)),
-        (3, Err(Refusal::LogFull)),
-    ] {
-        let command = store(first, 0, Operand::Int(number));
-        expect_equal(&rt, heap.command(1, &command), answer);
-    }
-    let answer = heap.command(1, &load(root(1, 1), first, 0));
-    expect_equal(&rt, answer, Ok(Reply::Int(2)));
+    let answer = begins_after(&mut heap, 1, &alloc(root(1, 0), 2));
+    expect_equal(&rt, answer, Err(BeginError::CycleOn));
 }
 
 #[test]
@@ -308,4 +379,5 @@ fn the_laws_hold() {
     no_place_is_dealt_twice();
     store_lists_go_on_over_a_flip();
     a_cycle_keeps_what_was_dealt_logged_and_granted();
+    a_well_formed_heap_is_bounded();
 }

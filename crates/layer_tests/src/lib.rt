@@ -32,6 +32,10 @@ mod roots;
 #[cfg(test)]
 mod runs;
 #[cfg(test)]
+mod schedules;
+#[cfg(test)]
 mod space;
+#[cfg(test)]
+mod steps;
 #[cfg(test)]
 mod work;

@@ -16,13 +16,20 @@ const RUN: Ask<'static> = Ask {
 };
 
 #[test]
-fn arguments_that_ask_for_a_run(rt: HostRuntime) {
-    let ask = read_words(rt.alloc(), &["rheap", "run", "first.trace"]);
-    let wanted = Ask {
-        subcommand: Subcommand::Run,
-        file: "first.trace",
-    };
-    assert!(rt; matches!(ask, Ok(ask) if ask == wanted));
+fn arguments_that_ask_for_each_command(rt: HostRuntime) {
+    for (name, subcommand) in [
+        ("run", Subcommand::Run),
+        ("replay", Subcommand::Replay),
+        ("dump", Subcommand::Dump),
+    ] {
+        let arguments = ["rheap", name, "first"];
+        let ask = read_words(rt.alloc(), &arguments);
+        let wanted = Ask {
+            subcommand,
+            file: "first",
+        };
+        assert!(rt; matches!(ask, Ok(ask) if ask == wanted));
+    }
 }
 
 /// What the program answers to these arguments: its status, and what it writes to standard output
@@ -51,6 +58,18 @@ const CALLS: &[(&[&[u8]], u8, &[u8], &[u8])] = &[
     (&[b"rheap", b"--help"], 0, b"A managed heap", b""),
     (&[b"rheap", b"run", b"--help"], 0, b"Runs a trace", b""),
     (&[b"rheap", b"run", b"-"], 0, WITHOUT_FIELDS_ANSWERS, b""),
+    (
+        &[b"rheap", b"replay", b"--help"],
+        0,
+        b"Checks a history",
+        b"",
+    ),
+    (
+        &[b"rheap", b"replay", b"-"],
+        1,
+        b"",
+        b"rheap: line 1: Header\n",
+    ),
     (&[b"rheap"], 2, b"", b"error: "),
     (
         &[b"rheap", b"run"],
@@ -117,12 +136,19 @@ fn calls_with_a_closed_output(rt: HostRuntime) {
     }
 }
 
-/// Drives a run of the text, and compares the status and what is written to both writers.
-fn runs_to<R: AllocGlobal + Abort>(rt: &R, text: &[u8], status: u8, answers: &[u8], told: &[u8]) {
+/// Does with the text what is asked, and compares the status and what is written to both writers.
+pub fn drives_to<R: AllocGlobal + Abort>(
+    rt: &R,
+    ask: &Ask<'_>,
+    text: &[u8],
+    status: u8,
+    answers: &[u8],
+    told: &[u8],
+) {
     let mut reader = text;
     let mut out = Vec::new(rt.alloc());
     let mut err = Vec::new(rt.alloc());
-    let answer = drive(rt.alloc(), &RUN, &mut reader, &mut out, &mut err);
+    let answer = drive(rt.alloc(), ask, &mut reader, &mut out, &mut err);
     expect_equal(rt, answer, status);
     expect_equal(rt, out.as_slice(), answers);
     expect_equal(rt, err.as_slice(), told);
@@ -146,14 +172,14 @@ const FAULTS: &[(&[u8], &[u8])] = &[
 
 #[test]
 fn statuses_and_texts_of_runs(rt: HostRuntime) -> Result<(), Fail> {
-    runs_to(&rt, WITHOUT_FIELDS, 0, WITHOUT_FIELDS_ANSWERS, b"");
+    drives_to(&rt, &RUN, WITHOUT_FIELDS, 0, WITHOUT_FIELDS_ANSWERS, b"");
     for &(text, told) in FAULTS {
-        runs_to(&rt, text, 1, b"", told);
+        drives_to(&rt, &RUN, text, 1, b"", told);
     }
     let long = repeated(&rt, b"", b"9", 257)?;
-    runs_to(&rt, &long, 1, b"", b"rheap: line 1: Long\n");
+    drives_to(&rt, &RUN, &long, 1, b"", b"rheap: line 1: Long\n");
     let too_long = vec![in rt.alloc(); b'9'; 16_777_217]?;
-    runs_to(&rt, &too_long, 1, b"", b"rheap: too long\n");
+    drives_to(&rt, &RUN, &too_long, 1, b"", b"rheap: too long\n");
     Ok(())
 }
 

@@ -4,9 +4,7 @@ use crate::devices::SlowWriter;
 use crate::expectations::{expect_equal, expect_refusals};
 use refusing::refused_in_turn;
 use rh_core::{Config, Heap};
-use rh_dump::heap_dump::graph;
-use rh_dump::plain_dump::plain_graph;
-use rh_dump::{Graph, same_text, write_dump};
+use rh_dump::{Graph, graph, plain_graph, same_text, write_dump};
 use rh_layout::{Command, Operand, RootId};
 use rh_model::Plain;
 use std::alloc::Allocator;
@@ -121,5 +119,20 @@ fn refused_memory(rt: HostRuntime) {
         assert!(rt; heap.command(1, &command).is_ok());
     }
     let refused = refused_in_turn(rt.alloc(), |memory| is_refused_a_graph(&heap, memory));
+    expect_refusals(&rt, refused, 3);
+}
+
+/// Makes the graph of a plain heap. Answers whether memory was refused.
+fn is_refused_a_plain_graph<A: Allocator + Copy>(heap: &Plain, memory: A) -> bool {
+    heap.objects() <= 16_777_216 && plain_graph(memory, heap).is_err()
+}
+
+#[test]
+fn refused_memory_of_plain_graphs(rt: HostRuntime) {
+    let mut heap = Plain::new(rt.alloc(), 2, 3).expect(&rt, "a plain heap");
+    for command in [alloc(0, 1), refer(0, 0, 0)] {
+        assert!(rt; heap.command(1, &command).is_ok());
+    }
+    let refused = refused_in_turn(rt.alloc(), |memory| is_refused_a_plain_graph(&heap, memory));
     expect_refusals(&rt, refused, 3);
 }

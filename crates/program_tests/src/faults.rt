@@ -2,7 +2,7 @@
 
 use crate::expectations::{expect_equal, expect_text};
 use rh_layout::{Command, RootId};
-use rh_trace::{Kind, Line, ParseError, TraceFault, Write};
+use rh_trace::{Asked, Kind, Line, ParseError, TraceFault, Write};
 
 /// Each kind with the name that the format gives it.
 const KINDS: &[(Kind, &str)] = &[
@@ -37,5 +37,5 @@ fn a_line_is_that_of_its_command(rt: HostRuntime) {
     let command = Command::Drop { root };
     let line = Line::of(3, command);
     expect_equal(&rt, line, Line::Drop { owner: 3, root });
-    expect_equal(&rt, line.command(), (3, command));
+    expect_equal(&rt, line.asks(), Asked::Command { owner: 3, command });
 }

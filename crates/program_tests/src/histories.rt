@@ -13,15 +13,15 @@ use std::process::Abort;
 use std::test::Fail;
 
 /// A history whose third answer is wrong.
-const WRONG: &[u8] =
+pub const WRONG: &[u8] =
     b"history 2 2\n1 alloc 1.0 1 = object 1\n1 store 1.0 0 5 = done\n1 load 1.1 1.0 0 = int 6\nend 3\n";
 
 /// The same with the right answer.
-const RIGHT: &[u8] =
+pub const RIGHT: &[u8] =
     b"history 2 2\n1 alloc 1.0 1 = object 1\n1 store 1.0 0 5 = done\n1 load 1.1 1.0 0 = int 5\nend 3\n";
 
 /// A history without a call.
-const EMPTY: &[u8] = b"history 2 2\nend 0\n";
+pub const EMPTY: &[u8] = b"history 2 2\nend 0\n";
 
 const A: RootId = RootId { owner: 1, slot: 0 };
 
@@ -126,6 +126,11 @@ fn names_the_faults_of_a_history(rt: HostRuntime) {
         (b"history 2 2\n".as_slice(), 2, HistoryKind::End),
         (b"history 2 2\n1 drop 1.0 =\n", 2, HistoryKind::Answer),
         (b"history 2 2\n1 drop 1.0\n", 2, HistoryKind::Answer),
+        (
+            b"history 2 2\n1 drop 1.0 = done = done\n",
+            2,
+            HistoryKind::Answer,
+        ),
         (
             b"history 2 2\n1 drop 1.0 = int +5\n",
             2,

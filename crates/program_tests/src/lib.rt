@@ -4,6 +4,8 @@
 #[cfg(test)]
 mod command_line;
 #[cfg(test)]
+mod counts;
+#[cfg(test)]
 mod devices;
 #[cfg(test)]
 mod dumps;
@@ -18,8 +20,14 @@ mod histories;
 #[cfg(test)]
 mod reading;
 #[cfg(test)]
+mod reading_dumps;
+#[cfg(test)]
+mod replays;
+#[cfg(test)]
 mod running;
 #[cfg(test)]
 mod terminal;
 #[cfg(test)]
 mod texts;
+#[cfg(test)]
+mod trays;

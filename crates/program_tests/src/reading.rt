@@ -62,11 +62,12 @@ fn reads_each_keyword(rt: HostRuntime) -> Result<(), Fail> {
             b: B,
         },
         Line::Drop { owner: 1, root: A },
+        Line::Dump,
     ];
     expect_equal(&rt, trace.header(), header);
     expect_equal(&rt, trace.lines(), lines.as_slice());
-    expect_equal(&rt, (trace.len(), trace.is_empty()), (6, false));
-    assert!(rt; trace.len() == 6 && trace.line(5) == lines[5]);
+    expect_equal(&rt, (trace.len(), trace.is_empty()), (7, false));
+    assert!(rt; trace.len() == 7 && trace.line(5) == lines[5]);
     assert!(rt; size_of::<Line>() <= 40);
     Ok(())
 }
@@ -122,6 +123,7 @@ const FAULTS_OF_TEXTS: &[(&[u8], u32, Kind)] = &[
     (b"\n", 1, Kind::Form),
     (b"1 drop 1.0\n", 1, Kind::Header),
     (b"heap 16 8 4 2\n", 1, Kind::Header),
+    (b"heap x 8 4 2\n", 1, Kind::Header),
     (b"heap 16 8 4 2 2", 1, Kind::Cut),
     (b"heap  16", 1, Kind::Cut),
     (b"heap  16\n", 1, Kind::Form),
@@ -144,10 +146,13 @@ const FAULTS_OF_LINES: &[(&[u8], Kind)] = &[
     (b"1 begin\n", Kind::Word),
     (b"begin\n", Kind::Word),
     (b"alloc 1 1.0 2\n", Kind::Word),
+    (b"1 dump\n", Kind::Word),
+    (b"dump 1\n", Kind::Form),
     (b"1 alloc 1.0\n", Kind::Form),
     (b"1 alloc 1.0 2 3\n", Kind::Form),
     (b"1 alloc 1 x\n", Kind::Root),
     (b"1x alloc 1 x\n", Kind::Number),
+    (b"1x drop\n", Kind::Form),
     (b"1 alloc 1.0 x\n", Kind::Number),
     (b"1 alloc 1.0.0 2\n", Kind::Root),
     (b"1 alloc 1.00 2\n", Kind::Root),
@@ -193,6 +198,8 @@ const FAULTS_OF_LINES: &[(&[u8], Kind)] = &[
     (b"1 same 1.0 1.1", Kind::Cut),
     // Of two faults the one that stands first in the order of the format.
     (b"x alloc 1.0\n", Kind::Word),
+    (b"dumped 1.0\n", Kind::Word),
+    (b"1 dump 1.0\n", Kind::Word),
     (b"02 alloc 1.0\n", Kind::Form),
     (b"02 alloc 1 x\n", Kind::Number),
     (b"1 store 1 x 1.\n", Kind::Root),
@@ -221,13 +228,14 @@ fn first_faults_of_lines(rt: HostRuntime) -> Result<(), Fail> {
 
 #[test]
 fn long_lines(rt: HostRuntime) -> Result<(), Fail> {
-    for &(bytes, end, kind) in &[
-        (256, b"".as_slice(), Kind::Cut),
-        (256, b"\n".as_slice(), Kind::Header),
-        (257, b"".as_slice(), Kind::Long),
-        (257, b"\n".as_slice(), Kind::Long),
+    for &(byte, bytes, end, kind) in &[
+        (b"9".as_slice(), 256, b"".as_slice(), Kind::Cut),
+        (b"9".as_slice(), 256, b"\n".as_slice(), Kind::Header),
+        (b"9".as_slice(), 257, b"".as_slice(), Kind::Long),
+        (b"9".as_slice(), 257, b"\n".as_slice(), Kind::Long),
+        (b" ".as_slice(), 257, b"\n".as_slice(), Kind::Long),
     ] {
-        let mut text = repeated(&rt, b"", b"9", bytes)?;
+        let mut text = repeated(&rt, b"", byte, bytes)?;
         text.extend_from_slice(end)?;
         expect_fault(&rt, &text, 1, kind);
     }

@@ -1,11 +1,12 @@
 //! Runs of traces.
 
 use crate::devices::{InterruptedReader, InterruptedWriter, SlowReader, SlowWriter};
-use crate::expectations::{expect_equal, expect_refusals};
+use crate::expectations::{expect_equal, expect_prefix, expect_refusals};
 use crate::texts::{
-    BOUNDARY, BOUNDARY_ANSWERS, CUT, LONG_ANSWER, LONG_HEADER, LONG_LINE, ORDER_OF_REFUSALS,
-    ORDER_OF_REFUSALS_ANSWERS, SHARING, SHARING_ANSWERS, WHOLE_NUMBER_RANGE,
-    WHOLE_NUMBER_RANGE_ANSWERS, WITHOUT_FIELDS, WITHOUT_FIELDS_ANSWERS, repeated,
+    BOUNDARY, BOUNDARY_ANSWERS, CUT, DUMPS, DUMPS_ANSWERS, EMPTY_DUMP, EMPTY_DUMP_ANSWERS,
+    LONG_ANSWER, LONG_HEADER, LONG_LINE, ORDER_OF_REFUSALS, ORDER_OF_REFUSALS_ANSWERS, SHARING,
+    SHARING_ANSWERS, WHOLE_NUMBER_RANGE, WHOLE_NUMBER_RANGE_ANSWERS, WITHOUT_FIELDS,
+    WITHOUT_FIELDS_ANSWERS, repeated,
 };
 use refusing::refused_in_turn;
 use rh_core::ConfigFault;
@@ -29,6 +30,8 @@ fn answers_and_summaries(rt: HostRuntime) {
         (WHOLE_NUMBER_RANGE, WHOLE_NUMBER_RANGE_ANSWERS, 8, 2),
         (SHARING, SHARING_ANSWERS, 6, 0),
         (ORDER_OF_REFUSALS, ORDER_OF_REFUSALS_ANSWERS, 6, 5),
+        (EMPTY_DUMP, EMPTY_DUMP_ANSWERS, 0, 0),
+        (DUMPS, DUMPS_ANSWERS, 3, 1),
     ] {
         let (outcome, written) = run(&rt, input);
         let summary = Summary {
@@ -192,4 +195,20 @@ fn refused_memory(rt: HostRuntime) -> Result<(), Fail> {
     });
     expect_refusals(&rt, refused, 12);
     Ok(())
+}
+
+#[test]
+fn refused_memory_at_a_dump(rt: HostRuntime) {
+    let refused = refused_in_turn(rt.alloc(), |memory| {
+        let mut reader = DUMPS;
+        let mut writer = SlowWriter::new(&rt, 1000, 0);
+        let outcome = run_trace(memory, &mut reader, &mut writer);
+        expect_prefix(&rt, DUMPS_ANSWERS, &writer.text);
+        if outcome.is_ok() {
+            return false;
+        }
+        expect_equal(&rt, outcome, Err(RunFault::OutOfMemory));
+        true
+    });
+    expect_refusals(&rt, refused, 8);
 }

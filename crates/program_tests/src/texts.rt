@@ -20,7 +20,7 @@ pub const CUT: &[u8] = b"heap 16 8 4 2 2\n1 alloc 1.0 2\n1 alloc 1.0";
 
 /// A first line, and one line of each keyword.
 pub const KEYWORDS: &[u8] =
-    b"heap 16 8 4 2 2\n1 alloc 1.0 2\n1 load 1.1 1.0 0\n1 store 1.0 0 5\n1 copy 1.1 0.0\n1 same 1.0 1.1\n1 drop 1.0\n";
+    b"heap 16 8 4 2 2\n1 alloc 1.0 2\n1 load 1.1 1.0 0\n1 store 1.0 0 5\n1 copy 1.1 0.0\n1 same 1.0 1.1\n1 drop 1.0\ndump\n";
 
 /// Stores of each kind of operand, and lines of the greatest numbers.
 pub const OPERANDS: &[u8] =
@@ -39,6 +39,19 @@ pub const SHARING: &[u8] =
 
 pub const SHARING_ANSWERS: &[u8] =
     b"object 2\nobject 0\ndone\ndone\nobject 0\nsame yes\ntotal commands 6 refused 0 flips 0 rootwords 0\n";
+
+/// The dump of a heap without objects.
+pub const EMPTY_DUMP: &[u8] = b"heap 16 8 4 2 2\ndump\n";
+
+pub const EMPTY_DUMP_ANSWERS: &[u8] =
+    b"rheap 1\nroots 0\nobjects 0\nend\ntotal commands 0 refused 0 flips 0 rootwords 0\n";
+
+/// Dumps before and after a refused command, and after an accepted one.
+pub const DUMPS: &[u8] =
+    b"heap 16 8 4 2 2\n1 alloc 1.1 1\ndump\n1 drop 2.0\n1 store 1.1 0 1.1\ndump\n";
+
+pub const DUMPS_ANSWERS: &[u8] =
+    b"object 1\nrheap 1\nroots 1\n1.1 @0\nobjects 1\n@0 1 nil\nend\nrefused NoRoot\ndone\nrheap 1\nroots 1\n1.1 @0\nobjects 1\n@0 1 @0\nend\ntotal commands 3 refused 1 flips 0 rootwords 0\n";
 
 /// Commands for which several refusals hold.
 pub const ORDER_OF_REFUSALS: &[u8] =
