@@ -77,14 +77,7 @@ fn report_on<A: Allocator + Copy, O: Write>(
 }
 
 /// What a report and the flush after it come to.
-#[tactic(
-    auto,
-    using(
-        crate::proofs::Statuses::failed_flush,
-        crate::proofs::Statuses::late_is_not_0,
-        crate::proofs::Statuses::late_is_not_4,
-    )
-)]
+#[tactic(auto, using(crate::proofs::Statuses::failed_flush, crate::proofs::Statuses::late_is_not_0, crate::proofs::Statuses::late_is_not_4,))]
 fn conclude(reported: Result<Verdict, LineFault>, flushed: bool) -> Result<Ending, LineFault>
     requires { IfErr reported (λ fault. IsLateFault fault) }
     ensures status { IsReplayStatus reported (status_after result) }

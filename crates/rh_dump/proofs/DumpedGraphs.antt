@@ -50,8 +50,7 @@ IsGraph-dump_below g limit d = elim (all_or_further g limit) [
 -- dump texts are equal exactly where the graphs are the same
 pub dump_text-exact : (g h : Graph) (m n : ℕ) → IsDumpable m g → IsDumpable n h → (dump_text (dump_below m g) ≡ dump_text (dump_below n h)) ↔ SameGraph g h
 dump_text-exact g h m n first second =
-    let exact = dump_below-exact g h m n (IsDumpable-reaches g m first) (IsDumpable-reaches h n second) in
-    (
+    let exact = dump_below-exact g h m n (IsDumpable-reaches g m first) (IsDumpable-reaches h n second) in (
       λ texts. exact.0 (dump_text-injective (dump_below m g) (dump_below n h) (IsGraph-dump_below g m first) (IsGraph-dump_below h n second) texts),
       λ same. ap dump_text (exact.1 same),
     )

@@ -19,8 +19,10 @@ abbrev pub filled_slots : (RootId → Value) → ℕ → ℕ → List (RootId ×
 filled_slots held owner zero = []
 filled_slots held owner (suc slots) =
     filled_slots held owner slots
-    ++ filled_root (record { owner = owner;
-        slot = slots }) (held (record { owner = owner; slot = slots }))
+    ++ filled_root (record {
+      owner = owner;
+      slot = slots;
+    }) (held (record { owner = owner; slot = slots }))
 
 -- the same of all owners below so many, owner by owner
 abbrev pub filled_roots : (RootId → Value) → ℕ → ℕ → List (RootId × Value)

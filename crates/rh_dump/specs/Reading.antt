@@ -64,7 +64,7 @@ reference_or_whole count met part None = whole_or_fault part
 unfoldable pub value_or_fault : ℕ → ℕ → List ℕ → Result Value DumpKind
 value_or_fault count met part =
     if bytes_eq part (codes "nil") then Ok Nil
-        else reference_or_whole count met part (after_at part)
+    else reference_or_whole count met part (after_at part)
 
 -- one value after the other
 unfoldable pub values_or_fault : ℕ → ℕ → List (List ℕ) → Result (List Value) DumpKind

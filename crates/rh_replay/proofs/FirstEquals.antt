@@ -22,10 +22,13 @@ other_part part other = by (bytes_eq part (codes "=")) refl
 cut_step : (t : Bool) (x : List ℕ) (xs : List (List ℕ)) → (t ≡ true → x ≡ codes "=") → (t ≡ false → x ≢ codes "=") → AreCutAtEquals xs (before_equals xs) (after_equals xs)
     → AreCutAtEquals (x ∷ xs) (cond t [] (x ∷ before_equals xs)) (cond t xs (after_equals xs))
 cut_step true x xs is other cut = (tt, inl (ap (λ (p : List ℕ). p ∷ xs) (is refl)))
-cut_step false x xs is other cut = ((other refl, cut.0), elim cut.1 [
+cut_step false x xs is other cut = (
+  (other refl, cut.0),
+  elim cut.1 [
     | inl whole ↦ inl (ap (λ (ps : List (List ℕ)). x ∷ ps) whole)
     | inr none ↦ inr (ap (λ (ps : List (List ℕ)). x ∷ ps) none.0, none.1)
-  ])
+  ],
+)
 
 -- what reading cuts is cut at the first part that is `=`
 pub cut_is : (parts : List (List ℕ)) → AreCutAtEquals parts (before_equals parts) (after_equals parts)
@@ -44,11 +47,11 @@ none_after xs free = ap after_equals (sym (append-nil xs)) ∙ after_equals-appe
 pub cut_once : (parts before after : List (List ℕ)) → AreCutAtEquals parts before after → (before ≡ before_equals parts) × (after ≡ after_equals parts)
 cut_once parts before after cut = elim cut.1 [
   | inl whole ↦ (
-      sym (append-nil before) ∙ sym (before_equals-append before (codes "=" ∷ after) (all_before before cut.0)) ∙ sym (ap before_equals whole),
-      sym (after_equals-append before (codes "=" ∷ after) (all_before before cut.0)) ∙ sym (ap after_equals whole),
-    )
+    sym (append-nil before) ∙ sym (before_equals-append before (codes "=" ∷ after) (all_before before cut.0)) ∙ sym (ap before_equals whole),
+    sym (after_equals-append before (codes "=" ∷ after) (all_before before cut.0)) ∙ sym (ap after_equals whole),
+  )
   | inr none ↦ (
-      sym (all_before before cut.0) ∙ sym (ap before_equals none.0),
-      none.1 ∙ sym (none_after before cut.0) ∙ sym (ap after_equals none.0),
-    )
+    sym (all_before before cut.0) ∙ sym (ap before_equals none.0),
+    none.1 ∙ sym (none_after before cut.0) ∙ sym (ap after_equals none.0),
+  )
 ]

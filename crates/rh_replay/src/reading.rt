@@ -51,14 +51,7 @@ fn before_equals(line: &[u8]) -> Option<&[u8]>
 }
 
 /// What stands after the first part that is `=`, if any.
-#[tactic(
-    auto,
-    using(
-        crate::proofs::Equals::after_found,
-        crate::proofs::Equals::after_next,
-        crate::proofs::Equals::after_none,
-    )
-)]
+#[tactic(auto, using(crate::proofs::Equals::after_found, crate::proofs::Equals::after_next, crate::proofs::Equals::after_none,))]
 fn after_equals(line: &[u8]) -> Option<&[u8]>
     ensures { parts_left result ≡ after_equals (parts_of line.now) }
 {

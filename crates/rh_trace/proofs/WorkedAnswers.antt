@@ -162,8 +162,20 @@ listed = refl
 -- what a heap tells after a flip
 after_flip : Stat
 after_flip =
-    record { used = 7; free = 9; cycle = false; epoch = 2; number = 1;
-      log = 0; granted = 24; spent = 15; placed = 0; missing = 0; flips = 1; root_words = 2 }
+    record {
+      used = 7;
+      free = 9;
+      cycle = false;
+      epoch = 2;
+      number = 1;
+      log = 0;
+      granted = 24;
+      spent = 15;
+      placed = 0;
+      missing = 0;
+      flips = 1;
+      root_words = 2;
+    }
 
 stat_off :
     stat_text after_flip

@@ -81,5 +81,5 @@ is_refused (Dump graph) = false
 abbrev pub total_line : Summary → List ℕ
 total_line s =
     codes "total commands " ++ (decimal s.commands ++ (codes " refused " ++ (decimal s.refused
-        ++ (codes " flips " ++ (decimal s.flips ++ (codes " rootwords " ++ (decimal s.root_words
-        ++ 10 ∷ [])))))))
+    ++ (codes " flips " ++ (decimal s.flips ++ (codes " rootwords " ++ (decimal s.root_words
+    ++ 10 ∷ [])))))))
