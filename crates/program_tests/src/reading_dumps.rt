@@ -1,6 +1,6 @@
 //! Dumps read from their texts.
 
-use crate::devices::SlowReader;
+use crate::devices::{InterruptedReader, SlowReader};
 use crate::expectations::{expect_equal, expect_refusals, expect_text};
 use crate::texts::repeated;
 use refusing::refused_in_turn;
@@ -209,6 +209,23 @@ fn reads_tell_which_failed(rt: HostRuntime) {
         let outcome = read_dump_told(rt.alloc(), &mut reader, &mut reads);
         expect_equal(&rt, outcome.err(), error);
         expect_equal(&rt, reads.has_failed(), told);
+    }
+}
+
+#[test]
+fn reads_of_dumps_end(rt: HostRuntime) {
+    let no_line = DumpFault {
+        line: 1,
+        kind: DumpKind::End,
+    };
+    for &(ends_at, error) in &[
+        (536_870_912, DumpReadError::Fault(no_line)),
+        (536_870_913, DumpReadError::Read),
+    ] {
+        let mut reader = InterruptedReader { reads: 0, ends_at };
+        let outcome = read_dump(rt.alloc(), &mut reader);
+        expect_equal(&rt, outcome.err(), Some(error));
+        expect_equal(&rt, reader.reads, 536_870_912);
     }
 }
 
