@@ -6,7 +6,7 @@ use Rattle.std.proofs.Math.ListN.{length-map}
 use Rattle.std.proofs.lemmas.Bool.{and_parts, leb-true}
 use Rattle.std.proofs.lemmas.Option.{none-some, same_Some, slice_get-map, slice_get_within, get_or_from_slice_get}
 use Rattle.rh_layout.specs.Item.{Pair}
-use Rattle.rh_layout.specs.Root.{has_root, root_place}
+use Rattle.rh_layout.specs.Root.{has_root, root_position}
 use Rattle.rh_layout.specs.declared.value.Value.{Value}
 use Rattle.rh_layout.specs.declared.value.Value.TheVariants.{Nil, Int, Ref}
 use Rattle.rh_layout.specs.declared.command.RootId.{RootId}
@@ -68,8 +68,8 @@ module _ (m : MutatorState) (kept : IsMutator m) where
   IsTellable-root : (r : RootId) → IsTellable (graph_of m) (root_value (graph_of m) r)
   IsTellable-root r = by (has_root m.roots.owners m.roots.slots r)
     where
-      by : (t : Bool) → IsTellable (graph_of m) (if t then slice_index_or m.roots.values (root_place m.roots.slots r) Nil else Nil)
-      by true = IsTellable-storable (slice_index_or m.roots.values (root_place m.roots.slots r) Nil) (kept.roots (root_place m.roots.slots r))
+      by : (t : Bool) → IsTellable (graph_of m) (if t then slice_index_or m.roots.values (root_position m.roots.slots r) Nil else Nil)
+      by true = IsTellable-storable (slice_index_or m.roots.values (root_position m.roots.slots r) Nil) (kept.roots (root_position m.roots.slots r))
       by false = tt
 
   -- the value of a pair that may be there

@@ -3,7 +3,7 @@ use Rattle.std.specs.Prelude.{◌≡◌, ℕ, ◌+◌, ◌^◌, ◌<◌, ◌≤�
 use Rattle.std.proofs.Common.{refl, sym, ap, subst, ◌∙◌, arith}
 use Rattle.std.proofs.lemmas.List.Elements.{All-get_or}
 use Rattle.std.proofs.lemmas.Option.{none-some, same_Some, slice_get_within, slice_get-get_or, get_or_from_slice_get}
-use Rattle.rh_layout.specs.Root.{has_root, root_place}
+use Rattle.rh_layout.specs.Root.{has_root, root_position}
 use Rattle.rh_layout.specs.declared.value.Value.{Value}
 use Rattle.rh_layout.specs.declared.value.Value.TheVariants.{Nil, Int, Ref}
 use Rattle.rh_layout.specs.declared.command.RootId.{RootId}
@@ -29,8 +29,8 @@ module _ (p : PlainHeap) (plain : IsPlain p) where
   plain_root : (r : RootId) → IsTellable (graph_of p) (root_value (graph_of p) r)
   plain_root r = by (has_root p.owners p.slots r)
     where
-      by : (t : Bool) → IsTellable (graph_of p) (if t then slice_index_or p.roots (root_place p.slots r) Nil else Nil)
-      by true = plain_tellable (slice_index_or p.roots (root_place p.slots r) Nil) (plain.roots (root_place p.slots r))
+      by : (t : Bool) → IsTellable (graph_of p) (if t then slice_index_or p.roots (root_position p.slots r) Nil else Nil)
+      by true = plain_tellable (slice_index_or p.roots (root_position p.slots r) Nil) (plain.roots (root_position p.slots r))
       by false = tt
 
   plain_field : (a f : ℕ) (fields : List Value) (v : Value) → slice_get p.objects a ≡ Some fields → slice_get fields f ≡ Some v → IsTellable (graph_of p) v
@@ -61,7 +61,7 @@ IsBelow-read_root p plain few r w read = IsBelow-storable p.objects few w (by (h
   where
     by : (t : Bool) → has_root p.owners p.slots r ≡ t → Some w ≡ (if t then Some (root_value (graph_of p) r) else None) → IsStorable p.objects w
     by true here at =
-        subst (IsStorable p.objects) (sym (same_Some w (root_value (graph_of p) r) at ∙ root_value-there (graph_of p) r here)) (plain.roots (root_place p.slots r))
+        subst (IsStorable p.objects) (sym (same_Some w (root_value (graph_of p) r) at ∙ root_value-there (graph_of p) r here)) (plain.roots (root_position p.slots r))
     by false missing at = absurd (none-some w (sym at))
 
 -- and so does one that a reader gives of a field

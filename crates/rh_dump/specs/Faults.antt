@@ -154,7 +154,8 @@ abbrev pub faults_from : Due → ℕ → ℕ → List RawLine → ℕ → ℕ �
 faults_from due number size [] line place kind = end_faults due number line place kind
 faults_from due number size (raw ∷ raws) line place kind =
     ((line ≡ number) × line_faults due size raw place kind)
-    ⊎ faults_from (due_after_parts due (parts_of raw.bytes)) (number + 1) (size + length (raw_text raw)) raws line place kind
+    ⊎ faults_from (due_after_parts due (parts_of raw.bytes)) (number + 1)
+    (size + length (raw_text raw)) raws line place kind
 
 -- of a text of these lines
 abbrev pub dump_faults : List RawLine → ℕ → ℕ → DumpKind → Type 0

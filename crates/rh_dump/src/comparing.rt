@@ -7,21 +7,21 @@ use crate::dump_graph::Graph;
 use rh_layout::{RootId, Value};
 use std::alloc::Allocator;
 
-/// The roots and what they hold are equal, place by place.
+/// The roots and what they hold are equal, one by one.
 fn same_roots(a: &[(RootId, Value)], b: &[(RootId, Value)]) -> bool
     ensures { IsTrue result ↔ (a.now ≡ b.now) }
 {
     a == b
 }
 
-/// The numbers are equal, place by place.
+/// The numbers are equal, one by one.
 fn same_counts(these: &[u32], those: &[u32]) -> bool
     ensures { IsTrue result ↔ (these.now ≡ those.now) }
 {
     these == those
 }
 
-/// The values are equal, place by place.
+/// The values are equal, one by one.
 fn same_values(a: &[Value], b: &[Value]) -> bool
     ensures { IsTrue result ↔ (a.now ≡ b.now) }
 {

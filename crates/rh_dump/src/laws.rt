@@ -19,6 +19,7 @@ ghost use Rattle.rh_dump.specs.Line.{dump_text};
 ghost use Rattle.rh_dump.specs.Reading.{graph_of_text};
 ghost use Rattle.rh_dump.specs.declared.fault.DumpFault.{DumpFault as FaultOf};
 
+use crate::limits::{LAST_OBJECT, MAX_DUMP_BYTES, MAX_DUMP_READS, MAX_OBJECTS, MAX_ROOTS};
 use rh_model::laws::pairs_what_is_reached;
 
 /// Two graphs have equal dumps exactly where they are the same graph, up to the names of their
@@ -55,7 +56,7 @@ pub fn equal_dumps_of_heaps_are_same_graphs()
 /// The dump of a heap is a graph, and so is that of a plain heap of at most 16,777,216 objects.
 pub fn dumps_of_heaps_are_graphs()
     ensures heaps { (h : HeapState) → IsHeap h → IsSpace h.mutators.space → IsGraph (dump_of h) }
-    ensures plain_heaps { (p : PlainHeap) → IsPlain p → length p.objects ≤ 16777216
+    ensures plain_heaps { (p : PlainHeap) → IsPlain p → length p.objects ≤ MAX_OBJECTS
         → IsGraph (plain_dump_of p) }
 {}
 
@@ -67,10 +68,10 @@ pub fn equal_dump_texts_are_same_graphs()
         → (dump_text (dump_of h) ≡ dump_text (dump_of k))
         ↔ SameGraph (graph_of h.mutators) (graph_of k.mutators) }
     ensures plain_heaps { (p q : PlainHeap) → IsPlain p → IsPlain q
-        → length p.objects ≤ 16777216 → length q.objects ≤ 16777216
+        → length p.objects ≤ MAX_OBJECTS → length q.objects ≤ MAX_OBJECTS
         → (dump_text (plain_dump_of p) ≡ dump_text (plain_dump_of q))
         ↔ SameGraph (plain.graph_of p) (plain.graph_of q) }
-    ensures both { (p : PlainHeap) (h : HeapState) → IsPlain p → length p.objects ≤ 16777216
+    ensures both { (p : PlainHeap) (h : HeapState) → IsPlain p → length p.objects ≤ MAX_OBJECTS
         → IsHeap h → IsSpace h.mutators.space
         → (dump_text (plain_dump_of p) ≡ dump_text (dump_of h))
         ↔ SameGraph (plain.graph_of p) (graph_of h.mutators) }
@@ -88,10 +89,10 @@ pub fn a_heap_has_the_dump_of_its_plain_heap()
 /// What a graph is spelled as is read as that graph, where it has at most 268,435,456 bytes, and
 /// nothing else is read as it.
 pub fn what_is_spelled_is_read()
-    ensures spelled { (g : GraphState) → IsGraph g → length (dump_text g) ≤ 268435456
+    ensures spelled { (g : GraphState) → IsGraph g → length (dump_text g) ≤ MAX_DUMP_BYTES
         → graph_of_text (dump_text g) ≡ Ok g }
     ensures read { (text : List ℕ) (g : GraphState) → graph_of_text text ≡ Ok g
-        → IsGraph g × (text ≡ dump_text g) × (length text ≤ 268435456) }
+        → IsGraph g × (text ≡ dump_text g) × (length text ≤ MAX_DUMP_BYTES) }
 {}
 
 /// Graphs with equal texts are equal, however long these are.
@@ -109,4 +110,11 @@ pub fn the_first_fault_is_named()
         → (n : ℕ) → IsFaultless (dump_faults (lines_of text) n) }
     ensures spelled { (text : List ℕ) → ((n : ℕ) → IsFaultless (dump_faults (lines_of text) n))
         → (g : GraphState) × IsGraph g × (text ≡ dump_text g) }
+{}
+
+/// The limits that clauses and code name are those that definitions and the format say.
+pub fn dump_limits_are_those_of_the_format()
+    ensures roots { MAX_ROOTS ≡ 4096 }
+    ensures objects { (MAX_OBJECTS ≡ 16777216) × (LAST_OBJECT ≡ 16777215) }
+    ensures text { (MAX_DUMP_BYTES ≡ 268435456) × (MAX_DUMP_READS ≡ 536870912) }
 {}

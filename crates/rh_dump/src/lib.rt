@@ -8,7 +8,7 @@ mod fault;
 mod graph_builder;
 mod heap_dump;
 pub mod laws;
-mod limits;
+pub mod limits;
 mod line_parts;
 mod line_reading;
 mod numbering;

@@ -11,15 +11,10 @@ ghost use Rattle.rh_dump.specs.Reading.{formed_parts, part_after, roots_of_parts
 ghost use Rattle.rh_dump.specs.Reading.{objects_of_parts, root_of_parts, own_number};
 
 use crate::fault::DumpKind;
-use crate::parts::{LAST_OBJECT, after_at, number_or_fault, root_or_fault, value_or_fault};
+use crate::limits::{LAST_OBJECT, MAX_OBJECTS, MAX_ROOTS};
+use crate::parts::{after_at, number_or_fault, root_or_fault, value_or_fault};
 use rh_layout::{MAX_FIELDS, RootId, Value};
 use rh_text::{is_formed, next_part, two_parts};
-
-/// The most roots, which are those of all owners.
-const MAX_ROOTS: u32 = 4_096;
-
-/// The most objects.
-const MAX_OBJECTS: u32 = 16_777_216;
 
 /// The parts of a line that is well formed.
 #[tactic(auto, unfolding(crate::specs::Reading::formed_parts))]
@@ -77,7 +72,7 @@ pub fn root_of_parts(
     rest: Option<&[u8]>,
 ) -> Result<(RootId, Value), DumpKind>
     ensures value { result ≡ root_of_parts last met (parts_left rest.entry) }
-    ensures below { IfOk result (λ root. IsBelow 16777216 root.1) }
+    ensures below { IfOk result (λ root. IsBelow MAX_OBJECTS root.1) }
 {
     let (root, value) = two_parts(rest).ok_or(DumpKind::Form)?;
     if value == b"nil".as_slice() {

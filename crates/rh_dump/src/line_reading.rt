@@ -16,7 +16,7 @@ ghost use Rattle.rh_dump.specs.declared.read_error.LineError.TheVariants as erro
 use crate::due::Due;
 use crate::fault::DumpKind;
 use crate::graph_builder::GraphBuilder;
-use crate::limits::MAX_DUMP_BYTES;
+use crate::limits::{MAX_DUMP_BYTES, MAX_OBJECTS};
 use crate::line_parts::{formed_parts, objects_of_parts, root_of_parts, roots_of_parts, start_of};
 use crate::parts::value_or_fault;
 use crate::read_error::LineError;
@@ -26,7 +26,7 @@ use std::alloc::Allocator;
 
 /// How many objects are met with this value, where so many were met before it.
 fn met_with(met: u32, value: Value) -> u32
-    requires { IsBelow 16777216 value }
+    requires { IsBelow MAX_OBJECTS value }
     ensures { result ≡ met_with met value }
 {
     match value {
@@ -119,7 +119,7 @@ fn of_kind(read: Result<Due, DumpKind>) -> Result<Due, LineError>
 #[tactic(auto, unfolding(crate::specs::Putting::root_in))]
 fn root_in(last: Option<RootId>, met: u32, line: &[u8]) -> Result<(RootId, Value), DumpKind>
     ensures value { result ≡ root_in last met line.now }
-    ensures below { IfOk result (λ root. IsBelow 16777216 root.1) }
+    ensures below { IfOk result (λ root. IsBelow MAX_OBJECTS root.1) }
 {
     let parts = formed_parts(line)?;
     root_of_parts(last, met, parts)
@@ -133,8 +133,8 @@ fn read_root<A: Allocator + Copy>(
     met: u32,
     line: &[u8],
 ) -> Result<Due, LineError>
-    ensures { Tells (λ due. (builder.new, due)) result
-        (put_read builder.old (dues.Root left last met) (line_due (dues.Root left last met) line.now)) }
+    ensures { Tells (λ due. (builder.new, due)) result (put_read builder.old
+        (dues.Root left last met) (line_due (dues.Root left last met) line.now)) }
 {
     let (root, value) = match root_in(last, met, line) {
         Ok(root) => root,
@@ -154,7 +154,7 @@ fn read_values<A: Allocator + Copy>(
     met_before: u32,
     rest: Option<&[u8]>,
 ) -> Result<u32, LineError>
-    requires { count ≤ 16777216 }
+    requires { count ≤ MAX_OBJECTS }
     ensures { Tells (λ met. (builder.new, met)) result (put_values builder.old met_before
         (values_or_fault count met_before (parts_left rest.entry))) }
 {
@@ -183,7 +183,7 @@ fn read_object<A: Allocator + Copy>(
     line: &[u8],
 ) -> Result<Due, LineError>
     requires met { met ≤ count }
-    requires count { count ≤ 16777216 }
+    requires count { count ≤ MAX_OBJECTS }
     ensures { Tells (λ due. (builder.new, due)) result (put_read builder.old
         (dues.Object number count met) (line_due (dues.Object number count met) line.now)) }
 {
@@ -233,7 +233,7 @@ pub fn read_raw_line<A: Allocator + Copy>(
     ensures { (size : ℕ)
         → end ≡ size + length (raw_text (record { bytes = line.now; ended = ended }))
         → Tells (λ next. (builder.new, next)) result (put_read builder.old due
-        (line_or_kind 268435456 due size (record { bytes = line.now; ended = ended }))) }
+        (line_or_kind MAX_DUMP_BYTES due size (record { bytes = line.now; ended = ended }))) }
 {
     if end > MAX_DUMP_BYTES {
         return Err(LineError::Kind(DumpKind::Long));

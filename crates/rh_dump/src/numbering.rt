@@ -29,6 +29,7 @@ ghost use Rattle.rh_dump.specs.Meeting.{
 
 use crate::dump_graph::Graph;
 use crate::graph_builder::GraphBuilder;
+use crate::limits::MAX_OBJECTS;
 use crate::source::Source;
 use rh_layout::limits::{MAX_OWNERS, MAX_SLOTS};
 use rh_layout::{OutOfMemory, RootId, Value};
@@ -38,8 +39,8 @@ use std::marker::Model;
 /// The names that were met, in order of their numbers, and the graph as far as it was put together.
 #[derive(Drop)]
 pub(crate) struct Numbering<A: Allocator = Global> {
-    /// At the place of each name that was met its number; at another anything. A name was met where
-    /// it stands among the names at that number (Briggs and Torczon, 1993).
+    /// At the position of each name that was met its number; at another anything. A name was met
+    /// where it stands among the names at that number (Briggs and Torczon, 1993).
     numbers: Vec<u32, A>,
     names: Vec<u32, A>,
     graph: GraphBuilder<A>,
@@ -48,6 +49,7 @@ pub(crate) struct Numbering<A: Allocator = Global> {
 impl<A: Allocator> Model for Numbering<A> {
     ghost use Rattle.std.specs.Prelude.{◌≤◌, length};
     ghost use Rattle.rh_dump.specs.Meeting.{NumberingState, IsIndexOf};
+    ghost use Rattle.rh_dump.specs.declared.limits.TheConstants.{MAX_OBJECTS};
 
     ghost Value = { NumberingState };
 
@@ -58,13 +60,13 @@ impl<A: Allocator> Model for Numbering<A> {
     } };
 
     ghost invariant = { λ n. IsIndexOf n.numbers.items n.names.items
-        × (length n.numbers.items ≤ 16777216) };
+        × (length n.numbers.items ≤ MAX_OBJECTS) };
 }
 
 impl<A: Allocator + Copy> Numbering<A> {
     /// Nothing was met; all names are below the limit.
     fn new(alloc: A, limit: u32) -> Result<Numbering<A>, OutOfMemory>
-        requires { limit ≤ 16777216 }
+        requires { limit ≤ MAX_OBJECTS }
         ensures { IfOk result (λ n. n ≡ empty_numbering limit) }
     {
         match Vec::from_elem(alloc, 0, limit as usize) {

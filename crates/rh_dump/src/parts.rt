@@ -9,12 +9,10 @@ ghost use Rattle.rh_dump.specs.Reading.{value_or_fault, is_root_before, is_root_
 ghost use Rattle.rh_dump.specs.Reading.{root_or_fault};
 
 use crate::fault::DumpKind;
+use crate::limits::LAST_OBJECT;
 use rh_layout::limits::{MAX_OWNERS, MAX_SLOTS};
 use rh_layout::{RootId, Value, is_whole};
 use rh_text::{read_integer, read_number, read_root};
-
-/// The greatest number of an object.
-pub const LAST_OBJECT: u32 = 16_777_215;
 
 /// The number up to a limit of which the part is the decimal.
 #[tactic(auto, unfolding(crate::specs::Part::number_up_to))]

@@ -7,6 +7,7 @@ ghost use Rattle.rh_dump.specs.HeapDump.{plain_dump_of};
 ghost use Rattle.rh_dump.specs.Meeting.{IsBelow};
 
 use crate::dump_graph::Graph;
+use crate::limits::MAX_OBJECTS;
 use crate::numbering::dump_of_source;
 use crate::source::Source;
 use rh_layout::{OutOfMemory, RootId, Value};
@@ -14,11 +15,13 @@ use rh_model::{Plain, PlainValue};
 use std::alloc::Allocator;
 
 impl<A: Allocator + Copy> Source for Plain<A> {
+    ghost use Rattle.rh_dump.specs.declared.limits.TheConstants.{MAX_OBJECTS};
+
     ghost graph = { plain.graph_of };
 
     ghost limit_of = { λ p. length p.objects };
 
-    ghost is_small = { λ p. length p.objects ≤ 16777216 };
+    ghost is_small = { λ p. length p.objects ≤ MAX_OBJECTS };
 
     fn limit(&self) -> u32 {
         self.objects() as u32
@@ -74,7 +77,7 @@ pub fn plain_graph<A: Allocator + Copy, B: Allocator + Copy>(
     alloc: A,
     heap: &Plain<B>,
 ) -> Result<Graph<A>, OutOfMemory>
-    requires { length heap.now.objects ≤ 16777216 }
+    requires { length heap.now.objects ≤ MAX_OBJECTS }
     ensures { IfOk result (λ graph. graph ≡ plain_dump_of heap.now) }
 {
     dump_of_source(alloc, heap)

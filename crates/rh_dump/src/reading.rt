@@ -47,7 +47,7 @@ fn read_lines<A: Allocator + Copy>(
     bytes: &[u8],
 ) -> Result<(), DumpReadError>
     ensures { Gives (λ _. builder.new) result (put_lines builder.old
-        (lines_from 268435456 dues.Header 1 0 (lines_of bytes.now))) }
+        (lines_from MAX_DUMP_BYTES dues.Header 1 0 (lines_of bytes.now))) }
 {
     let mut due = Due::Header;
     let mut number = 1u32;

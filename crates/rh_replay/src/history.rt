@@ -4,6 +4,7 @@ ghost use Rattle.std.specs.Prelude.{◌≡◌, ◌+◌, ◌<◌, ◌≤◌, IfOk
 ghost use Rattle.rh_replay.specs.History.{CallFits, IsHistory, empty_history, with_call};
 
 use crate::call::Call;
+use rh_layout::limits::MAX_HISTORY_CALLS;
 use rh_layout::{MAX_OWNERS, MAX_SLOTS};
 use std::alloc::{AllocError, Allocator, Global};
 use std::marker::Model;
@@ -100,7 +101,7 @@ impl<A: Allocator + Copy> History<A> {
     /// Puts a call after the others, for which there is room.
     pub(crate) fn note(&mut self, call: Call)
         requires fits { CallFits call }
-        requires few { length self.old.contents.calls < 1048576 }
+        requires few { length self.old.contents.calls < MAX_HISTORY_CALLS }
         requires room { 0 < self.old.room }
         ensures contents { self.new.contents ≡ with_call self.old.contents call }
         ensures room { self.old.room ≤ self.new.room + 1 }

@@ -41,12 +41,13 @@ pub struct Recorder<A: Allocator = Global> {
 impl<A: Allocator> Model for Recorder<A> {
     ghost use Rattle.std.specs.Prelude.{◌≤◌, ◌+◌, length};
     ghost use Rattle.rh_replay.specs.History.{RecorderState};
+    ghost use Rattle.rh_layout.specs.declared.limits.TheConstants.{MAX_HISTORY_CALLS};
 
     ghost Value = { RecorderState };
 
     ghost view = { λ r. record { history = r.history.contents; limit = r.limit } };
 
-    ghost invariant = { λ r. (1 ≤ r.limit) × (r.limit ≤ 1048576)
+    ghost invariant = { λ r. (1 ≤ r.limit) × (r.limit ≤ MAX_HISTORY_CALLS)
         × (length r.history.contents.calls ≤ r.limit)
         × (r.limit ≤ length r.history.contents.calls + r.history.room) };
 }
