@@ -1,4 +1,5 @@
 pub mod Consumes
 pub mod ReadNumber
+pub mod NumberHead
 pub mod ReadInteger
 pub mod WellFormed

@@ -72,7 +72,7 @@ impl Calls {
 
     /// As many calls may be made as before the first.
     pub(crate) fn renew(&mut self)
-        ensures { self.new ≡ record self.old { left = 33554432 } }
+        ensures { self.new ≡ record self.old { left = MAX_CALLS } }
     {
         self.left = MAX_CALLS;
     }

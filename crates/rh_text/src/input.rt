@@ -31,9 +31,9 @@ pub enum InputFault {
 /// Puts bytes after those that were read.
 fn keep<A: Allocator>(text: &mut Vec<u8, A>, bytes: &[u8]) -> Result<(), InputFault>
     ensures ok { OnOk result (text.new.items ≡ text.old.items ++ bytes.now) }
-    ensures few { OnOk result (length text.new.items ≤ 16777216) }
+    ensures few { OnOk result (length text.new.items ≤ MAX_INPUT_BYTES) }
     ensures long { IsErrOf result InputFault.Long
-        → 16777216 < length text.old.items + length bytes.now }
+        → MAX_INPUT_BYTES < length text.old.items + length bytes.now }
     ensures never_read { ¬ IsErrOf result InputFault.Read }
 {
     if bytes.len() > MAX_INPUT_BYTES {

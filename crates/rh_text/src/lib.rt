@@ -8,6 +8,7 @@
 mod calls;
 mod input;
 pub mod laws;
+mod leading;
 mod line_text;
 mod number;
 mod output;
@@ -17,6 +18,7 @@ mod root;
 
 pub use calls::{Calls, is_interrupted};
 pub use input::{InputFault, read_all, read_past};
+pub use leading::{after_byte, after_bytes, leading_number, leading_root};
 pub use line_text::LineText;
 pub use number::{read_integer, read_number};
 pub use output::{Write, send};
