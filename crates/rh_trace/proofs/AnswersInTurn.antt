@@ -1,39 +1,40 @@
 -- Lines run one after the other, and what a run gives.
-use Rattle.std.proofs.Common.{◌≡◌, ℕ, ◌+◌, ◌<◌, ◌≤◌, suc, Bool, true, false, cond, List, [], ◌∷◌, length, get_or, take, drop, Option, Some, None, Result, Ok, Err, refl, sym, ap, ◌∙◌, arith}
+use Rattle.std.proofs.Common.{◌≡◌, ℕ, ◌+◌, ◌<◌, ◌≤◌, suc, Bool, true, false, cond, List, [], ◌∷◌, ◌++◌, length, get_or, take, drop, Option, Some, None, Result, Ok, Err, refl, sym, ap, subst, ◌∙◌, arith}
 use Rattle.std.specs.Prelude.{count_by, IfSome}
 use Rattle.std.specs.Int.{from_bool}
-use Rattle.std.proofs.lemmas.List.{drop_more}
+use Rattle.std.proofs.lemmas.List.{drop_more, take_more}
 use Rattle.std.proofs.lemmas.List.Sums.{count_by_more_yes, count_by_more_no}
 use Rattle.rh_core.specs.declared.config.ConfigFault.{ConfigFault}
 use Rattle.rh_core.specs.declared.config.HeapError.{HeapError}
 use Rattle.rh_core.specs.Config.{fault_of}
-use Rattle.rh_core.specs.Heap.{HeapState}
+use Rattle.rh_core.specs.Cycle.{IsWellFormed}
+use Rattle.rh_core.specs.Heap.{HeapState, new_heap}
 use Rattle.rh_trace.specs.declared.fault.TraceFault.{TraceFault}
 use Rattle.rh_trace.specs.declared.run_fault.RunFault.TheVariants as faults
 use Rattle.rh_trace.specs.declared.line.Line.{Line}
 use Rattle.rh_trace.specs.declared.summary.Summary.{Summary}
 use Rattle.rh_trace.specs.Spelling.{Script}
-use Rattle.rh_trace.specs.Answers.{Answered, is_answer, is_refused}
-use Rattle.rh_trace.specs.Run.{RunState, config_of, line_step, answers_to, answers_of, summary_of, summary_with, output_of, run_of_script, run_of_trace, run_of, text_of, Ends}
+use Rattle.rh_trace.specs.Answers.{Answered, is_answer, is_refused, is_flip, flip_of, words_of, root_words_of}
+use Rattle.rh_trace.specs.Engine.{EngineState}
+use Rattle.rh_trace.specs.Run.{config_of, line_step, answers_to, answers_of, summary_of, summary_with, output_of, run_of_script, run_of_trace, run_of, text_of, Ends}
 use Rattle.rh_text.specs.lemmas.Appends.{Appends-none}
 
-pub length-answers_to : (state : RunState) (lines : List Line) → length (answers_to state lines) ≡ length lines
+pub length-answers_to : (state : EngineState) (lines : List Line) → length (answers_to state lines) ≡ length lines
 length-answers_to state [] = refl
 length-answers_to state (line ∷ lines) = ap suc (length-answers_to (line_step state line).0 lines)
 
 -- one line more: what is answered to it, and to the lines after it
-pub record AnswersNext (answers : List Answered) (state : RunState) (lines : List Line) (i : ℕ) (line : Line) (d : Answered) : Type 0 where
+pub record AnswersNext (answers : List Answered) (state : EngineState) (lines : List Line) (i : ℕ) (line : Line) (d : Answered) : Type 0 where
   pub answer : get_or answers i d ≡ (line_step state line).1
   pub rest : drop (i + 1) answers ≡ answers_to (line_step state line).0 (drop (i + 1) lines)
 
 heads : (a b : Answered) (xs ys : List Answered) → a ∷ xs ≡ b ∷ ys → (a ≡ b) × (xs ≡ ys)
 heads a b xs ys e = (cc, cc)
 
-pub answers_next : (answers : List Answered) (state : RunState) (lines : List Line) (i : ℕ) (e : Line) (d : Answered) → i < length lines → length answers ≡ length lines → drop i answers ≡ answers_to state (drop i lines) → AnswersNext answers state lines i (get_or lines i e) d
-answers_next answers state lines i e d lt same so_far =
-    let line = get_or lines i e in
+pub answers_next : (answers : List Answered) (state : EngineState) (lines : List Line) (i : ℕ) (line : Line) (d : Answered) → line ≡ get_or lines i line → i < length lines → length answers ≡ length lines → drop i answers ≡ answers_to state (drop i lines) → AnswersNext answers state lines i line d
+answers_next answers state lines i line d is lt same so_far =
     let here = drop_more answers i d (omega (arith, same)) in
-    let there = ap (answers_to state) (drop_more lines i e lt) in
+    let there = ap (answers_to state) (drop_more lines i line lt ∙ ap (λ (l : Line). l ∷ drop (i + 1) lines) (sym is)) in
     let both = heads (get_or answers i d) (line_step state line).1 (drop (i + 1) answers) (answers_to (line_step state line).0 (drop (i + 1) lines)) (sym here ∙ so_far ∙ there) in
     record { answer = both.0; rest = both.1 }
 
@@ -41,8 +42,17 @@ count_more : (test : Answered → Bool) (answers : List Answered) (i : ℕ) (d :
 count_more test answers i d true lt e = count_by_more_yes test answers i d lt e
 count_more test answers i d false lt e = omega (arith, count_by_more_no test answers i d lt e)
 
-sums : (c r e s : ℕ) → c ≡ e → r ≡ s → ◌≡◌ {A = Summary} (record { commands = c; refused = r; flips = 0; root_words = 0 }) (record { commands = e; refused = s; flips = 0; root_words = 0 })
-sums c r e s p q = cc
+root_words_of-append : (xs ys : List Answered) → root_words_of (xs ++ ys) ≡ root_words_of xs + root_words_of ys
+root_words_of-append [] ys = omega arith
+root_words_of-append (x ∷ xs) ys = omega (arith, root_words_of-append xs ys)
+
+root_words_of-more : (answers : List Answered) (i : ℕ) (d : Answered) → i < length answers → root_words_of (take i answers) + words_of (flip_of (get_or answers i d)) ≡ root_words_of (take (i + 1) answers)
+root_words_of-more answers i d lt =
+    let x = get_or answers i d in
+    omega (arith, ap root_words_of (take_more answers i d lt), root_words_of-append (take i answers) (x ∷ []))
+
+sums : (a b c d e f g h : ℕ) → a ≡ e → b ≡ f → c ≡ g → d ≡ h → ◌≡◌ {A = Summary} (record { commands = a; refused = b; flips = c; root_words = d }) (record { commands = e; refused = f; flips = g; root_words = h })
+sums a b c d e f g h p q r s = cc
 
 -- one more is counted
 pub summary_more : (answers : List Answered) (i : ℕ) (d : Answered) → i < length answers → summary_with (summary_of (take i answers)) (get_or answers i d) ≡ summary_of (take (i + 1) answers)
@@ -50,7 +60,10 @@ summary_more answers i d lt =
     let x = get_or answers i d in
     let commands = count_more is_answer answers i d (is_answer x) lt refl in
     let refused = count_more is_refused answers i d (is_refused x) lt refl in
-    sums (count_by is_answer (take i answers) + cond (is_answer x) 1 0) (count_by is_refused (take i answers) + cond (is_refused x) 1 0) (count_by is_answer (take (i + 1) answers)) (count_by is_refused (take (i + 1) answers)) (sym commands) (sym refused)
+    let flips = count_more is_flip answers i d (is_flip x) lt refl in
+    sums (count_by is_answer (take i answers) + cond (is_answer x) 1 0) (count_by is_refused (take i answers) + cond (is_refused x) 1 0) (count_by is_flip (take i answers) + cond (is_flip x) 1 0) (root_words_of (take i answers) + words_of (flip_of x))
+    (count_by is_answer (take (i + 1) answers)) (count_by is_refused (take (i + 1) answers)) (count_by is_flip (take (i + 1) answers)) (root_words_of (take (i + 1) answers))
+    (sym commands) (sym refused) (sym flips) (root_words_of-more answers i d lt)
 
 pub bit_le : (b : Bool) → cond b 1 0 ≤ 1
 bit_le true = omega arith
@@ -81,3 +94,18 @@ refused_with made e d p q = cc
 
 pub not_refused : (made : Result HeapState HeapError) (h : HeapState) (e : HeapError) → made ≡ Ok h → made ≡ Err e → ⊥
 not_refused made h e p q = absurd cc
+
+same_script : (read : Result Script TraceFault) (a b : Script) → read ≡ Ok a → read ≡ Ok b → a ≡ b
+same_script read a b p q = cc
+
+-- the heap of the trace that was read is a heap that was made
+pub is_begun : (read : Result Script TraceFault) (script : Script) (h : HeapState) → read ≡ Ok script → h ≡ new_heap (config_of script.header) → IsWellFormed h
+    → (other : Script) → read ≡ Ok other → fault_of (config_of other.header) ≡ None → IsWellFormed (new_heap (config_of other.header))
+is_begun read script h is made fine other same faultless = subst IsWellFormed (made ∙ ap (λ (s : Script). new_heap (config_of s.header)) (same_script read script other is same)) fine
+
+-- and where its sizes have a fault there is none
+pub is_faulty : (read : Result Script TraceFault) (script : Script) (fault : ConfigFault) → read ≡ Ok script → fault_of (config_of script.header) ≡ Some fault
+    → (other : Script) → read ≡ Ok other → fault_of (config_of other.header) ≡ None → ⊥
+is_faulty read script fault is bad other same faultless =
+    let both : Some fault ≡ None = sym bad ∙ ap (λ (s : Script). fault_of (config_of s.header)) (same_script read script other is same) ∙ faultless in
+    absurd cc

@@ -1,18 +1,18 @@
 -- A deal into a tray is refused by the first refusal that holds, and changes nothing then.
-use Rattle.std.proofs.Common.{◌≡◌, ◌≢◌, ℕ, zero, suc, ◌<◌, ◌≤◌, ◌⊎◌, inl, inr, Bool, true, false, not, ◌==◌, ◌&&◌, if◌then◌else◌, List, length, Option, Some, None, is_none, Result, Ok, Err, unwrap_or, refl, sym, ◌∙◌, ap, subst, true≢false, arith}
+use Rattle.std.proofs.Common.{◌≡◌, ℕ, zero, suc, ◌<◌, ◌⊎◌, inl, inr, Bool, true, false, not, ◌==◌, ◌&&◌, if◌then◌else◌, List, length, Option, Some, None, is_none, Result, Ok, Err, unwrap_or, refl, sym, ◌∙◌, ap, subst, true≢false, arith}
 use Rattle.std.specs.Prelude.{nat_le}
 use Rattle.std.proofs.lemmas.Bool.{leb-true, le-leb}
 use Rattle.std.specs.Cmp.{nat_eq_equiv}
 use borrow.Author.Tests.{eqb-true}
 use Rattle.rh_text.specs.Stages.{IsLeast, IsFaultless}
-use Rattle.rh_core.specs.Dealing.{deal_step, deal_unless, deal_refusal}
+use Rattle.rh_core.specs.Dealing.{deal_step}
 use Rattle.rh_core.specs.Heap.{HeapState}
 use Rattle.rh_core.specs.declared.outcomes.Dealt.{Dealt}
 use Rattle.rh_core.specs.declared.outcomes.Kind.{Kind}
 use Rattle.rh_core.specs.declared.refusals.DealError.{DealError}
 use Rattle.rh_core.specs.declared.refusals.DealError.TheVariants as deal_errors
-use Rattle.rh_trace.specs.Trays.{Tray, Trays, tray_named, tray_or_empty, empty_tray, is_beyond}
-use Rattle.rh_trace.specs.Engine.{EngineState, tray_refusal, deal_done, deal_unless as line_unless, deal_line_step, IsOneTooMany, IsOfOtherEpoch, IsHeapRefusal, refusals_of_deal}
+use Rattle.rh_trace.specs.Trays.{Tray, tray_named, tray_or_empty, empty_tray, is_beyond}
+use Rattle.rh_trace.specs.Engine.{EngineState, deal_done, deal_unless as line_unless, deal_line_step, IsOneTooMany, IsOfOtherEpoch, refusals_of_deal}
 use Rattle.rh_trace.specs.declared.engine.Counted.{Counted}
 use Rattle.rh_trace.specs.declared.engine.DealRefusal.{DealRefusal}
 use Rattle.rh_trace.specs.declared.engine.DealRefusal.TheVariants as deal_refusals

@@ -1,13 +1,11 @@
 -- A join and a give of trays are refused by the first refusal that holds.
-use Rattle.std.proofs.Common.{◌≡◌, ℕ, zero, suc, ◌<◌, ◌≤◌, ◌⊎◌, inl, inr, Bool, true, false, ◌&&◌, if◌then◌else◌, List, length, Option, Some, None, is_none, Result, Ok, Err, refl, sym, ◌∙◌, ap, subst, true≢false, arith}
-use Rattle.std.specs.Prelude.{nat_le}
-use Rattle.std.proofs.lemmas.Bool.{leb-true, le-leb}
+use Rattle.std.proofs.Common.{◌≡◌, ℕ, zero, suc, ◌<◌, ◌⊎◌, inl, inr, Bool, true, false, if◌then◌else◌, List, Option, Some, None, Result, Ok, Err, refl, sym, ◌∙◌, ap, subst, true≢false, arith}
 use Rattle.rh_text.specs.Stages.{IsLeast, IsFaultless}
 use Rattle.rh_core.specs.Giving.{give_step}
 use Rattle.rh_core.specs.declared.outcomes.Given.{Given}
 use Rattle.rh_core.specs.declared.refusals.GiveError.{GiveError}
 use Rattle.rh_trace.specs.Trays.{Tray, Trays, tray_named, is_beyond, with_join, join_found, replica_of}
-use Rattle.rh_trace.specs.Engine.{EngineState, join_line_step, give_line_step, given_or_refused, give_found, IsOneTooMany, refusals_of_join, refusals_of_give}
+use Rattle.rh_trace.specs.Engine.{EngineState, join_line_step, give_line_step, given_or_refused, give_found, refusals_of_join, refusals_of_give}
 use Rattle.rh_trace.specs.declared.engine.GiveRefusal.{GiveRefusal}
 use Rattle.rh_trace.specs.declared.engine.GiveRefusal.TheVariants as give_refusals
 use Rattle.rh_trace.specs.declared.trays.JoinRefusal.{JoinRefusal}

@@ -1,16 +1,27 @@
 -- What a run writes are the answers of a plain heap.
-use Rattle.std.proofs.Common.{◌≡◌, ℕ, ◌<◌, List, [], ◌∷◌, ◌++◌, length, Option, Some, None, Result, Ok, Err, refl, ap, subst, ◌∙◌, arith}
+use Rattle.std.proofs.Common.{◌≡◌, ℕ, ◌<◌, List, [], ◌∷◌, ◌++◌, length, Option, Some, None, Result, Ok, Err, refl, sym, ap, subst, ◌∙◌, arith}
 use Rattle.std.specs.Prelude.{IfOk, IsErrOf}
 use Rattle.std.specs.Io.KnownBytes.{Appends, Consumes}
 use Rattle.std.proofs.lemmas.List.{length-append}
-use Rattle.rh_layout.specs.declared.command.Command.{Command}
-use Rattle.rh_model.specs.Plain.{PlainHeap, empty_plain, step}
+use Rattle.rh_model.specs.Plain.{PlainHeap, empty_plain}
 use Rattle.rh_core.specs.declared.config.Config.{Config}
 use Rattle.rh_core.specs.declared.config.ConfigFault.{ConfigFault}
 use Rattle.rh_core.specs.Config.{fault_of}
 use Rattle.rh_core.specs.Mutator.{StandsFor}
 use Rattle.rh_core.specs.Heap.{HeapState, new_heap}
-use Rattle.rh_core.specs.Commands.{heap_step, is_limit_answer, AnswersAs, plain_unless}
+use Rattle.rh_core.specs.declared.event.Event.{Event}
+use Rattle.rh_core.specs.declared.event.Event.TheVariants as happenings
+use Rattle.rh_core.specs.declared.outcomes.Dealt.{Dealt}
+use Rattle.rh_core.specs.declared.outcomes.Kind.{Kind}
+use Rattle.rh_core.specs.declared.refusals.DealError.{DealError}
+use Rattle.rh_core.specs.Cycle.{IsWellFormed}
+use Rattle.rh_core.specs.Dealing.{deal_step}
+use Rattle.rh_core.specs.Run as events
+use Rattle.rh_core.specs.Run.{event_step}
+use Rattle.rh_core.specs.Stat.{stat_of}
+use Rattle.rh_trace.specs.declared.engine.DealRefusal.{DealRefusal}
+use Rattle.rh_trace.specs.Trays.{Trays, Tray, tray_named, replica_of}
+use Rattle.rh_trace.specs.Engine.{EngineState, command_step, begin_line_step, shade_line_step, deal_line_step, deal_unless, deal_done, tray_refusal, give_line_step, give_found, join_line_step, flip_line_step}
 use Rattle.rh_trace.specs.declared.fault.TraceFault.{TraceFault}
 use Rattle.rh_trace.specs.declared.run_fault.RunFault.{RunFault}
 use Rattle.rh_trace.specs.declared.run_fault.RunFault.TheVariants as faults
@@ -23,15 +34,10 @@ use Rattle.rh_dump.specs.HeapDump.{dump_of, plain_dump_of}
 use Rattle.rh_trace.specs.declared.line.Asked.{Asked}
 use Rattle.rh_trace.specs.declared.line.Asked.TheVariants as asked
 use Rattle.rh_trace.specs.Line.{asked_of}
+use Rattle.rh_trace.specs.Answers as answers
 use Rattle.rh_trace.specs.Answers.{Answered}
-use Rattle.rh_trace.specs.Run.{RunState, config_of, asked_step, line_step, answers_to, new_run, answers_of, summary_of, output_of, run_of_script, run_of_trace, text_of, Ends, IsPlainAnswer, plain_after, AreTransparent, IsPlainRun}
+use Rattle.rh_trace.specs.Run.{config_of, asked_step, line_step, answers_to, new_run, answers_of, summary_of, output_of, run_of_script, run_of_trace, text_of, Ends, IsPlainAnswer, plain_after, AreTransparent, IsPlainRun}
 use Rattle.rh_trace.specs.lemmas.ReadIsSpelled.{trace_of-means}
-
--- a heap that stands for a plain heap answers as it does, and goes on to stand for it
-abbrev pub Steps : Type 0
-Steps = (h : HeapState) (p : PlainHeap) → StandsFor h.mutators p → (owner : ℕ) (command : Command)
-    → AnswersAs (is_limit_answer (heap_step h owner command).1) (heap_step h owner command).1 (step p owner command).1
-    × StandsFor (heap_step h owner command).0.mutators (plain_unless (is_limit_answer (heap_step h owner command).1) p owner command)
 
 -- a new heap stands for the empty plain heap
 abbrev pub Begins : Type 0
@@ -41,27 +47,84 @@ Begins = (c : Config) → StandsFor (new_heap c).mutators (empty_plain c.owners 
 abbrev pub Dumps : Type 0
 Dumps = (h : HeapState) (p : PlainHeap) → StandsFor h.mutators p → dump_of h ≡ plain_dump_of p
 
--- what is asked is answered as by the plain heap, and the heap goes on to stand for it
-asked-transparent : Steps → Dumps → (what : Asked) (state : RunState) (p : PlainHeap) → StandsFor state.heap.mutators p
-    → IsPlainAnswer p what (asked_step state what).1 × StandsFor (asked_step state what).0.heap.mutators (plain_after p what (asked_step state what).1)
-asked-transparent steps dumps (asked.Command owner command) state p stands = steps state.heap p stands owner command
-asked-transparent steps dumps asked.Dump state p stands = (dumps state.heap p stands, stands)
+-- each event keeps a heap well formed
+abbrev pub Keeps : Type 0 → Type 0
+Keeps A = (h : HeapState) → IsWellFormed h → (event : Event A) → IsWellFormed (event_step h event).0
 
-answers-transparent : Steps → Dumps → (lines : List Line) (state : RunState) (p : PlainHeap) → StandsFor state.heap.mutators p → AreTransparent p lines (answers_to state lines)
-answers-transparent steps dumps [] state p stands = tt
-answers-transparent steps dumps (line ∷ lines) state p stands =
-    let one = asked-transparent steps dumps (asked_of line) state p stands in
-    (one.0, answers-transparent steps dumps lines (line_step state line).0 (plain_after p (asked_of line) (line_step state line).1) one.1)
+-- a well-formed heap that stands for a plain heap answers an event as it does, and goes on to stand for it
+abbrev pub Steps : Type 0 → Type 0
+Steps A = (h : HeapState) → IsWellFormed h → (p : PlainHeap) → StandsFor h.mutators p → (event : Event A)
+    → events.IsPlainAnswer p event (event_step h event).1
+    × StandsFor (event_step h event).0.mutators (events.plain_after p event (event_step h event).1)
 
--- a trace that was read, with its answers
-plain_run : Begins → Steps → Dumps → (input : List ℕ) (script : Script) (old new : Option (List ℕ)) → Consumes old new input → trace_of input ≡ Ok script → IsPlainRun script (answers_of script) old new
-plain_run begins steps dumps input script old new consumed is =
-    let takes = trace_of-means input script is in
-    record {
-      fits = takes.0;
-      read = subst (Consumes old new) takes.1 consumed;
-      answered = answers-transparent steps dumps script.lines (new_run script) (empty_plain script.header.owners script.header.slots) (begins (config_of script.header));
-    }
+-- the heap that a trace begins with, where its sizes have no fault
+abbrev pub IsBegun : List ℕ → Type 0
+IsBegun input = (script : Script) → trace_of input ≡ Ok script → fault_of (config_of script.header) ≡ None → IsWellFormed (new_heap (config_of script.header))
+
+-- a well-formed heap that stands for a plain heap
+abbrev IsPlain : HeapState → PlainHeap → Type 0
+IsPlain h p = IsWellFormed h × StandsFor h.mutators p
+
+-- once a deal was answered, the heap is what it was given as
+heap-deal_done : (h : HeapState) (dealt : Result Dealt DealError) (trays : Trays) (name : List ℕ) → (deal_done h dealt trays name).0.heap ≡ h
+heap-deal_done h (Ok dealt) trays name = refl
+heap-deal_done h (Err why) trays name = refl
+
+module _ {A : Type 0} (keeps : Keeps A) (steps : Steps A) where
+  event-plain : (h : HeapState) (p : PlainHeap) → IsPlain h p → (event : Event A) → IsPlain (event_step h event).0 (events.plain_after p event (event_step h event).1)
+  event-plain h p plain event = (keeps h plain.0 event, (steps h plain.0 p plain.1 event).1)
+
+  deal-plain : (refusal : Option DealRefusal) (e : EngineState) (p : PlainHeap) (kind : Kind) (most : ℕ) (name : List ℕ) → IsPlain e.heap p → IsPlain (deal_unless refusal e kind most name).0.heap p
+  deal-plain (Some why) e p kind most name plain = plain
+  deal-plain None e p kind most name plain =
+      subst (λ (h : HeapState). IsPlain h p) (sym (heap-deal_done (deal_step e.heap kind most).0 (deal_step e.heap kind most).1 e.trays name)) (event-plain e.heap p plain (happenings.Deal kind most))
+
+  give-plain : (found : Option Tray) (e : EngineState) (p : PlainHeap) → IsPlain e.heap p → IsPlain (give_found found e).0.heap p
+  give-plain None e p plain = plain
+  give-plain (Some t) e p plain = event-plain e.heap p plain (happenings.Give (replica_of t))
+
+  -- what is asked is answered as by the plain heap
+  asked-answer : Dumps → (what : Asked) (e : EngineState) (p : PlainHeap) → IsPlain e.heap p → IsPlainAnswer p what (asked_step e what).1
+  asked-answer dumps (asked.Command owner command) e p plain = ((command_step e owner command).1, refl, (steps e.heap plain.0 p plain.1 (happenings.Command owner command)).0)
+  asked-answer dumps asked.Begin e p plain = ((begin_line_step e).1, refl)
+  asked-answer dumps (asked.Shade root) e p plain = ((shade_line_step e root).1, refl)
+  asked-answer dumps (asked.Deal kind most tray) e p plain = ((deal_line_step e kind most tray).1, refl)
+  asked-answer dumps (asked.Give tray) e p plain = ((give_line_step e tray).1, refl)
+  asked-answer dumps (asked.Join into other) e p plain = ((join_line_step e into other).1, refl)
+  asked-answer dumps asked.Flip e p plain = ((flip_line_step e).1, refl)
+  asked-answer dumps asked.Trays e p plain = (e.trays, refl)
+  asked-answer dumps asked.Stat e p plain = (stat_of e.heap, refl)
+  asked-answer dumps asked.Dump e p plain = ap answers.Dump (dumps e.heap p plain.1)
+
+  -- and the heap goes on to stand for it
+  asked-plain : (what : Asked) (e : EngineState) (p : PlainHeap) → IsPlain e.heap p → IsPlain (asked_step e what).0.heap (plain_after p what (asked_step e what).1)
+  asked-plain (asked.Command owner command) e p plain = event-plain e.heap p plain (happenings.Command owner command)
+  asked-plain asked.Begin e p plain = event-plain e.heap p plain happenings.Begin
+  asked-plain (asked.Shade root) e p plain = event-plain e.heap p plain (happenings.Shade root)
+  asked-plain (asked.Deal kind most tray) e p plain = deal-plain (tray_refusal e tray) e p kind most tray plain
+  asked-plain (asked.Give tray) e p plain = give-plain (tray_named e.trays tray) e p plain
+  asked-plain (asked.Join into other) e p plain = plain
+  asked-plain asked.Flip e p plain = event-plain e.heap p plain happenings.Flip
+  asked-plain asked.Trays e p plain = plain
+  asked-plain asked.Stat e p plain = plain
+  asked-plain asked.Dump e p plain = plain
+
+  answers-transparent : Dumps → (lines : List Line) (e : EngineState) (p : PlainHeap) → IsPlain e.heap p → AreTransparent p lines (answers_to e lines)
+  answers-transparent dumps [] e p plain = tt
+  answers-transparent dumps (line ∷ lines) e p plain = (
+    asked-answer dumps (asked_of line) e p plain,
+    answers-transparent dumps lines (line_step e line).0 (plain_after p (asked_of line) (line_step e line).1) (asked-plain (asked_of line) e p plain),
+  )
+
+  -- a trace that was read, with its answers
+  plain_run : Begins → Dumps → (input : List ℕ) (script : Script) (old new : Option (List ℕ)) → Consumes old new input → trace_of input ≡ Ok script → IsWellFormed (new_heap (config_of script.header)) → IsPlainRun script (answers_of script) old new
+  plain_run begins dumps input script old new consumed is fine =
+      let takes = trace_of-means input script is in
+      record {
+        fits = takes.0;
+        read = subst (Consumes old new) takes.1 consumed;
+        answered = answers-transparent dumps script.lines (new_run script) (empty_plain script.header.owners script.header.slots) (fine, begins (config_of script.header));
+      }
 
 -- ---- from what a run was to give to the trace that was read
 
@@ -69,38 +132,41 @@ plain_run begins steps dumps input script old new consumed is =
 pub record IsRunOf (read : Result Script TraceFault) (run : List ℕ × Summary) : Type 0 where
   pub script : Script
   pub is : read ≡ Ok script
+  pub faultless : fault_of (config_of script.header) ≡ None
   pub text : run.0 ≡ output_of (answers_of script)
   pub summary : run.1 ≡ summary_of (answers_of script)
 
-run_of_script_ok : (fault : Option ConfigFault) (script : Script) (run : List ℕ × Summary) → run_of_script fault script ≡ Ok run → run ≡ (output_of (answers_of script), summary_of (answers_of script))
+run_of_script_ok : (fault : Option ConfigFault) (script : Script) (run : List ℕ × Summary) → run_of_script fault script ≡ Ok run → (fault ≡ None) × (run ≡ (output_of (answers_of script), summary_of (answers_of script)))
 run_of_script_ok (Some fault) script run e = absurd cc
-run_of_script_ok None script run e = cc
+run_of_script_ok None script run e = (refl, cc)
 
 run_ok : (read : Result Script TraceFault) (run : List ℕ × Summary) → run_of_trace read ≡ Ok run → IsRunOf read run
 run_ok (Err fault) run e = absurd cc
 run_ok (Ok script) run e =
     let same = run_of_script_ok (fault_of (config_of script.header)) script run e in
-    record { script = script; is = refl; text = ap (λ (r : List ℕ × Summary). r.0) same; summary = ap (λ (r : List ℕ × Summary). r.1) same }
+    record { script = script; is = refl; faultless = same.0; text = ap (λ (r : List ℕ × Summary). r.0) same.1; summary = ap (λ (r : List ℕ × Summary). r.1) same.1 }
 
 -- some text was to be written
 run_is_due : (due : Result (List ℕ × Summary) RunFault) (prefix rest : List ℕ) → text_of due ≡ prefix ++ rest → 0 < length rest → (run : List ℕ × Summary) × (due ≡ Ok run)
 run_is_due (Ok run) prefix rest e some = (run, refl)
 run_is_due (Err fault) prefix rest e some = absurd (omega (arith, ap length e, length-append prefix rest, some))
 
-module _ (begins : Begins) (steps : Steps) (dumps : Dumps) (input : List ℕ) (from to old new : Option (List ℕ)) (consumed : Consumes from to input) where
-  pub plain : (result : Result Summary RunFault) → Ends (run_of_trace (trace_of input)) result old new
+module _ {A : Type 0} (keeps : Keeps A) (steps : Steps A) (begins : Begins) (dumps : Dumps) (input : List ℕ) (from to old new : Option (List ℕ)) (consumed : Consumes from to input) where
+  pub plain : (result : Result Summary RunFault) → (¬ IsErrOf result faults.OutOfMemory → IsBegun input) → Ends (run_of_trace (trace_of input)) result old new
       → IfOk result (λ summary. (script : Script) × (answers : List Answered) × IsPlainRun script answers from to × (summary ≡ summary_of answers) × Appends old new (output_of answers))
-  plain (Err fault) ends = tt
-  plain (Ok summary) ends =
+  plain (Err fault) begun ends = tt
+  plain (Ok summary) begun ends =
       let due = run_of_trace (trace_of input) in
       let ran = run_ok (trace_of input) (text_of due, summary) ends.0 in
-      (ran.script, answers_of ran.script, plain_run begins steps dumps input ran.script from to consumed ran.is, ran.summary, subst (Appends old new) ran.text ends.1)
+      let fine = begun (λ same. cc) ran.script ran.is ran.faultless in
+      (ran.script, answers_of ran.script, plain_run keeps steps begins dumps input ran.script from to consumed ran.is fine, ran.summary, subst (Appends old new) ran.text ends.1)
 
-  pub plain_prefix : (result : Result Summary RunFault) → Ends (run_of_trace (trace_of input)) result old new
+  pub plain_prefix : (result : Result Summary RunFault) → (¬ IsErrOf result faults.OutOfMemory → IsBegun input) → Ends (run_of_trace (trace_of input)) result old new
       → IsErrOf result faults.Write → (script : Script) × (answers : List Answered) × IsPlainRun script answers from to × AppendsLess old new (output_of answers)
-  plain_prefix result ends failed =
+  plain_prefix result begun ends failed =
       let due = run_of_trace (trace_of input) in
       let less : AppendsLess old new (text_of due) = subst (λ (r : Result Summary RunFault). Ends due r old new) failed ends in
       let some = run_is_due due less.0 less.1 less.2 less.3 in
       let ran = run_ok (trace_of input) some.0 some.1 in
-      (ran.script, answers_of ran.script, plain_run begins steps dumps input ran.script from to consumed ran.is, subst (AppendsLess old new) (ap text_of some.1 ∙ ran.text) less)
+      let fine = begun (λ same. absurd cc) ran.script ran.is ran.faultless in
+      (ran.script, answers_of ran.script, plain_run keeps steps begins dumps input ran.script from to consumed ran.is fine, subst (AppendsLess old new) (ap text_of some.1 ∙ ran.text) less)

@@ -1,5 +1,5 @@
 -- Entries in order of place with items joined in: their order, and what they have at each place.
-use Rattle.std.proofs.Common.{◌≡◌, ℕ, List, [], ◌∷◌, ◌++◌, Bool, true, false, cond, Option, Some, None, map, find, refl, sym, ◌∙◌, ap, subst}
+use Rattle.std.proofs.Common.{◌≡◌, ℕ, List, [], ◌∷◌, Bool, true, false, cond, Option, Some, None, map, find, refl, sym, ◌∙◌, ap, subst}
 use Rattle.std.specs.Prelude.{nat_lt}
 use Rattle.std.specs.Ordering.{is_eq, ord_max}
 use Rattle.std.specs.Option.{option_map}
@@ -10,12 +10,12 @@ use Rattle.std.proofs.lemmas.Cmp.{eq_by_cmp_equiv}
 use Rattle.std.proofs.lemmas.Map.{lookup-none}
 use Rattle.std.proofs.lemmas.Map.Keys.{sorted_tail, IsDistinct-from_sorted}
 use Rattle.std.proofs.lemmas.Map.Entries.{none_past_head}
-use Rattle.rh_layout.specs.lemmas.Order.{place_cmp_total, pair_cmp_total, pair_cmp-exact}
+use Rattle.rh_layout.specs.lemmas.Order.{place_cmp_total}
 use Rattle.rh_layout.specs.Item.{Pair, place_of, pair_of, place_cmp, pair_cmp}
 use Rattle.rh_layout.specs.declared.item.Item.{Item}
 use Rattle.rh_layout.specs.declared.item.Place.{Place}
 use Rattle.rh_join.specs.Join.{IsAssociative}
-use Rattle.rh_join.specs.MapOf.{value_at, joined_at_key, joined_maps, IsBelow}
+use Rattle.rh_join.specs.MapOf.{value_at, joined_at_key, IsBelow}
 use Rattle.rh_join.specs.TotalOrder.{IsAtMost}
 use Rattle.rh_join.specs.lemmas.Join.{joined-associative}
 use Rattle.rh_join.specs.lemmas.MapOf.{map_order, joined_maps_least}
@@ -25,8 +25,7 @@ use Rattle.rh_partial.specs.Item.{is_of, newest}
 use Rattle.rh_partial.specs.PartialReplica.{ReplicaState, pair_at, joined_newest, content_of_replica, joined_replicas}
 use Rattle.rh_partial.proofs.EntryLemmas.{entries-same, replica-same}
 use Rattle.rh_partial.proofs.ItemLemmas.{is_of-place_cmp, newest_by, newest-append, joined_at_key-none, place-from_is_of}
-use Rattle.rh_core.specs.Dealing.{item_at}
-use Rattle.rh_trace.specs.Trays.{by_place, entries_of, newer_of, entries_with, entries_with_all, Tray, tray_of, joined_trays, tray_with}
+use Rattle.rh_trace.specs.Trays.{by_place, entries_of, newer_of, entries_with, entries_with_all, tray_of, joined_trays, tray_with}
 
 -- the entries stand in order of place
 abbrev pub Rises : List Item → Type 0

@@ -1,5 +1,5 @@
 -- The definitions at work: the texts of the answers to the lines of a cycle.
-use Rattle.std.proofs.Common.{◌≡◌, ℕ, [], ◌∷◌, Ok, Err, refl}
+use Rattle.std.proofs.Common.{◌≡◌, [], ◌∷◌, Ok, Err, refl}
 use Rattle.std.specs.Prelude.{◌++◌, true, false, codes}
 use Rattle.std.specs.Fmt.{digits}
 use Rattle.rh_layout.specs.declared.value.Value.TheVariants.{Nil}

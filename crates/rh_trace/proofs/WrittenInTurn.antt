@@ -1,8 +1,8 @@
 -- A text that is written in parts, one after the other, and where it ended.
-use Rattle.std.proofs.Common.{◌≡◌, ℕ, ◌+◌, ◌<◌, List, ◌∷◌, ◌++◌, length, get_or, take, drop, Option, Result, Ok, Err, sym, ap, subst, ◌∙◌, append_assoc}
+use Rattle.std.proofs.Common.{◌≡◌, ℕ, ◌+◌, ◌<◌, List, [], ◌∷◌, ◌++◌, length, get_or, take, drop, Option, Result, Ok, Err, sym, ap, subst, ◌∙◌, append_assoc}
 use Rattle.std.specs.List.{flat_map}
 use Rattle.std.specs.Io.KnownBytes.{Appends}
-use Rattle.std.proofs.lemmas.List.{take-append-drop, drop_more}
+use Rattle.std.proofs.lemmas.List.{append-nil, take-append-drop, drop_more}
 use Rattle.std.proofs.lemmas.List.Concat.{flat_map-append}
 use Rattle.rh_text.specs.Output.{AppendsPrefix, AppendsLess}
 use Rattle.rh_text.specs.lemmas.Appends.{Appends-then, Appends-less, less-more}
@@ -32,6 +32,11 @@ around {X} f xs i d last lt =
     let parts : xs ≡ take i xs ++ x ∷ drop (i + 1) xs = sym (take-append-drop i xs) ∙ ap (λ (ys : List X). take i xs ++ ys) (drop_more xs i d lt) in
     let joined : flat_map f xs ≡ flat_map f (take i xs) ++ (f x ++ rest) = ap (flat_map f) parts ∙ flat_map-append f (take i xs) (x ∷ drop (i + 1) xs) in
     ap (λ (t : List ℕ). t ++ last) joined ∙ append_assoc (flat_map f (take i xs)) (f x ++ rest) last ∙ ap (λ (t : List ℕ). flat_map f (take i xs) ++ t) (append_assoc (f x) rest last)
+
+-- where the text of one item wasn't written whole, after those before it, neither was that of all
+pub stopped_at : {T : Type 0} (X Y : Type 0) (stop : Stop) (a b c : Option (List ℕ)) (f : T → List ℕ) (xs : List T) (i : ℕ) (d : T) → i < length xs → Appends a b (flat_map f (take i xs)) → Writes {X = X} (f (get_or xs i d)) (Err stop) b c → Writes {X = Y} (flat_map f xs) (Err stop) a c
+stopped_at X Y stop a b c f xs i d lt p q =
+    stopped_within X Y stop a b c (flat_map f (take i xs)) (f (get_or xs i d)) (flat_map f (drop (i + 1) xs) ++ []) (flat_map f xs) (sym (append-nil (flat_map f xs)) ∙ around f xs i d [] lt) p q
 
 -- how writing ended, where it is known
 pub write_failed : (X : Type 0) (r : Result X Stop) (stop : Stop) (text : List ℕ) (a b : Option (List ℕ)) → r ≡ Err stop → stop ≡ stops.Write → Writes text r a b → AppendsLess a b text

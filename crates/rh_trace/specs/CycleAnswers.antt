@@ -1,5 +1,5 @@
 -- The texts of the answers to the lines of a cycle, without line ends.
-use Rattle.std.specs.Prelude.{ℕ, Bool, true, false, List, [], ◌∷◌, ◌++◌, length, Result, Ok, Err, codes, decimal}
+use Rattle.std.specs.Prelude.{ℕ, Bool, true, false, List, ◌++◌, length, Result, Ok, Err, codes, decimal}
 use Rattle.rh_text.specs.Root.{root_text}
 use Rattle.rh_core.specs.declared.outcomes.Flipped.{Flipped}
 use Rattle.rh_core.specs.declared.outcomes.Given.{Given}

@@ -1,5 +1,5 @@
 -- What the lines of a trace make of a heap and the trays, and what they are answered.
-use Rattle.std.specs.Prelude.{◌≡◌, ◌≢◌, ℕ, ◌≤◌, ◌==◌, not, false, if◌then◌else◌, List, [], length, Option, Some, None, Result, Ok, Err}
+use Rattle.std.specs.Prelude.{◌≡◌, ◌≢◌, ℕ, ◌≤◌, ◌==◌, not, false, if◌then◌else◌, List, length, Option, Some, None, Result, Ok, Err}
 use Rattle.rh_layout.specs.declared.command.Command.{Command}
 use Rattle.rh_layout.specs.declared.command.Reply.{Reply}
 use Rattle.rh_layout.specs.declared.command.RootId.{RootId}
@@ -29,7 +29,7 @@ use Rattle.rh_trace.specs.declared.engine.GiveRefusal.{GiveRefusal}
 use Rattle.rh_trace.specs.declared.engine.GiveRefusal.TheVariants as give_refusals
 use Rattle.rh_trace.specs.declared.trays.JoinRefusal.{JoinRefusal}
 use Rattle.rh_trace.specs.declared.trays.JoinRefusal.TheVariants as join_refusals
-use Rattle.rh_trace.specs.Trays.{Trays, Tray, tray_named, trays_with, tray_with, tray_or_empty, replica_of, is_beyond, join_step}
+use Rattle.rh_trace.specs.Trays.{Trays, Tray, tray_named, trays_with, tray_with, tray_or_empty, replica_of, is_beyond, join_step, IsFoldedInto}
 
 -- what the lines of a trace work on: the heap, and the trays
 pub record EngineState : Type 0 where
@@ -74,14 +74,14 @@ with_dealt trays name dealt =
     (tray_with (tray_or_empty trays name dealt.piece.epoch) dealt.piece.items)
 
 -- how many items a piece has, and how many entries were passed over
-abbrev pub counted : Dealt → Counted
-counted dealt = record { items = length dealt.piece.items; passed = dealt.passed }
+abbrev pub counts_of_dealt : Dealt → Counted
+counts_of_dealt dealt = record { items = length dealt.piece.items; passed = dealt.passed }
 
 -- the engine and the answer, once the heap was asked to deal
 abbrev pub deal_done : HeapState → Result Dealt DealError → Trays → List ℕ
     → EngineState × Result Counted DealRefusal
 deal_done heap (Ok dealt) trays name =
-    (record { heap = heap; trays = with_dealt trays name dealt }, Ok (counted dealt))
+    (record { heap = heap; trays = with_dealt trays name dealt }, Ok (counts_of_dealt dealt))
 deal_done heap (Err why) trays name =
     (record { heap = heap; trays = trays }, Err (deal_refusals.Heap why))
 
@@ -168,3 +168,13 @@ refusals_of_give e name =
     (give_refusals.NoTray when (tray_named e.trays name ≡ None))
     ▸ IsGiveRefusal e name
     ▸ no_fault
+
+-- The heap dealt a piece, which was folded into the tray of this name. Its items, and the entries
+-- that were passed over, are counted.
+pub record IsDealtInto (before after : EngineState) (kind : Kind) (most : ℕ) (name : List ℕ)
+    (done : Counted) : Type 0 where
+  pub dealt : Dealt
+  pub step : deal_step before.heap kind most ≡ (after.heap, Ok dealt)
+  pub folded : IsFoldedInto before.trays after.trays name dealt.piece
+  pub items : done.items ≡ length dealt.piece.items
+  pub passed : done.passed ≡ dealt.passed

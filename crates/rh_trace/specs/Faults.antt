@@ -8,8 +8,9 @@ use Rattle.rh_text.specs.Parts.{parts_of, IsFormedLine}
 use Rattle.rh_text.specs.Number.{IsU32, IsI64}
 use Rattle.rh_text.specs.Root.{root_text, RootFits}
 use Rattle.rh_text.specs.Stages.{◌when◌, no_fault, ◌▸◌, in_lines}
+use Rattle.rh_trace.specs.TrayName.{IsTrayName}
 use Rattle.rh_trace.specs.declared.fault.Kind.{Kind}
-use Rattle.rh_trace.specs.declared.fault.Kind.TheVariants.{Empty, Long, Cut, Form, Header, Word, Number, Root}
+use Rattle.rh_trace.specs.declared.fault.Kind.TheVariants.{Empty, Long, Cut, Form, Header, Word, Number, Root, Tray}
 
 -- what a part should be
 pub data Sort : Type 0 where
@@ -17,6 +18,8 @@ pub data Sort : Type 0 where
   number : Sort
   root : Sort
   operand : Sort
+  copies_or_entries : Sort
+  tray : Sort
 
 -- the sorts of a first line's parts: heap WORDS RATIO LOG OWNERS SLOTS
 abbrev pub header_form : List Sort
@@ -36,7 +39,15 @@ command_forms =
 -- each keyword that begins a line, with the sorts of its line's parts
 abbrev pub keyword_forms : List (List ℕ × List Sort)
 keyword_forms =
-    (codes "dump", keyword ∷ [])
+    (codes "begin", keyword ∷ [])
+    ∷ (codes "shade", keyword ∷ root ∷ [])
+    ∷ (codes "deal", keyword ∷ copies_or_entries ∷ number ∷ tray ∷ [])
+    ∷ (codes "give", keyword ∷ tray ∷ [])
+    ∷ (codes "join", keyword ∷ tray ∷ tray ∷ [])
+    ∷ (codes "flip", keyword ∷ [])
+    ∷ (codes "trays", keyword ∷ [])
+    ∷ (codes "stat", keyword ∷ [])
+    ∷ (codes "dump", keyword ∷ [])
     ∷ []
 
 -- the form that a table gives a keyword
@@ -66,13 +77,17 @@ abbrev pub IsDigitFirst : List ℕ → Type 0
 IsDigitFirst [] = ⊥
 IsDigitFirst (b ∷ bs) = (48 ≤ b) × (b ≤ 57)
 
--- from left to right, for each part: Number or Root, as the part should be one
+-- from left to right, for each part: Number, Root or Tray, as the part should be one, and Word
+-- where it should be `copies` or `entries`
 abbrev pub each_part : List Sort → List (List ℕ) → ℕ → Kind → Type 0
 each_part [] parts = no_fault
 each_part (sort ∷ sorts) [] = no_fault
 each_part (keyword ∷ sorts) (part ∷ parts) = each_part sorts parts
 each_part (number ∷ sorts) (part ∷ parts) = Number when (¬ IsNumber part) ▸ each_part sorts parts
 each_part (root ∷ sorts) (part ∷ parts) = Root when (¬ IsRoot part) ▸ each_part sorts parts
+each_part (copies_or_entries ∷ sorts) (part ∷ parts) =
+    Word when ((part ≢ codes "copies") × (part ≢ codes "entries")) ▸ each_part sorts parts
+each_part (tray ∷ sorts) (part ∷ parts) = Tray when (¬ IsTrayName part) ▸ each_part sorts parts
 each_part (operand ∷ sorts) (part ∷ parts) =
     Root when (HasDot part × (¬ IsRoot part))
     ▸ Number when ((¬ HasDot part) × (part ≢ codes "nil") × (¬ IsInteger part))

@@ -1,7 +1,9 @@
 pub mod TrayName
 pub mod Trays
 pub mod Engine
+pub mod Events
 pub mod CycleAnswers
+pub mod Leading
 pub mod Line
 pub mod Spelling
 pub mod Reading

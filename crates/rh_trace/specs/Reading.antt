@@ -6,13 +6,15 @@ use Rattle.rh_layout.specs.declared.command.Command.TheVariants.{Alloc, Load, St
 use Rattle.rh_layout.specs.declared.command.Operand.{Operand}
 use Rattle.rh_layout.specs.declared.command.Operand.TheVariants as operands
 use Rattle.rh_layout.specs.declared.command.RootId.{RootId}
+use Rattle.rh_core.specs.declared.outcomes as outcomes
+use Rattle.rh_core.specs.declared.outcomes.Kind.TheVariants.{Copies, Entries}
 use Rattle.rh_text.specs.RawLine.{RawLine, lines_of}
 use Rattle.rh_text.specs.Parts.{parts_of, is_formed, has_dot, begins_with_digit, one_part, two_parts, three_parts, six_parts}
 use Rattle.rh_text.specs.Number.{number_of, integer_of}
 use Rattle.rh_text.specs.Root.{root_of}
 use Rattle.rh_text.specs.Steps.{◌>>=◌, or_fault, with_fault}
 use Rattle.rh_trace.specs.declared.fault.Kind.{Kind}
-use Rattle.rh_trace.specs.declared.fault.Kind.TheVariants.{Empty, Long, Cut, Form, Header, Word, Number, Root}
+use Rattle.rh_trace.specs.declared.fault.Kind.TheVariants.{Empty, Long, Cut, Form, Header, Word, Number, Root, Tray}
 use Rattle.rh_trace.specs.declared.fault.TraceFault.{TraceFault}
 use Rattle.rh_trace.specs.declared.fault.ParseError.{ParseError}
 use Rattle.rh_trace.specs.declared.fault.ParseError.TheVariants as errors
@@ -20,6 +22,7 @@ use Rattle.rh_trace.specs.declared.line as declared
 use Rattle.rh_trace.specs.declared.line.Line.{Line}
 use Rattle.rh_trace.specs.declared.line.Line.TheVariants as lines
 use Rattle.rh_trace.specs.Line.{line_of}
+use Rattle.rh_trace.specs.TrayName.{tray_name_of}
 use Rattle.rh_trace.specs.Spelling.{Script}
 
 -- the fault of a call is the one that reading gives, unless memory ran out
@@ -39,6 +42,17 @@ number_or_fault part = or_fault (number_of part) Number
 -- the root of a part
 abbrev pub root_or_fault : List ℕ → Result RootId Kind
 root_or_fault part = or_fault (root_of part) Root
+
+-- the name of a tray that a part is
+abbrev pub tray_or_fault : List ℕ → Result (List ℕ) Kind
+tray_or_fault part = or_fault (tray_name_of part) Tray
+
+-- what is dealt, by a part
+unfoldable pub kind_or_fault : List ℕ → Result outcomes.Kind.Kind Kind
+kind_or_fault part =
+    if bytes_eq part (codes "copies") then Ok Copies
+    else if bytes_eq part (codes "entries") then Ok Entries
+    else Err Word
 
 -- the whole number of a part
 abbrev pub integer_or_fault : List ℕ → Result ℤ Kind
@@ -133,10 +147,49 @@ abbrev pub alone : List (List ℕ) → Line → Result Line Kind
 alone [] line = Ok line
 alone (arg ∷ args) line = Err Form
 
+-- shade ROOT
+unfoldable pub shade_of : List (List ℕ) → Result Line Kind
+shade_of args = do
+  part ← or_fault (one_part args) Form
+  root ← root_or_fault part
+  Ok (lines.Shade root)
+
+-- deal copies MOST TRAY, or deal entries MOST TRAY
+unfoldable pub deal_of : List (List ℕ) → Result Line Kind
+deal_of args = do
+  parts ← or_fault (three_parts args) Form
+  kind ← kind_or_fault parts.0
+  most ← number_or_fault parts.1
+  tray ← tray_or_fault parts.2
+  Ok (lines.Deal kind most tray)
+
+-- give TRAY
+unfoldable pub give_of : List (List ℕ) → Result Line Kind
+give_of args = do
+  part ← or_fault (one_part args) Form
+  tray ← tray_or_fault part
+  Ok (lines.Give tray)
+
+-- join TRAY TRAY
+unfoldable pub join_of : List (List ℕ) → Result Line Kind
+join_of args = do
+  parts ← or_fault (two_parts args) Form
+  into ← tray_or_fault parts.0
+  other ← tray_or_fault parts.1
+  Ok (lines.Join into other)
+
 -- a line that begins with its keyword
 unfoldable pub keyword_line : List ℕ → List (List ℕ) → Result Line Kind
 keyword_line keyword args =
-    if bytes_eq keyword (codes "dump") then alone args lines.Dump
+    if bytes_eq keyword (codes "begin") then alone args lines.Begin
+    else if bytes_eq keyword (codes "shade") then shade_of args
+    else if bytes_eq keyword (codes "deal") then deal_of args
+    else if bytes_eq keyword (codes "give") then give_of args
+    else if bytes_eq keyword (codes "join") then join_of args
+    else if bytes_eq keyword (codes "flip") then alone args lines.Flip
+    else if bytes_eq keyword (codes "trays") then alone args lines.Trays
+    else if bytes_eq keyword (codes "stat") then alone args lines.Stat
+    else if bytes_eq keyword (codes "dump") then alone args lines.Dump
     else Err Word
 
 -- a line after the first: a command line where it begins with an owner, and else by its keyword

@@ -1,14 +1,25 @@
 -- What a run of an input gives, and how a run ends.
-use Rattle.std.specs.Prelude.{◌≡◌, ℕ, ◌^◌, List, [], ◌∷◌, ◌++◌, length, count_by, cond, ◌+◌, Option, Some, None, Result, Ok, Err, nat_lt, if◌then◌else◌}
+use Rattle.std.specs.Prelude.{◌≡◌, ℕ, ◌^◌, Bool, false, List, [], ◌∷◌, ◌++◌, length, count_by, cond, ◌+◌, Option, Some, None, Result, Ok, Err, nat_lt, if◌then◌else◌}
 use Rattle.std.specs.List.{flat_map}
 use Rattle.std.specs.Io.KnownBytes.{Appends, Consumes, Keeps}
+use Rattle.rh_layout.specs.declared.command.Reply.{Reply}
+use Rattle.rh_layout.specs.declared.refusal.Refusal.{Refusal}
 use Rattle.rh_core.specs.declared.config.Config.{Config}
 use Rattle.rh_core.specs.declared.config.ConfigFault.{ConfigFault}
+use Rattle.rh_core.specs.declared.outcomes as outcomes
+use Rattle.rh_core.specs.declared.refusals.BeginError.{BeginError}
+use Rattle.rh_core.specs.declared.refusals.FlipError.{FlipError}
+use Rattle.rh_core.specs.declared.refusals.ShadeError.{ShadeError}
+use Rattle.rh_core.specs.declared.stat.Stat.{Stat}
 use Rattle.rh_core.specs.Config.{fault_of}
-use Rattle.rh_core.specs.Heap.{HeapState, new_heap}
-use Rattle.rh_core.specs.Commands.{heap_step, is_limit_answer, AnswersAs, plain_unless}
+use Rattle.rh_core.specs.Heap.{new_heap}
+use Rattle.rh_core.specs.Commands.{is_limit_answer, AnswersAs, plain_unless}
+use Rattle.rh_core.specs.Stat.{stat_of}
 use Rattle.rh_model.specs.Plain.{PlainHeap, empty_plain, step}
 use Rattle.rh_dump.specs.HeapDump.{dump_of, plain_dump_of}
+use Rattle.rh_trace.specs.declared.engine.Counted.{Counted}
+use Rattle.rh_trace.specs.declared.engine.DealRefusal.{DealRefusal}
+use Rattle.rh_trace.specs.declared.engine.GiveRefusal.{GiveRefusal}
 use Rattle.rh_trace.specs.declared.fault.TraceFault.{TraceFault}
 use Rattle.rh_trace.specs.declared.run_fault.RunFault.{RunFault}
 use Rattle.rh_trace.specs.declared.run_fault.RunFault.TheVariants as faults
@@ -19,10 +30,14 @@ use Rattle.rh_trace.specs.declared.line.Line.{Line}
 use Rattle.rh_trace.specs.declared.stop.Stop.{Stop}
 use Rattle.rh_trace.specs.declared.stop.Stop.TheVariants as stops
 use Rattle.rh_trace.specs.declared.summary.Summary.{Summary}
+use Rattle.rh_trace.specs.declared.trays.JoinRefusal.{JoinRefusal}
+use Rattle.rh_trace.specs.Trays.{Trays}
 use Rattle.rh_trace.specs.Line.{asked_of}
 use Rattle.rh_trace.specs.Spelling.{Script, IsScript, spelling}
 use Rattle.rh_trace.specs.Reading.{trace_of}
-use Rattle.rh_trace.specs.Answers.{Answered, Answer, Dump, answered_text, is_answer, is_refused, total_line}
+use Rattle.rh_trace.specs.Answers as answers
+use Rattle.rh_trace.specs.Answers.{Answered, answered_text, is_answer, is_refused, is_flip, flip_of, words_of, root_words_of, total_line}
+use Rattle.rh_trace.specs.Engine.{EngineState, command_step, begin_line_step, shade_line_step, deal_line_step, give_line_step, join_line_step, flip_line_step}
 use Rattle.rh_text.specs.Output.{AppendsPrefix, AppendsLess}
 
 -- the heap of a trace: the numbers of its first line, and 2^62 store numbers and epochs
@@ -37,33 +52,46 @@ config_of header = record {
   last_epoch = 2 ^ 62;
 }
 
--- what the lines of a trace work on: the heap
-pub record RunState : Type 0 where
-  pub heap : HeapState
+-- the engine after a step of its own, and what is answered
+abbrev pub answered_by : {X : Type 0} → (X → Answered) → EngineState × X → EngineState × Answered
+answered_by answer stepped = (stepped.0, answer stepped.1)
 
--- what is asked of it: what it works on afterwards, and what is answered
-abbrev pub asked_step : RunState → Asked → RunState × Answered
-asked_step state (asked.Command owner command) =
-    (record state { heap = (heap_step state.heap owner command).0 }, Answer (heap_step state.heap owner command).1)
-asked_step state asked.Dump = (state, Dump (dump_of state.heap))
+-- what is asked of the engine: the engine afterwards, and what is answered
+abbrev pub asked_step : EngineState → Asked → EngineState × Answered
+asked_step e (asked.Command owner command) =
+    answered_by answers.Answer (command_step e owner command)
+asked_step e asked.Begin = answered_by answers.Begin (begin_line_step e)
+asked_step e (asked.Shade root) = answered_by answers.Shade (shade_line_step e root)
+asked_step e (asked.Deal kind most tray) =
+    answered_by answers.Deal (deal_line_step e kind most tray)
+asked_step e (asked.Give tray) = answered_by answers.Give (give_line_step e tray)
+asked_step e (asked.Join into other) = answered_by answers.Join (join_line_step e into other)
+asked_step e asked.Flip = answered_by answers.Flip (flip_line_step e)
+asked_step e asked.Trays = (e, answers.Listing e.trays)
+asked_step e asked.Stat = (e, answers.Numbers (stat_of e.heap))
+asked_step e asked.Dump = (e, answers.Dump (dump_of e.heap))
 
--- a line: what it works on afterwards, and what is answered
-abbrev pub line_step : RunState → Line → RunState × Answered
-line_step state line = asked_step state (asked_of line)
+-- a line: the engine afterwards, and what is answered
+abbrev pub line_step : EngineState → Line → EngineState × Answered
+line_step e line = asked_step e (asked_of line)
 
 -- what is answered to each line, in order
-abbrev pub answers_to : RunState → List Line → List Answered
-answers_to state [] = []
-answers_to state (line ∷ lines) =
-    (line_step state line).1 ∷ answers_to (line_step state line).0 lines
+abbrev pub answers_to : EngineState → List Line → List Answered
+answers_to e [] = []
+answers_to e (line ∷ lines) = (line_step e line).1 ∷ answers_to (line_step e line).0 lines
+
+-- the engine after all lines
+abbrev pub engine_after : EngineState → List Line → EngineState
+engine_after e [] = e
+engine_after e (line ∷ lines) = engine_after (line_step e line).0 lines
 
 -- what the answers add up to
 abbrev pub summary_of : List Answered → Summary
 summary_of answers = record {
   commands = count_by is_answer answers;
   refused = count_by is_refused answers;
-  flips = 0;
-  root_words = 0;
+  flips = count_by is_flip answers;
+  root_words = root_words_of answers;
 }
 
 -- the sum with one more that was answered
@@ -71,15 +99,17 @@ abbrev pub summary_with : Summary → Answered → Summary
 summary_with sum answered = record sum {
   commands = sum.commands + cond (is_answer answered) 1 0;
   refused = sum.refused + cond (is_refused answered) 1 0;
+  flips = sum.flips + cond (is_flip answered) 1 0;
+  root_words = sum.root_words + words_of (flip_of answered);
 }
 
 -- the text of each answer, and the total line
 abbrev pub output_of : List Answered → List ℕ
 output_of answers = flat_map answered_text answers ++ total_line (summary_of answers)
 
--- what a trace begins with: a new heap
-abbrev pub new_run : Script → RunState
-new_run script = record { heap = new_heap (config_of script.header) }
+-- what a trace begins with: a new heap, and no trays
+abbrev pub new_run : Script → EngineState
+new_run script = record { heap = new_heap (config_of script.header); trays = [] }
 
 -- what is answered to all lines of a trace
 abbrev pub answers_of : Script → List Answered
@@ -133,20 +163,39 @@ Ends due (Err faults.Write) old new = AppendsLess old new (text_of due)
 Ends due (Err faults.OutOfMemory) old new = AppendsPrefix old new (text_of due)
 
 -- What is asked is answered as a plain heap does: a command by its step, or by a limit refusal
--- where the step is accepted; a dump by that of the plain heap.
+-- where the step is accepted; a dump by that of the plain heap. A plain heap has no cycles and no
+-- trays: of the other lines it says nothing but which sort of answer they have.
 abbrev pub IsPlainAnswer : PlainHeap → Asked → Answered → Type 0
-IsPlainAnswer p (asked.Command owner command) (Answer answer) =
-    AnswersAs (is_limit_answer answer) answer (step p owner command).1
-IsPlainAnswer p (asked.Command owner command) (Dump graph) = ⊥
-IsPlainAnswer p asked.Dump (Answer answer) = ⊥
-IsPlainAnswer p asked.Dump (Dump graph) = graph ≡ plain_dump_of p
+IsPlainAnswer p (asked.Command owner command) answered =
+    (answer : Result Reply Refusal) × (answered ≡ answers.Answer answer)
+    × AnswersAs (is_limit_answer answer) answer (step p owner command).1
+IsPlainAnswer p asked.Begin answered =
+    (answer : Result ℕ BeginError) × (answered ≡ answers.Begin answer)
+IsPlainAnswer p (asked.Shade root) answered =
+    (answer : Result outcomes.Shaded.Shaded ShadeError) × (answered ≡ answers.Shade answer)
+IsPlainAnswer p (asked.Deal kind most tray) answered =
+    (answer : Result Counted DealRefusal) × (answered ≡ answers.Deal answer)
+IsPlainAnswer p (asked.Give tray) answered =
+    (answer : Result outcomes.Given.Given GiveRefusal) × (answered ≡ answers.Give answer)
+IsPlainAnswer p (asked.Join into other) answered =
+    (answer : Result ℕ JoinRefusal) × (answered ≡ answers.Join answer)
+IsPlainAnswer p asked.Flip answered =
+    (answer : Result outcomes.Flipped.Flipped FlipError) × (answered ≡ answers.Flip answer)
+IsPlainAnswer p asked.Trays answered = (listed : Trays) × (answered ≡ answers.Listing listed)
+IsPlainAnswer p asked.Stat answered = (stat : Stat) × (answered ≡ answers.Numbers stat)
+IsPlainAnswer p asked.Dump answered = answered ≡ answers.Dump (plain_dump_of p)
 
--- the plain heap after what is asked: it goes on by each command that no limit refused
+-- whether a limit refused a command
+abbrev pub is_limited : Answered → Bool
+is_limited (answers.Answer answer) = is_limit_answer answer
+is_limited other = false
+
+-- the plain heap after what is asked: it goes on by each command that no limit refused, and stays
+-- through all other lines
 abbrev pub plain_after : PlainHeap → Asked → Answered → PlainHeap
-plain_after p (asked.Command owner command) (Answer answer) =
-    plain_unless (is_limit_answer answer) p owner command
-plain_after p (asked.Command owner command) (Dump graph) = p
-plain_after p asked.Dump answered = p
+plain_after p (asked.Command owner command) answered =
+    plain_unless (is_limited answered) p owner command
+plain_after p other answered = p
 
 -- Line by line the answers are those of a plain heap, but for limits.
 abbrev pub AreTransparent : PlainHeap → List Line → List Answered → Type 0
@@ -159,7 +208,9 @@ AreTransparent p (line ∷ lines) (answered ∷ answers) =
 
 -- The bytes that a reader gave spell this trace, and the answers to its lines are those of a plain
 -- heap that begins empty, but for limits.
-pub record IsPlainRun (script : Script) (answers : List Answered) (old new : Option (List ℕ)) : Type 0 where
+pub record IsPlainRun (script : Script) (answers : List Answered) (old new : Option (List ℕ))
+    : Type 0 where
   pub fits : IsScript script
   pub read : Consumes old new (spelling script)
-  pub answered : AreTransparent (empty_plain script.header.owners script.header.slots) script.lines answers
+  pub answered :
+      AreTransparent (empty_plain script.header.owners script.header.slots) script.lines answers

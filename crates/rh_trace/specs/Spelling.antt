@@ -6,10 +6,13 @@ use Rattle.rh_layout.specs.declared.command.Command.{Command}
 use Rattle.rh_layout.specs.declared.command.Command.TheVariants.{Alloc, Load, Store, Copy, Same, Drop}
 use Rattle.rh_layout.specs.declared.command.Operand.{Operand}
 use Rattle.rh_layout.specs.declared.command.Operand.TheVariants as operands
+use Rattle.rh_core.specs.declared.outcomes.Kind.{Kind}
+use Rattle.rh_core.specs.declared.outcomes.Kind.TheVariants.{Copies, Entries}
 use Rattle.rh_text.specs.Number.{IsU32, IsI64}
 use Rattle.rh_text.specs.Parts.{spell_parts}
 use Rattle.rh_text.specs.Root.{root_text, RootFits}
 use Rattle.rh_trace.specs.Line.{asked_of}
+use Rattle.rh_trace.specs.TrayName.{IsTrayName}
 use Rattle.rh_trace.specs.declared.line.Asked.{Asked}
 use Rattle.rh_trace.specs.declared.line.Asked.TheVariants as asked
 use Rattle.rh_trace.specs.declared.line.Header.{Header}
@@ -39,9 +42,23 @@ command_parts owner (Copy dst src) =
 command_parts owner (Same a b) = decimal owner ∷ codes "same" ∷ root_text a ∷ root_text b ∷ []
 command_parts owner (Drop root) = decimal owner ∷ codes "drop" ∷ root_text root ∷ []
 
+-- what is dealt
+abbrev pub kind_text : Kind → List ℕ
+kind_text Copies = codes "copies"
+kind_text Entries = codes "entries"
+
 -- the parts of a line that asks this
 abbrev pub asked_parts : Asked → List (List ℕ)
 asked_parts (asked.Command owner command) = command_parts owner command
+asked_parts asked.Begin = codes "begin" ∷ []
+asked_parts (asked.Shade root) = codes "shade" ∷ root_text root ∷ []
+asked_parts (asked.Deal kind most tray) =
+    codes "deal" ∷ kind_text kind ∷ decimal most ∷ tray ∷ []
+asked_parts (asked.Give tray) = codes "give" ∷ tray ∷ []
+asked_parts (asked.Join into other) = codes "join" ∷ into ∷ other ∷ []
+asked_parts asked.Flip = codes "flip" ∷ []
+asked_parts asked.Trays = codes "trays" ∷ []
+asked_parts asked.Stat = codes "stat" ∷ []
 asked_parts asked.Dump = codes "dump" ∷ []
 
 -- the parts of a line
@@ -90,9 +107,18 @@ CommandFits owner (Copy dst src) = IsU32 owner × RootFits dst × RootFits src
 CommandFits owner (Same a b) = IsU32 owner × RootFits a × RootFits b
 CommandFits owner (Drop root) = IsU32 owner × RootFits root
 
--- an owner and a command that fit, or a dump
+-- what is asked fits: an owner and a command that do, roots and a number of items whose numbers are
+-- below 2^32, and names of trays
 abbrev pub AskedFits : Asked → Type 0
 AskedFits (asked.Command owner command) = CommandFits owner command
+AskedFits asked.Begin = ⊤
+AskedFits (asked.Shade root) = RootFits root
+AskedFits (asked.Deal kind most tray) = IsU32 most × IsTrayName tray
+AskedFits (asked.Give tray) = IsTrayName tray
+AskedFits (asked.Join into other) = IsTrayName into × IsTrayName other
+AskedFits asked.Flip = ⊤
+AskedFits asked.Trays = ⊤
+AskedFits asked.Stat = ⊤
 AskedFits asked.Dump = ⊤
 
 -- a line that asks what fits

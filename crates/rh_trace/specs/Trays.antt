@@ -1,13 +1,16 @@
 -- Trays: partial replicas with names, in the order in which the names were first used.
-use Rattle.std.specs.Prelude.{ℕ, nat_lt, nat_le, Bool, ◌&&◌, if◌then◌else◌, List, [], ◌∷◌, length, map, fold, Option, Some, None, is_none, unwrap_or, Result, Ok, Err}
+use Rattle.std.specs.Prelude.{◌≡◌, ◌≢◌, ℕ, ◌<◌, ◌≤◌, nat_lt, nat_le, Bool, ◌&&◌, if◌then◌else◌, List, [], ◌∷◌, ◌++◌, length, map, fold, Option, Some, None, is_some, is_none, unwrap_or, Result, Ok, Err}
 use Rattle.std.specs.BTreeMap.{insert_entry}
-use Rattle.std.specs.Map.{lookup}
+use Rattle.std.specs.List.Sorted.{IsStrictlySortedBy}
+use Rattle.std.specs.Map.{lookup, keys_of}
 use Rattle.std.specs.Ordering.{ord_max}
 use Rattle.std.specs.Str.{bytes_eq}
 use Rattle.rh_layout.specs.Item.{Pair, pair_of, place_of, pair_cmp, place_cmp}
 use Rattle.rh_layout.specs.declared.item.Item.{Item}
 use Rattle.rh_layout.specs.declared.item.Place.{Place}
-use Rattle.rh_partial.specs.PartialReplica.{ReplicaState, pair_at}
+use Rattle.rh_partial.specs.Item.{newest}
+use Rattle.rh_partial.specs.PartialReplica.{ReplicaState, pair_at, joined_newest}
+use Rattle.rh_partial.specs.Piece.{PieceState}
 use Rattle.rh_core.specs.Dealing.{item_at}
 use Rattle.rh_trace.specs.declared.trays.JoinRefusal.{JoinRefusal}
 use Rattle.rh_trace.specs.declared.trays.JoinRefusal.TheVariants.{NoTray, TooManyTrays}
@@ -116,3 +119,66 @@ join_found (Some u) trays into =
 -- The second tray is joined into the first.
 abbrev pub join_step : Trays → List ℕ → List ℕ → Trays × Result ℕ JoinRefusal
 join_step trays into other = join_found (tray_named trays other) trays into
+
+-- Laws.
+
+-- the entries of the tray stand in order of place
+abbrev pub IsInOrder : Tray → Type 0
+IsInOrder t = IsStrictlySortedBy place_cmp (map place_of t.entries)
+
+-- the entries of each tray stand in order of place
+abbrev pub AreInOrder : Trays → Type 0
+AreInOrder [] = Unit {0}
+AreInOrder (e ∷ es) = IsInOrder e.1 × AreInOrder es
+
+-- There are at most 64 trays, and the entries of each stand in order of place.
+pub record AreFewInOrder (trays : Trays) : Type 0 where
+  pub order : AreInOrder trays
+  pub few : length trays ≤ 64
+
+-- what a tray has at each place, and nothing where there is no tray
+abbrev pub content_of_tray : Option Tray → Place → Option Pair
+content_of_tray None p = None
+content_of_tray (Some t) p = pair_at t.entries p
+
+-- One tray changed at most: that of this name, which is this one now. The names kept their order,
+-- and a new one went last.
+pub record IsChangedAlone (before after : Trays) (name : List ℕ) (t : Tray) : Type 0 where
+  pub there : tray_named after name ≡ Some t
+  pub others : (other : List ℕ) → other ≢ name → tray_named after other ≡ tray_named before other
+  pub order : keys_of after
+      ≡ (if is_some (tray_named before name) then keys_of before
+      else keys_of before ++ name ∷ [])
+
+-- A piece was folded into the tray of this name: the tray is of the piece's epoch, and has at each
+-- place what it had before, where there was one, joined with the newest of the piece's items. Where
+-- its entries stood in order of place, or it is new, they stand so now.
+pub record IsFoldedInto (before after : Trays) (name : List ℕ) (piece : PieceState) : Type 0 where
+  pub tray : Tray
+  pub alone : IsChangedAlone before after name tray
+  pub epoch : tray.epoch ≡ piece.epoch
+  pub content : pair_at tray.entries
+      ≡ joined_newest (content_of_tray (tray_named before name)) (newest piece.items)
+  pub order : ((t : Tray) → tray_named before name ≡ Some t → IsInOrder t) → IsInOrder tray
+
+-- A tray is two others joined: of two epochs it is the later one; of one epoch it has at each place
+-- what one had alone, or the newer of what both had. Where the entries of both stood in order of
+-- place, its own do.
+pub record IsJoinOf (first second both : Tray) : Type 0 where
+  pub earlier : first.epoch < second.epoch → both ≡ second
+  pub later : second.epoch < first.epoch → both ≡ first
+  pub epoch : first.epoch ≡ second.epoch → both.epoch ≡ first.epoch
+  pub content : first.epoch ≡ second.epoch → IsInOrder second
+      → pair_at both.entries ≡ joined_newest (pair_at first.entries) (pair_at second.entries)
+  pub order : IsInOrder first → IsInOrder second → IsInOrder both
+
+-- The second tray was joined into the first, which is a copy of it where there was none, and has so
+-- many entries now.
+pub record IsJoinedInto (before after : Trays) (into other : List ℕ) (count : ℕ) : Type 0 where
+  pub second : Tray
+  pub source : tray_named before other ≡ Some second
+  pub tray : Tray
+  pub alone : IsChangedAlone before after into tray
+  pub copy : tray_named before into ≡ None → tray ≡ second
+  pub join : (first : Tray) → tray_named before into ≡ Some first → IsJoinOf first second tray
+  pub counted : count ≡ length tray.entries

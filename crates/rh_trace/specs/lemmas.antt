@@ -1,3 +1,4 @@
+pub mod TrayNames
 pub mod LinesInTurn
 pub mod ReadIsSpelled
 pub mod SpelledIsRead

@@ -2,7 +2,7 @@
 
 ghost use Rattle.std.specs.Prelude.{◌≡◌, ◌≤◌, length};
 ghost use Rattle.rh_trace.specs.Answers.{reply_text, refusal_name, refused_text, answer_text};
-ghost use Rattle.rh_trace.specs.Answers.{answer_line, total_line};
+ghost use Rattle.rh_trace.specs.Answers.{total_line};
 
 use crate::summary::Summary;
 use rh_layout::{Refusal, Reply};
@@ -71,14 +71,6 @@ pub fn put_answer_text(text: &mut LineText, answer: Result<Reply, Refusal>)
         Ok(reply) => put_reply(text, reply),
         Err(refusal) => put_refusal(text, refusal),
     }
-}
-
-/// The text becomes the line of an answer.
-pub fn put_answer(text: &mut LineText, answer: Result<Reply, Refusal>)
-    ensures { text.new ≡ answer_line answer }
-{
-    put_answer_text(text, answer);
-    text.put(b"\n");
 }
 
 /// The text becomes the line that ends the answers.

@@ -7,8 +7,8 @@ use std::alloc::{AllocError, AllocFailed};
 use thiserror::Error;
 
 /// What is wrong with a line. In each line the first of these that holds is named, but that a
-/// wrong number of parts comes after `Word`; of `Number` and `Root` it is the one of the first
-/// faulty part.
+/// wrong number of parts comes after `Word` (in a `deal` line before a wrong kind); of `Number`,
+/// `Root` and `Tray` it is the one of the first faulty part.
 #[derive(Clone, Copy, Debug, PartialEq, Eq, Error)]
 pub enum Kind {
     /// The text has no byte. It is the fault of line 1.
@@ -26,7 +26,8 @@ pub enum Kind {
     /// The first line doesn't begin with the part `heap`, or hasn't six parts.
     #[error("Header")]
     Header,
-    /// The line's word isn't one of the words at that place.
+    /// The line's keyword isn't one at that place, or what a `deal` line deals is neither `copies`
+    /// nor `entries`.
     #[error("Word")]
     Word,
     /// A part that should be a number isn't the decimal of one from 0 to 4,294,967,295, or an
@@ -37,6 +38,10 @@ pub enum Kind {
     /// from 0 to 4,294,967,295.
     #[error("Root")]
     Root,
+    /// A part that should be the name of a tray isn't a letter a to z and then at most 15 of a to
+    /// z, 0 to 9 and `_`.
+    #[error("Tray")]
+    Tray,
 }
 
 /// The first faulty line of a text that is no trace.

@@ -14,6 +14,8 @@ ghost use Rattle.rh_trace.specs.declared.fault.TraceFault.{TraceFault as FaultOf
 ghost use Rattle.rh_trace.specs.declared.line.Header.{Header as HeaderOf};
 ghost use Rattle.rh_trace.specs.declared.line.Line.{Line as LineOf};
 
+pub mod runs;
+pub mod summaries;
 pub mod trays;
 
 /// The fault that reading names is the one that comes first in the order of the format: it holds on

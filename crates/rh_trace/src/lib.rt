@@ -1,4 +1,5 @@
-//! The trace language of a managed heap: a text of commands, read, written and run.
+//! The trace language of a managed heap: a text of commands and of the lines of a cycle, read,
+//! written and run.
 #![tactic(auto)]
 
 mod answers;
@@ -9,6 +10,7 @@ mod fault;
 mod header_line;
 mod keyword_lines;
 pub mod laws;
+mod leading_lines;
 mod line;
 mod playing;
 mod printing;

@@ -3,6 +3,8 @@
 ghost use Rattle.std.specs.Prelude.{◌≡◌};
 ghost use Rattle.rh_trace.specs.Line.{asked_of, line_of};
 
+use crate::tray_name::TrayName;
+use rh_core::Kind;
 use rh_layout::{Command, Operand, RootId};
 
 /// The numbers of a trace's first line, `heap WORDS RATIO LOG OWNERS SLOTS`.
@@ -81,6 +83,41 @@ pub enum Line {
         /// The root.
         root: RootId,
     },
+    /// `begin`: a cycle begins.
+    Begin,
+    /// `shade ROOT`: what the root refers to is placed.
+    Shade {
+        /// The root.
+        root: RootId,
+    },
+    /// `deal copies MOST TRAY` or `deal entries MOST TRAY`: a piece is dealt, and folded into the
+    /// tray.
+    Deal {
+        /// Whether copies of fields are dealt, or entries of the log.
+        kind: Kind,
+        /// The most items of the piece.
+        most: u32,
+        /// The name of the tray.
+        tray: TrayName,
+    },
+    /// `give TRAY`: the partial replica in the tray is given to the heap, and stays in the tray.
+    Give {
+        /// The name of the tray.
+        tray: TrayName,
+    },
+    /// `join TRAY TRAY`: the second tray is joined into the first.
+    Join {
+        /// The name of the first tray.
+        into: TrayName,
+        /// The name of the second.
+        other: TrayName,
+    },
+    /// `flip`: the roots are moved to the replica.
+    Flip,
+    /// `trays`: the trays, each with its name, its epoch and how many entries it has.
+    Trays,
+    /// `stat`: the numbers of the heap.
+    Stat,
     /// `dump`: the dump of what the roots reach.
     Dump,
 }
@@ -95,6 +132,40 @@ pub enum Asked {
         /// Which command.
         command: Command,
     },
+    /// A cycle begins.
+    Begin,
+    /// What a root refers to is placed.
+    Shade {
+        /// The root.
+        root: RootId,
+    },
+    /// A piece is dealt, and folded into a tray.
+    Deal {
+        /// Whether copies of fields are dealt, or entries of the log.
+        kind: Kind,
+        /// The most items of the piece.
+        most: u32,
+        /// The name of the tray.
+        tray: TrayName,
+    },
+    /// The partial replica in a tray is given to the heap.
+    Give {
+        /// The name of the tray.
+        tray: TrayName,
+    },
+    /// A tray is joined into another.
+    Join {
+        /// The name of the tray that takes the other in.
+        into: TrayName,
+        /// The name of the other.
+        other: TrayName,
+    },
+    /// The roots are moved to the replica.
+    Flip,
+    /// The trays, each with its name, its epoch and how many entries it has.
+    Trays,
+    /// The numbers of the heap.
+    Stat,
     /// The dump of what the roots reach.
     Dump,
 }
@@ -129,6 +200,7 @@ impl Line {
     }
 
     /// What the line asks.
+    #[inline(always)]
     pub fn asks(&self) -> Asked
         ensures { result ≡ asked_of self.now }
     {
@@ -156,6 +228,14 @@ impl Line {
             Line::Copy { owner, dst, src } => (owner, Command::Copy { dst, src }),
             Line::Same { owner, a, b } => (owner, Command::Same { a, b }),
             Line::Drop { owner, root } => (owner, Command::Drop { root }),
+            Line::Begin => return Asked::Begin,
+            Line::Shade { root } => return Asked::Shade { root },
+            Line::Deal { kind, most, tray } => return Asked::Deal { kind, most, tray },
+            Line::Give { tray } => return Asked::Give { tray },
+            Line::Join { into, other } => return Asked::Join { into, other },
+            Line::Flip => return Asked::Flip,
+            Line::Trays => return Asked::Trays,
+            Line::Stat => return Asked::Stat,
             Line::Dump => return Asked::Dump,
         };
         Asked::Command { owner, command }

@@ -1,19 +1,29 @@
 //! The lines of a trace, run one after the other.
 
-ghost use Rattle.std.specs.Prelude.{◌≡◌, ◌<◌, ◌^◌, false, IfOk, IsErrOf, OnOk, Ok, Err};
+ghost use Rattle.std.specs.Prelude.{◌≡◌, ◌<◌, ◌≤◌, ◌+◌, ◌^◌, length, false, IfOk, IsErrOf, OnOk};
 ghost use Rattle.rh_text.specs.Calls.{AreSpent};
+ghost use Rattle.rh_core.specs.Stat.{stat_of};
 ghost use Rattle.rh_dump.specs.HeapDump.{dump_of};
 ghost use Rattle.rh_dump.specs.Line.{dump_text};
-ghost use Rattle.rh_trace.specs.Answers.{answered_text};
+ghost use Rattle.rh_trace.specs.Answers as answers;
+ghost use Rattle.rh_trace.specs.Answers.{answer_text, answered_text, with_line_end, trays_text};
+ghost use Rattle.rh_trace.specs.CycleAnswers.{flip_text, stat_text};
+ghost use Rattle.rh_trace.specs.Engine.{command_step, flip_line_step};
 ghost use Rattle.rh_trace.specs.Run.{answers_to, line_step, output_of, summary_of, summary_with};
 ghost use Rattle.rh_trace.specs.Run.{Writes};
 
-use crate::answers::{put_answer, put_total};
+use crate::answers::{put_answer_text, put_total};
+use crate::cycle_answers::{
+    put_begin, put_deal, put_flip, put_give, put_join, put_shade, put_stat, put_tray,
+};
+use crate::engine::Engine;
 use crate::line::{Asked, Line};
 use crate::stop::Stop;
 use crate::summary::Summary;
+use crate::trays::Trays;
 use rh_core::Heap;
 use rh_dump::{graph, write_dump_told};
+use rh_layout::Command;
 use rh_text::{Calls, LineText, send};
 use std::alloc::Allocator;
 use std::io;
@@ -36,10 +46,108 @@ fn write_heap_dump<A: Allocator + Copy, W: io::Write>(
     Ok(())
 }
 
-/// Runs a line, counts it where it is a command line, and writes what is answered.
-fn play_line<A: Allocator + Copy, W: io::Write>(
+/// Ends a line, and writes it in one write.
+#[inline(always)]
+fn write_line<W: io::Write>(
+    text: &mut LineText,
+    writer: &mut W,
+    writes: &mut Calls,
+) -> Result<(), Stop>
+    requires room { length text.old ≤ 255 }
+    requires none_failed { writes.old.failed ≡ false }
+    ensures written { Writes (with_line_end text.old) result (W.contents writer.old)
+        (W.contents writer.new) }
+    ensures failed { IsErrOf result Stop.Write → AreSpent writes.new }
+    ensures none_failed { ¬ IsErrOf result Stop.Write → writes.new.failed ≡ false }
+{
+    text.put(b"\n");
+    send(writer, writes, text.as_bytes())?;
+    Ok(())
+}
+
+/// Writes a line for each tray.
+fn write_trays<A: Allocator + Copy, W: io::Write>(
+    trays: &Trays<A>,
+    text: &mut LineText,
+    writer: &mut W,
+    writes: &mut Calls,
+) -> Result<(), Stop>
+    requires { writes.old.failed ≡ false }
+    ensures written { Writes (trays_text trays.now) result (W.contents writer.old)
+        (W.contents writer.new) }
+    ensures failed { IsErrOf result Stop.Write → AreSpent writes.new }
+    ensures none_failed { ¬ IsErrOf result Stop.Write → writes.new.failed ≡ false }
+{
+    for i in 0..trays.len() {
+        if let Some(tray) = trays.tray(i) {
+            put_tray(text, tray.0, tray.1);
+            write_line(text, writer, writes)?;
+        }
+    }
+    Ok(())
+}
+
+/// Runs a command and counts it. The text becomes that of the answer.
+#[inline(always)]
+fn answer_command<A: Allocator + Copy>(
+    engine: &mut Engine<A>,
+    owner: u32,
+    command: &Command,
+    text: &mut LineText,
+    summary: &mut Summary,
+)
+    requires few_commands { summary.old.commands < 2 ^ 63 }
+    requires few_refused { summary.old.refused < 2 ^ 63 }
+    ensures state { engine.new ≡ (command_step engine.old owner command.now).0 }
+    ensures summary { summary.new ≡ summary_with summary.old
+        (answers.Answer (command_step engine.old owner command.now).1) }
+    ensures value { text.new ≡ answer_text (command_step engine.old owner command.now).1 }
+    ensures len { length text.new ≤ 100 }
+{
+    let answer = engine.command(owner, command);
+    summary.commands += 1;
+    summary.refused += u64::from(answer.is_err());
+    put_answer_text(text, answer);
+}
+
+/// Moves the roots, and counts the flip where it was done. The text becomes that of the answer.
+fn answer_flip<A: Allocator + Copy>(
+    engine: &mut Engine<A>,
+    text: &mut LineText,
+    summary: &mut Summary,
+)
+    requires few_flips { summary.old.flips < 2 ^ 63 }
+    requires few_root_words { summary.old.root_words < 2 ^ 127 }
+    ensures state { engine.new ≡ (flip_line_step engine.old).0 }
+    ensures summary { summary.new
+        ≡ summary_with summary.old (answers.Flip (flip_line_step engine.old).1) }
+    ensures few_roots { summary.new.root_words ≤ summary.old.root_words + 2 ^ 32 }
+    ensures value { text.new ≡ flip_text (flip_line_step engine.old).1 }
+    ensures len { length text.new ≤ 100 }
+{
+    let answer = engine.flip();
+    if let Ok(flipped) = answer {
+        summary.flips += 1;
+        summary.root_words += u128::from(flipped.roots);
+    }
+    put_flip(text, answer);
+}
+
+/// The text becomes that of a heap's numbers.
+fn put_numbers<A: Allocator + Copy>(heap: &Heap<A>, text: &mut LineText)
+    ensures value { text.new ≡ stat_text (stat_of heap.now) }
+    ensures len { length text.new ≤ 249 }
+{
+    // Only for the proof: the words that are used are fewer than 2^32.
+    let _ = heap.used();
+    put_stat(text, &heap.stat());
+}
+
+/// Runs a line of any sort, as `play_line` does.
+#[inline(never)]
+fn play_any<A: Allocator + Copy, W: io::Write>(
     alloc: A,
-    heap: &mut Heap<A>,
+    engine: &mut Engine<A>,
     line: &Line,
     text: &mut LineText,
     summary: &mut Summary,
@@ -49,40 +157,75 @@ fn play_line<A: Allocator + Copy, W: io::Write>(
     requires none_failed { writes.old.failed ≡ false }
     requires few_commands { summary.old.commands < 2 ^ 63 }
     requires few_refused { summary.old.refused < 2 ^ 63 }
-    ensures state { OnOk result (record { heap = heap.new }
-        ≡ (line_step (record { heap = heap.old }) line.now).0) }
+    requires few_flips { summary.old.flips < 2 ^ 63 }
+    requires few_root_words { summary.old.root_words < 2 ^ 127 }
+    ensures state { OnOk result (engine.new ≡ (line_step engine.old line.now).0) }
     ensures summary { OnOk result (summary.new
-        ≡ summary_with summary.old (line_step (record { heap = heap.old }) line.now).1) }
-    ensures written { Writes (answered_text (line_step (record { heap = heap.old }) line.now).1)
-        result (W.contents writer.old) (W.contents writer.new) }
+        ≡ summary_with summary.old (line_step engine.old line.now).1) }
+    ensures few_roots { summary.new.root_words ≤ summary.old.root_words + 2 ^ 32 }
+    ensures written { Writes (answered_text (line_step engine.old line.now).1) result
+        (W.contents writer.old) (W.contents writer.new) }
     ensures failed { IsErrOf result Stop.Write → AreSpent writes.new }
     ensures none_failed { ¬ IsErrOf result Stop.Write → writes.new.failed ≡ false }
 {
     match line.asks() {
-        Asked::Command { owner, command } => {
-            let answer = heap.command(owner, &command);
-            summary.commands += 1;
-            summary.refused += u64::from(answer.is_err());
-            put_answer(text, answer);
-            send(writer, writes, text.as_bytes())?;
-        }
-        Asked::Dump => write_heap_dump(alloc, heap, writer, writes)?,
+        Asked::Command { owner, command } => answer_command(engine, owner, &command, text, summary),
+        Asked::Begin => put_begin(text, engine.begin()),
+        Asked::Shade { root } => put_shade(text, engine.shade(root)),
+        Asked::Deal { kind, most, tray } => put_deal(text, engine.deal(kind, most, tray)?),
+        Asked::Give { tray } => put_give(text, engine.give(tray)),
+        Asked::Join { into, other } => put_join(text, engine.join(into, other)?),
+        Asked::Flip => answer_flip(engine, text, summary),
+        Asked::Trays => return write_trays(engine.trays(), text, writer, writes),
+        Asked::Stat => put_numbers(engine.heap(), text),
+        Asked::Dump => return write_heap_dump(alloc, engine.heap(), writer, writes),
     }
-    Ok(())
+    write_line(text, writer, writes)
+}
+
+/// Runs a line, counts it where it is a command or a flip that was done, and writes what is
+/// answered. Most lines are commands, so these are looked for first.
+fn play_line<A: Allocator + Copy, W: io::Write>(
+    alloc: A,
+    engine: &mut Engine<A>,
+    line: &Line,
+    text: &mut LineText,
+    summary: &mut Summary,
+    writer: &mut W,
+    writes: &mut Calls,
+) -> Result<(), Stop>
+    requires none_failed { writes.old.failed ≡ false }
+    requires few_commands { summary.old.commands < 2 ^ 63 }
+    requires few_refused { summary.old.refused < 2 ^ 63 }
+    requires few_flips { summary.old.flips < 2 ^ 63 }
+    requires few_root_words { summary.old.root_words < 2 ^ 127 }
+    ensures state { OnOk result (engine.new ≡ (line_step engine.old line.now).0) }
+    ensures summary { OnOk result (summary.new
+        ≡ summary_with summary.old (line_step engine.old line.now).1) }
+    ensures few_roots { summary.new.root_words ≤ summary.old.root_words + 2 ^ 32 }
+    ensures written { Writes (answered_text (line_step engine.old line.now).1) result
+        (W.contents writer.old) (W.contents writer.new) }
+    ensures failed { IsErrOf result Stop.Write → AreSpent writes.new }
+    ensures none_failed { ¬ IsErrOf result Stop.Write → writes.new.failed ≡ false }
+{
+    if let Asked::Command { owner, command } = line.asks() {
+        answer_command(engine, owner, &command, text, summary);
+        return write_line(text, writer, writes);
+    }
+    play_any(alloc, engine, line, text, summary, writer, writes)
 }
 
 /// Runs all lines, and writes what is answered to each and the total line.
 pub(crate) fn play<A: Allocator + Copy, W: io::Write>(
     alloc: A,
-    heap: &mut Heap<A>,
+    engine: &mut Engine<A>,
     lines: &[Line],
     writer: &mut W,
     writes: &mut Calls,
 ) -> Result<Summary, Stop>
     requires { writes.old.failed ≡ false }
-    ensures summary { IfOk result (λ s. s
-        ≡ summary_of (answers_to (record { heap = heap.old }) lines.now)) }
-    ensures written { Writes (output_of (answers_to (record { heap = heap.old }) lines.now)) result
+    ensures summary { IfOk result (λ s. s ≡ summary_of (answers_to engine.old lines.now)) }
+    ensures written { Writes (output_of (answers_to engine.old lines.now)) result
         (W.contents writer.old) (W.contents writer.new) }
     ensures failed { IsErrOf result Stop.Write → AreSpent writes.new }
     ensures none_failed { ¬ IsErrOf result Stop.Write → writes.new.failed ≡ false }
@@ -95,7 +238,7 @@ pub(crate) fn play<A: Allocator + Copy, W: io::Write>(
         root_words: 0,
     };
     for line in lines {
-        play_line(alloc, heap, line, &mut text, &mut summary, writer, writes)?;
+        play_line(alloc, engine, line, &mut text, &mut summary, writer, writes)?;
     }
     put_total(&mut text, &summary);
     send(writer, writes, text.as_bytes())?;

@@ -8,7 +8,9 @@ ghost use Rattle.rh_trace.specs.Spelling.{spell_line, spelling};
 
 use crate::command_lines::put_command;
 use crate::header_line::put_header;
-use crate::keyword_lines::put_dump;
+use crate::keyword_lines::{
+    put_alone, put_deal_line, put_give_line, put_join_line, put_shade_line,
+};
 use crate::line::{Asked, Line};
 use crate::trace::Trace;
 use rh_text::{Calls, LineText, Write, send};
@@ -21,7 +23,15 @@ fn put_line(text: &mut LineText, line: &Line)
 {
     match line.asks() {
         Asked::Command { owner, command } => put_command(text, owner, &command),
-        Asked::Dump => put_dump(text),
+        Asked::Begin => put_alone(text, b"begin"),
+        Asked::Shade { root } => put_shade_line(text, root),
+        Asked::Deal { kind, most, tray } => put_deal_line(text, kind, most, tray),
+        Asked::Give { tray } => put_give_line(text, tray),
+        Asked::Join { into, other } => put_join_line(text, into, other),
+        Asked::Flip => put_alone(text, b"flip"),
+        Asked::Trays => put_alone(text, b"trays"),
+        Asked::Stat => put_alone(text, b"stat"),
+        Asked::Dump => put_alone(text, b"dump"),
     }
 }
 

@@ -1,7 +1,10 @@
 //! A trace run on a new heap.
 
-ghost use Rattle.std.specs.Prelude.{◌≡◌, List, ℕ, false, IfOk, IsErrOf, IfSome};
+ghost use Rattle.std.specs.Prelude.{◌≡◌, List, ℕ, false, IfOk, IsErrOf, IfSome, None, Ok};
 ghost use Rattle.std.specs.Io.KnownBytes.{Appends, Consumes};
+ghost use Rattle.rh_core.specs.Config.{fault_of};
+ghost use Rattle.rh_core.specs.Cycle.{IsWellFormed};
+ghost use Rattle.rh_core.specs.Heap.{new_heap};
 ghost use Rattle.rh_text.specs.Calls.{AreSpent};
 ghost use Rattle.rh_text.specs.Output.{AppendsLess};
 ghost use Rattle.rh_trace.specs.Answers.{Answered};
@@ -10,6 +13,7 @@ ghost use Rattle.rh_trace.specs.Spelling.{Script};
 ghost use Rattle.rh_trace.specs.Run.{config_of, summary_of, output_of, run_of_trace, run_of};
 ghost use Rattle.rh_trace.specs.Run.{Ends, IsPlainRun};
 
+use crate::engine::Engine;
 use crate::fault::ParseError;
 use crate::line::Header;
 use crate::playing::play;
@@ -18,6 +22,9 @@ use crate::stop::Stop;
 use crate::summary::Summary;
 use crate::trace::parse;
 use rh_core::laws::heaps_answer_as_plain_heaps;
+use rh_core::laws::runs::{
+    an_event_answers_as_the_plain_heap, every_event_keeps_a_heap_well_formed,
+};
 use rh_core::{Config, Heap, HeapError};
 use rh_dump::laws::a_heap_has_the_dump_of_its_plain_heap;
 use rh_layout::limits::MAX_NUMBER;
@@ -50,6 +57,10 @@ fn run_input<A: Allocator + Copy, W: io::Write>(
     requires { writes.old.failed ≡ false }
     ensures ends { Ends (run_of_trace (trace_of input.now)) result (W.contents writer.old)
         (W.contents writer.new) }
+    // The heap that the trace began with was well formed.
+    ensures begun { ¬ IsErrOf result RunFault.OutOfMemory → (script : Script)
+        → trace_of input.now ≡ Ok script → fault_of (config_of script.header) ≡ None
+        → IsWellFormed (new_heap (config_of script.header)) }
     ensures never_read { ¬ IsErrOf result RunFault.Read }
     ensures failed { IsErrOf result RunFault.Write → AreSpent writes.new }
     ensures none_failed { ¬ IsErrOf result RunFault.Write → writes.new.failed ≡ false }
@@ -59,30 +70,34 @@ fn run_input<A: Allocator + Copy, W: io::Write>(
         Err(ParseError::Fault(fault)) => return Err(RunFault::Trace(fault)),
         Err(ParseError::OutOfMemory) => return Err(RunFault::OutOfMemory),
     };
-    let mut heap = match Heap::new(alloc, config_of(trace.header())) {
+    let heap = match Heap::new(alloc, config_of(trace.header())) {
         Ok(heap) => heap,
         Err(HeapError::Config(fault)) => return Err(RunFault::New(fault)),
         Err(HeapError::OutOfMemory) => return Err(RunFault::OutOfMemory),
     };
-    match play(alloc, &mut heap, trace.lines(), writer, writes) {
+    // Only for the proof: the heap is well formed.
+    let _ = heap.stat();
+    let mut engine = Engine::new(alloc, heap);
+    match play(alloc, &mut engine, trace.lines(), writer, writes) {
         Ok(summary) => Ok(summary),
         Err(Stop::Write) => Err(RunFault::Write),
         Err(Stop::OutOfMemory) => Err(RunFault::OutOfMemory),
     }
 }
 
-/// Reads a trace whole, runs its lines in order on a new heap, and writes a line for each answer,
-/// the text of each dump and the total line: one line, or a part of a line of a dump, in each write
-/// that the writer takes whole. Nothing is written before the whole trace was read and its heap
-/// made. The answers and the dumps are those of a heap that never moves its objects, but for
-/// refusals by a limit. A trace has at most 16,777,216 bytes, and must end within 33,554,432 reads.
+/// Reads a trace whole, runs its lines in order on a new heap and on trays, and writes a line for
+/// each answer, a line for each tray that is listed, the text of each dump and the total line: one
+/// line, or a part of a line of a dump, in each write that the writer takes whole. Nothing is
+/// written before the whole trace was read and its heap made. The answers to commands and the dumps
+/// are those of a heap that never moves its objects, but for refusals by a limit. A trace has at
+/// most 16,777,216 bytes, and must end within 33,554,432 reads.
 ///
 /// # Errors
 ///
 /// Of the faults of an input the first is answered: `Long`, then `Trace`, then `New`. `Read` comes
 /// where a read failed or was one too many, `Write` where a write failed or 33,554,432 writes of
 /// one line didn't come to its end, `OutOfMemory` where the allocator refused memory, also at a
-/// dump. `run_trace_told` says of Read and Write that they come nowhere else.
+/// deal, a join or a dump. `run_trace_told` says of Read and Write that they come nowhere else.
 pub fn run_trace<A: Allocator + Copy, R: io::Read, W: io::Write>(
     alloc: A,
     reader: &mut R,
@@ -153,6 +168,8 @@ pub fn run_trace_told<A: Allocator + Copy, R: io::Read, W: io::Write>(
 {
     // The laws from which the clauses on the plain heap follow.
     heaps_answer_as_plain_heaps();
+    an_event_answers_as_the_plain_heap::<A>();
+    every_event_keeps_a_heap_well_formed::<A>();
     a_heap_has_the_dump_of_its_plain_heap();
     match read_all(alloc, reader, reads) {
         Ok(input) => run_input(alloc, &input, writer, writes),

@@ -6,8 +6,10 @@ ghost use Rattle.rh_trace.specs.Reading.{Gives, lines_from, script_or_fault, tra
 ghost use Rattle.rh_trace.specs.Spelling.{Script, IsScript, spelling};
 
 use crate::fault::{Kind, ParseError, TraceFault};
+use crate::leading_lines::leading_command_line;
 use crate::line::{Header, Line};
 use crate::reading::{header_or_fault, line_or_fault};
+use rh_layout::limits::MAX_LINES;
 use rh_text::first_line;
 use std::alloc::{Allocator, Global};
 use std::marker::Model;
@@ -41,7 +43,7 @@ impl<A: Allocator> Trace<A> {
     /// read as the same trace, by the law `what_is_spelled_is_read`.
     pub fn len(&self) -> usize
         ensures value { result ≡ length self.now.lines }
-        ensures few { result < 1048576 }
+        ensures few { result < MAX_LINES }
         ensures fits { IsScript self.now }
     {
         self.lines.len()
@@ -73,14 +75,20 @@ impl<A: Allocator> Trace<A> {
 /// The lines after the first, whose numbers begin at 2.
 fn later_lines<A: Allocator + Copy>(alloc: A, bytes: &[u8]) -> Result<Vec<Line, A>, ParseError>
     ensures lines { Gives (λ v. v.items) result (lines_from 2 (lines_of bytes.now)) }
-    ensures few { IfOk result (λ v. length v.items < 1048576) }
+    ensures few { IfOk result (λ v. length v.items < MAX_LINES) }
 {
     let mut lines = Vec::new(alloc);
     let mut number = 2;
     let mut rest = bytes;
     while !rest.is_empty() {
-        let (line, ended, after) = first_line(rest);
-        lines.push(line_or_fault(number, line, ended)?)?;
+        let (line, after) = match leading_command_line(number, rest) {
+            Some((owner, command, after)) => (Line::of(owner, command), after),
+            None => {
+                let (line, ended, after) = first_line(rest);
+                (line_or_fault(number, line, ended)?, after)
+            }
+        };
+        lines.push(line)?;
         number += 1;
         rest = after;
     }

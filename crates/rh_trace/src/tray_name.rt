@@ -72,7 +72,7 @@ impl TrayName {
     /// The bytes of the name.
     pub fn as_bytes(&self) -> &[u8]
         ensures bytes { result.now ≡ self.now }
-        ensures len { length result.now ≤ MAX_NAME_BYTES }
+        ensures len { length result.now ≤ 16 }
     {
         &self.bytes[..usize::from(self.len)]
     }

@@ -1,6 +1,6 @@
 //! Trays: partial replicas with names, in the order in which the names were first used.
 
-ghost use Rattle.std.specs.Prelude.{◌≡◌, [], length, slice_get, OnOk, IfOk};
+ghost use Rattle.std.specs.Prelude.{◌≡◌, [], length, slice_get, OnOk, OnErr, IfOk};
 ghost use Rattle.std.specs.Option.{option_map};
 ghost use Rattle.rh_trace.specs.Trays.{tray_named, trays_with, tray_or_empty, tray_of};
 ghost use Rattle.rh_trace.specs.Trays.{tray_with, joined_trays, joined_into};
@@ -91,9 +91,11 @@ impl<A: Allocator + Copy> Trays<A> {
         }
     }
 
-    /// The tray of this name takes a replica in place of what it had.
+    /// The tray of this name takes a replica in place of what it had. Nothing has changed where a
+    /// growth was refused.
     fn put(&mut self, name: TrayName, replica: PartialReplica<A>) -> Result<(), OutOfMemory>
-        ensures { OnOk result (self.new ≡ trays_with self.old name (tray_of replica)) }
+        ensures put { OnOk result (self.new ≡ trays_with self.old name (tray_of replica)) }
+        ensures unchanged { OnErr result (self.new ≡ self.old) }
     {
         match self.replicas.insert(name, replica) {
             Ok(_) => Ok(()),
@@ -111,11 +113,13 @@ impl<A: Allocator + Copy> Trays<A> {
         }
     }
 
-    /// Folds a piece into the tray of this name, which is made where it isn't there. The tray must
-    /// be of the piece's epoch, which isn't looked at here.
+    /// Folds a piece into the tray of this name, which is made where it isn't there, and must else
+    /// be of the piece's epoch. Nothing has changed where a growth was refused.
     pub(crate) fn fold_in(&mut self, name: TrayName, piece: &Piece) -> Result<(), OutOfMemory>
-        ensures { OnOk result (self.new ≡ trays_with self.old name
+        requires { (tray_or_empty self.old name piece.now.epoch).epoch ≡ piece.now.epoch }
+        ensures folded { OnOk result (self.new ≡ trays_with self.old name
             (tray_with (tray_or_empty self.old name piece.now.epoch) piece.now.items)) }
+        ensures unchanged { OnErr result (self.new ≡ self.old) }
     {
         let replica = self.copy_or_empty(name, piece.epoch())?;
         let more = taken(replica, piece)?;
@@ -127,9 +131,9 @@ impl<A: Allocator + Copy> Trays<A> {
     ///
     /// # Errors
     ///
-    /// The first of these that holds, and nothing has changed then: `NoTray` where there is no tray
-    /// of the second name, `TooManyTrays` where there is none of the first and there are 64 others.
-    /// Outside of these `OutOfMemory` where a growth was refused.
+    /// The first of these that holds: `NoTray` where there is no tray of the second name,
+    /// `TooManyTrays` where there is none of the first and there are 64 others. Outside of these
+    /// `OutOfMemory` where a growth was refused. Nothing has changed after any of them.
     pub fn join(
         &mut self,
         into: TrayName,
@@ -137,6 +141,7 @@ impl<A: Allocator + Copy> Trays<A> {
     ) -> Result<Result<u64, JoinRefusal>, OutOfMemory>
         ensures state { OnOk result (self.new ≡ (join_step self.old into other).0) }
         ensures answer { IfOk result (λ answer. answer ≡ (join_step self.old into other).1) }
+        ensures unchanged { OnErr result (self.new ≡ self.old) }
     {
         let Some(second) = self.get(other) else {
             return Ok(Err(JoinRefusal::NoTray));
@@ -149,11 +154,13 @@ impl<A: Allocator + Copy> Trays<A> {
         Ok(Ok(entries))
     }
 
-    /// Joins a replica into the tray of this name, which becomes it where it isn't there.
+    /// Joins a replica into the tray of this name, which becomes it where it isn't there. Nothing
+    /// has changed where a growth was refused.
     fn join_in(&mut self, into: TrayName, second: PartialReplica<A>) -> Result<u64, OutOfMemory>
         ensures state { OnOk result (self.new ≡ (with_join self.old into (tray_of second)).0) }
         ensures answer { IfOk result (λ entries. entries
             ≡ length (joined_into (tray_named self.old into) (tray_of second)).entries) }
+        ensures unchanged { OnErr result (self.new ≡ self.old) }
     {
         let both = self.joined_with(into, second)?;
         let entries = both.len() as u64;
@@ -177,11 +184,12 @@ impl<A: Allocator + Copy> Trays<A> {
     }
 }
 
-/// A replica with the items of a piece, which must be of its epoch.
+/// A replica with the items of a piece of its epoch.
 fn taken<A: Allocator + Copy>(
     replica: PartialReplica<A>,
     piece: &Piece,
 ) -> Result<PartialReplica<A>, OutOfMemory>
+    requires { replica.epoch ≡ piece.now.epoch }
     ensures { IfOk result (λ more. tray_of more ≡ tray_with (tray_of replica) piece.now.items) }
 {
     // What the order of the entries is, from which the clause follows.

@@ -1,15 +1,18 @@
 -- The fault that reading finds comes first in the order of the format.
-use Rattle.std.proofs.Common.{◌≡◌, ℕ, ℤ, ◌+◌, ◌<◌, ◌≤◌, ◌⊎◌, Bool, true, false, cond, ltb, leb, eqb, not, ◌||◌, ◌&&◌, List, [], ◌∷◌, length, Option, Some, None, Result, Ok, Err, refl, sym, ap, subst, ◌∙◌, arith, inl, inr}
+use Rattle.std.proofs.Common.{◌≡◌, ℕ, ℤ, ◌+◌, ◌<◌, ◌⊎◌, Bool, true, false, cond, ltb, eqb, not, ◌||◌, List, [], ◌∷◌, ◌++◌, length, Option, Some, None, Result, Ok, Err, refl, sym, ap, subst, ◌∙◌, arith, inl, inr}
 use Rattle.std.specs.Bool.{Decides}
 use Rattle.std.specs.Prelude.{codes, ⊤}
 use Rattle.std.specs.Str.{bytes_eq}
-use Rattle.std.proofs.lemmas.Bool.{false≢true, and_parts, and_from, leb-true, le-leb}
+use Rattle.std.proofs.lemmas.Bool.{false≢true}
 use Rattle.std.proofs.lemmas.Bool.Decides.{Decides-or, Decides-ltb, Decides-not, not_from_Decides, Decides-eqb}
+use Rattle.std.proofs.lemmas.List.{length-append}
 use Rattle.std.proofs.lemmas.Slice.Eq.{bytes_eq-Decides}
 use Rattle.rh_layout.specs.declared.command.Command.{Command}
 use Rattle.rh_layout.specs.declared.command.Operand.{Operand}
 use Rattle.rh_layout.specs.declared.command.Operand.TheVariants as operands
 use Rattle.rh_layout.specs.declared.command.RootId.{RootId}
+use Rattle.rh_core.specs.declared.outcomes as outcomes
+use Rattle.rh_core.specs.declared.outcomes.Kind.TheVariants.{Copies, Entries}
 use Rattle.rh_text.specs.Number.{number_of, integer_of}
 use Rattle.rh_text.specs.Parts.{parts_of, is_formed, has_dot, begins_with_digit, one_part, two_parts, three_parts, six_parts, IsFormedLine}
 use Rattle.rh_text.specs.RawLine.{RawLine, lines_of, raw_text}
@@ -23,16 +26,18 @@ use Rattle.rh_text.specs.lemmas.Roots.{root_means, root_of-text}
 use Rattle.rh_text.specs.lemmas.Stages.{Judges, JudgesLines, judges-end, judges-here, judges-later, judges-test, judges-found, judges-line, judges-no_lines, judges-made, judges-step, in_lines-from}
 use Rattle.rh_text.specs.lemmas.Steps.{none_some, bind_bind}
 use Rattle.rh_trace.specs.declared.fault.Kind.{Kind}
-use Rattle.rh_trace.specs.declared.fault.Kind.TheVariants.{Empty, Long, Cut, Form, Header, Word, Number, Root}
+use Rattle.rh_trace.specs.declared.fault.Kind.TheVariants.{Empty, Long, Cut, Form, Header, Word, Number, Root, Tray}
 use Rattle.rh_trace.specs.declared.fault.TraceFault.{TraceFault}
 use Rattle.rh_trace.specs.declared.line as declared
 use Rattle.rh_trace.specs.declared.line.Line.{Line}
 use Rattle.rh_trace.specs.declared.line.Line.TheVariants as lines
-use Rattle.rh_trace.specs.Faults.{Sort, keyword, number, root, operand, header_form, command_forms, keyword_forms, lookup, IsNumber, IsRoot, IsInteger, HasDot, IsDigitFirst, each_part, form_faults, BeginsWithOwner, LacksKeyword, form_of, command_part_faults, command_faults, keyword_part_faults, line_part_faults, IsFirstPart, header_part_faults, raw_line_faults, header_faults, line_faults, trace_faults}
+use Rattle.rh_trace.specs.Faults.{Sort, keyword, number, root, operand, copies_or_entries, tray, header_form, command_forms, keyword_forms, lookup, IsNumber, IsRoot, IsInteger, HasDot, IsDigitFirst, each_part, form_faults, BeginsWithOwner, LacksKeyword, form_of, command_part_faults, command_faults, keyword_part_faults, line_part_faults, IsFirstPart, header_part_faults, raw_line_faults, header_faults, line_faults, trace_faults}
 use Rattle.rh_trace.specs.Line.{line_of}
-use Rattle.rh_trace.specs.Reading.{number_or_fault, integer_or_fault, root_or_fault, operand_or_fault, alloc_of, load_of, store_of, copy_of, same_of, drop_of, command_or_fault, owned_command, single_command, alone, keyword_line, line_of_parts, sizes_of, header_of_parts, checked_parts, fault_at, line_or_kind, header_or_kind, lines_from, script_or_fault, trace_of}
+use Rattle.rh_trace.specs.Reading.{number_or_fault, integer_or_fault, root_or_fault, operand_or_fault, alloc_of, load_of, store_of, copy_of, same_of, drop_of, command_or_fault, owned_command, single_command, alone, tray_or_fault, kind_or_fault, shade_of, deal_of, give_of, join_of, keyword_line, line_of_parts, sizes_of, header_of_parts, checked_parts, fault_at, line_or_kind, header_or_kind, lines_from, script_or_fault, trace_of}
 use Rattle.rh_trace.specs.Spelling.{Script, spell_line, spell_header, LineFits, HeaderFits}
+use Rattle.rh_trace.specs.TrayName.{tray_name_of, IsTrayName}
 use Rattle.rh_trace.specs.lemmas.ReadIsSpelled.{line_or_fault-means, header_or_fault-means}
+use Rattle.rh_trace.specs.lemmas.TrayNames.{in_range-Decides, name-from_read, read-from_name}
 
 -- ---- numbers, roots and operands
 
@@ -105,104 +110,147 @@ module _ {A : Type 0} (part : List ℕ) (others : ℕ → Kind → Type 0) (f : 
   unfolding operand_or_fault
   judges-operand = operand_by (bytes_eq part (codes "nil")) (has_dot part) (bytes_eq-Decides part (codes "nil")) (has_dot-Decides part)
 
+-- ---- names of trays, and what is dealt
+
+no_tray : (part : List ℕ) → tray_name_of part ≡ None → ¬ IsTrayName part
+no_tray part e h = none_some (tray_name_of part) part e (read-from_name part h)
+
+tray_is : (part name : List ℕ) → tray_name_of part ≡ Some name → IsTrayName part
+tray_is part name e = let m = name-from_read part name e in subst IsTrayName m.0 m.1
+
+judges-tray : {A : Type 0} (part : List ℕ) (others : ℕ → Kind → Type 0) (f : List ℕ → Result A Kind) → ((name : List ℕ) → Judges others (f name)) → Judges (Tray when (¬ IsTrayName part) ▸ others) (tray_or_fault part >>= f)
+judges-tray part others f next = judges-found (tray_name_of part) Tray (¬ IsTrayName part) others f (no_tray part) (λ name e fails. fails (tray_is part name e)) (λ name e. next name)
+
+-- neither of the words that say what is dealt
+abbrev IsNeither : List ℕ → Type 0
+IsNeither part = (¬ (part ≡ codes "copies")) × (¬ (part ≡ codes "entries"))
+
+module _ {A : Type 0} (part : List ℕ) (others : ℕ → Kind → Type 0) (f : outcomes.Kind.Kind → Result A Kind) (next : (x : outcomes.Kind.Kind) → Judges others (f x)) where
+  kind_by : (copies entries : Bool) → Decides copies (part ≡ codes "copies") → Decides entries (part ≡ codes "entries") → Judges (Word when IsNeither part ▸ others) (cond copies (Ok Copies) (cond entries (Ok Entries) (Err Word)) >>= f)
+  kind_by true entries copied entered = judges-later Word (IsNeither part) others (f Copies) (λ h. h.0 (copied.0 refl)) (next Copies)
+  kind_by false true copied entered = judges-later Word (IsNeither part) others (f Entries) (λ h. h.1 (entered.0 refl)) (next Entries)
+  kind_by false false copied entered = judges-here Word (IsNeither part) others (not_from_Decides false copied refl, not_from_Decides false entered refl)
+
+  judges-kind : Judges (Word when IsNeither part ▸ others) (kind_or_fault part >>= f)
+  unfolding kind_or_fault
+  judges-kind = kind_by (bytes_eq part (codes "copies")) (bytes_eq part (codes "entries")) (bytes_eq-Decides part (codes "copies")) (bytes_eq-Decides part (codes "entries"))
+
 -- ---- so many parts
 
-module _ {A : Type 0} (owner word : List ℕ) where
-  judges-one : (s : Sort) (args : List (List ℕ)) (f : List ℕ → Result A Kind) → ((a : List ℕ) → Judges (each_part (number ∷ keyword ∷ s ∷ []) (owner ∷ word ∷ a ∷ [])) (f a))
-      → Judges (form_faults (Some (number ∷ keyword ∷ s ∷ [])) (owner ∷ word ∷ args)) (or_fault (one_part args) Form >>= f)
+-- what stands before the arguments: an owner and a keyword, or a keyword alone
+module _ {A : Type 0} (before : List Sort) (first : List (List ℕ)) (even : length first ≡ length before) where
+  counted : (sorts : List Sort) (args : List (List ℕ)) (r : Result A Kind) → length args ≡ length sorts → Judges (each_part (before ++ sorts) (first ++ args)) r → Judges (form_faults (Some (before ++ sorts)) (first ++ args)) r
+  counted sorts args r count judged = judges-later Form (¬ (length (first ++ args) ≡ length (before ++ sorts))) (each_part (before ++ sorts) (first ++ args)) r (λ fails. fails (omega (arith, even, count, length-append first args, length-append before sorts))) judged
+
+  miscounted : (sorts : List Sort) (args : List (List ℕ)) → ¬ (length args ≡ length sorts) → Judges {A = A} (form_faults (Some (before ++ sorts)) (first ++ args)) (Err Form)
+  miscounted sorts args differs = judges-here Form (¬ (length (first ++ args) ≡ length (before ++ sorts))) (each_part (before ++ sorts) (first ++ args)) (λ e. differs (omega (arith, even, e, length-append first args, length-append before sorts)))
+
+  judges-one : (s : Sort) (args : List (List ℕ)) (f : List ℕ → Result A Kind) → ((a : List ℕ) → Judges (each_part (before ++ s ∷ []) (first ++ a ∷ [])) (f a))
+      → Judges (form_faults (Some (before ++ s ∷ [])) (first ++ args)) (or_fault (one_part args) Form >>= f)
   unfolding one_part
-  judges-one s [] f next = judges-here Form (¬ (length (owner ∷ word ∷ []) ≡ 3)) (each_part (number ∷ keyword ∷ s ∷ []) (owner ∷ word ∷ [])) (λ e. absurd (omega (arith, e)))
-  judges-one s (a ∷ []) f next = judges-later Form (¬ (length (owner ∷ word ∷ a ∷ []) ≡ 3)) (each_part (number ∷ keyword ∷ s ∷ []) (owner ∷ word ∷ a ∷ [])) (f a) (λ fails. fails refl) (next a)
-  judges-one s (a ∷ b ∷ args) f next = judges-here Form (¬ (length (owner ∷ word ∷ a ∷ b ∷ args) ≡ 3)) (each_part (number ∷ keyword ∷ s ∷ []) (owner ∷ word ∷ a ∷ b ∷ args)) (λ e. absurd (omega (arith, e)))
+  judges-one s [] f next = miscounted (s ∷ []) [] (λ e. absurd (omega (arith, e)))
+  judges-one s (a ∷ []) f next = counted (s ∷ []) (a ∷ []) (f a) refl (next a)
+  judges-one s (a ∷ b ∷ args) f next = miscounted (s ∷ []) (a ∷ b ∷ args) (λ e. absurd (omega (arith, e)))
 
-  judges-two : (s t : Sort) (args : List (List ℕ)) (f : List ℕ × List ℕ → Result A Kind) → ((a b : List ℕ) → Judges (each_part (number ∷ keyword ∷ s ∷ t ∷ []) (owner ∷ word ∷ a ∷ b ∷ [])) (f (a, b)))
-      → Judges (form_faults (Some (number ∷ keyword ∷ s ∷ t ∷ [])) (owner ∷ word ∷ args)) (or_fault (two_parts args) Form >>= f)
+  judges-two : (s t : Sort) (args : List (List ℕ)) (f : List ℕ × List ℕ → Result A Kind) → ((a b : List ℕ) → Judges (each_part (before ++ s ∷ t ∷ []) (first ++ a ∷ b ∷ [])) (f (a, b)))
+      → Judges (form_faults (Some (before ++ s ∷ t ∷ [])) (first ++ args)) (or_fault (two_parts args) Form >>= f)
   unfolding two_parts
-  judges-two s t [] f next = judges-here Form (¬ (length (owner ∷ word ∷ []) ≡ 4)) (each_part (number ∷ keyword ∷ s ∷ t ∷ []) (owner ∷ word ∷ [])) (λ e. absurd (omega (arith, e)))
-  judges-two s t (a ∷ []) f next = judges-here Form (¬ (length (owner ∷ word ∷ a ∷ []) ≡ 4)) (each_part (number ∷ keyword ∷ s ∷ t ∷ []) (owner ∷ word ∷ a ∷ [])) (λ e. absurd (omega (arith, e)))
-  judges-two s t (a ∷ b ∷ []) f next = judges-later Form (¬ (length (owner ∷ word ∷ a ∷ b ∷ []) ≡ 4)) (each_part (number ∷ keyword ∷ s ∷ t ∷ []) (owner ∷ word ∷ a ∷ b ∷ [])) (f (a, b)) (λ fails. fails refl) (next a b)
-  judges-two s t (a ∷ b ∷ c ∷ args) f next = judges-here Form (¬ (length (owner ∷ word ∷ a ∷ b ∷ c ∷ args) ≡ 4)) (each_part (number ∷ keyword ∷ s ∷ t ∷ []) (owner ∷ word ∷ a ∷ b ∷ c ∷ args)) (λ e. absurd (omega (arith, e)))
+  judges-two s t [] f next = miscounted (s ∷ t ∷ []) [] (λ e. absurd (omega (arith, e)))
+  judges-two s t (a ∷ []) f next = miscounted (s ∷ t ∷ []) (a ∷ []) (λ e. absurd (omega (arith, e)))
+  judges-two s t (a ∷ b ∷ []) f next = counted (s ∷ t ∷ []) (a ∷ b ∷ []) (f (a, b)) refl (next a b)
+  judges-two s t (a ∷ b ∷ c ∷ args) f next = miscounted (s ∷ t ∷ []) (a ∷ b ∷ c ∷ args) (λ e. absurd (omega (arith, e)))
 
-  judges-three : (s t u : Sort) (args : List (List ℕ)) (f : List ℕ × List ℕ × List ℕ → Result A Kind) → ((a b c : List ℕ) → Judges (each_part (number ∷ keyword ∷ s ∷ t ∷ u ∷ []) (owner ∷ word ∷ a ∷ b ∷ c ∷ [])) (f (a, b, c)))
-      → Judges (form_faults (Some (number ∷ keyword ∷ s ∷ t ∷ u ∷ [])) (owner ∷ word ∷ args)) (or_fault (three_parts args) Form >>= f)
+  judges-three : (s t u : Sort) (args : List (List ℕ)) (f : List ℕ × List ℕ × List ℕ → Result A Kind) → ((a b c : List ℕ) → Judges (each_part (before ++ s ∷ t ∷ u ∷ []) (first ++ a ∷ b ∷ c ∷ [])) (f (a, b, c)))
+      → Judges (form_faults (Some (before ++ s ∷ t ∷ u ∷ [])) (first ++ args)) (or_fault (three_parts args) Form >>= f)
   unfolding three_parts
-  judges-three s t u [] f next = judges-here Form (¬ (length (owner ∷ word ∷ []) ≡ 5)) (each_part (number ∷ keyword ∷ s ∷ t ∷ u ∷ []) (owner ∷ word ∷ [])) (λ e. absurd (omega (arith, e)))
-  judges-three s t u (a ∷ []) f next = judges-here Form (¬ (length (owner ∷ word ∷ a ∷ []) ≡ 5)) (each_part (number ∷ keyword ∷ s ∷ t ∷ u ∷ []) (owner ∷ word ∷ a ∷ [])) (λ e. absurd (omega (arith, e)))
-  judges-three s t u (a ∷ b ∷ []) f next = judges-here Form (¬ (length (owner ∷ word ∷ a ∷ b ∷ []) ≡ 5)) (each_part (number ∷ keyword ∷ s ∷ t ∷ u ∷ []) (owner ∷ word ∷ a ∷ b ∷ [])) (λ e. absurd (omega (arith, e)))
-  judges-three s t u (a ∷ b ∷ c ∷ []) f next = judges-later Form (¬ (length (owner ∷ word ∷ a ∷ b ∷ c ∷ []) ≡ 5)) (each_part (number ∷ keyword ∷ s ∷ t ∷ u ∷ []) (owner ∷ word ∷ a ∷ b ∷ c ∷ [])) (f (a, b, c)) (λ fails. fails refl) (next a b c)
-  judges-three s t u (a ∷ b ∷ c ∷ d ∷ args) f next = judges-here Form (¬ (length (owner ∷ word ∷ a ∷ b ∷ c ∷ d ∷ args) ≡ 5)) (each_part (number ∷ keyword ∷ s ∷ t ∷ u ∷ []) (owner ∷ word ∷ a ∷ b ∷ c ∷ d ∷ args)) (λ e. absurd (omega (arith, e)))
+  judges-three s t u [] f next = miscounted (s ∷ t ∷ u ∷ []) [] (λ e. absurd (omega (arith, e)))
+  judges-three s t u (a ∷ []) f next = miscounted (s ∷ t ∷ u ∷ []) (a ∷ []) (λ e. absurd (omega (arith, e)))
+  judges-three s t u (a ∷ b ∷ []) f next = miscounted (s ∷ t ∷ u ∷ []) (a ∷ b ∷ []) (λ e. absurd (omega (arith, e)))
+  judges-three s t u (a ∷ b ∷ c ∷ []) f next = counted (s ∷ t ∷ u ∷ []) (a ∷ b ∷ c ∷ []) (f (a, b, c)) refl (next a b c)
+  judges-three s t u (a ∷ b ∷ c ∷ d ∷ args) f next = miscounted (s ∷ t ∷ u ∷ []) (a ∷ b ∷ c ∷ d ∷ args) (λ e. absurd (omega (arith, e)))
 
 -- ---- the command lines, keyword by keyword
 
+abbrev owner_and_keyword : List Sort
+owner_and_keyword = number ∷ keyword ∷ []
+
 judges-alloc : (owner word : List ℕ) (args : List (List ℕ)) → Judges (form_faults (Some (number ∷ keyword ∷ root ∷ number ∷ [])) (owner ∷ word ∷ args)) (alloc_of owner args)
 unfolding alloc_of
-judges-alloc owner word args = judges-two owner word root number args _ (λ a b.
+judges-alloc owner word args = judges-two owner_and_keyword (owner ∷ word ∷ []) refl root number args _ (λ a b.
     judges-number owner _ _ (λ o. judges-root a _ _ (λ r. judges-number b _ _ (λ n. judges-end _))))
 
 judges-load : (owner word : List ℕ) (args : List (List ℕ)) → Judges (form_faults (Some (number ∷ keyword ∷ root ∷ root ∷ number ∷ [])) (owner ∷ word ∷ args)) (load_of owner args)
 unfolding load_of
-judges-load owner word args = judges-three owner word root root number args _ (λ a b c.
+judges-load owner word args = judges-three owner_and_keyword (owner ∷ word ∷ []) refl root root number args _ (λ a b c.
     judges-number owner _ _ (λ o. judges-root a _ _ (λ r. judges-root b _ _ (λ s. judges-number c _ _ (λ n. judges-end _)))))
 
 judges-store : (owner word : List ℕ) (args : List (List ℕ)) → Judges (form_faults (Some (number ∷ keyword ∷ root ∷ number ∷ operand ∷ [])) (owner ∷ word ∷ args)) (store_of owner args)
 unfolding store_of
-judges-store owner word args = judges-three owner word root number operand args _ (λ a b c.
+judges-store owner word args = judges-three owner_and_keyword (owner ∷ word ∷ []) refl root number operand args _ (λ a b c.
     judges-number owner _ _ (λ o. judges-root a _ _ (λ r. judges-number b _ _ (λ n. judges-operand c _ _ (λ x. judges-end _)))))
 
 judges-copy : (owner word : List ℕ) (args : List (List ℕ)) → Judges (form_faults (Some (number ∷ keyword ∷ root ∷ root ∷ [])) (owner ∷ word ∷ args)) (copy_of owner args)
 unfolding copy_of
-judges-copy owner word args = judges-two owner word root root args _ (λ a b.
+judges-copy owner word args = judges-two owner_and_keyword (owner ∷ word ∷ []) refl root root args _ (λ a b.
     judges-number owner _ _ (λ o. judges-root a _ _ (λ r. judges-root b _ _ (λ s. judges-end _))))
 
 judges-same : (owner word : List ℕ) (args : List (List ℕ)) → Judges (form_faults (Some (number ∷ keyword ∷ root ∷ root ∷ [])) (owner ∷ word ∷ args)) (same_of owner args)
 unfolding same_of
-judges-same owner word args = judges-two owner word root root args _ (λ a b.
+judges-same owner word args = judges-two owner_and_keyword (owner ∷ word ∷ []) refl root root args _ (λ a b.
     judges-number owner _ _ (λ o. judges-root a _ _ (λ r. judges-root b _ _ (λ s. judges-end _))))
 
 judges-drop : (owner word : List ℕ) (args : List (List ℕ)) → Judges (form_faults (Some (number ∷ keyword ∷ root ∷ [])) (owner ∷ word ∷ args)) (drop_of owner args)
 unfolding drop_of
-judges-drop owner word args = judges-one owner word root args _ (λ a.
+judges-drop owner word args = judges-one owner_and_keyword (owner ∷ word ∷ []) refl root args _ (λ a.
     judges-number owner _ _ (λ o. judges-root a _ _ (λ r. judges-end _)))
 
 -- ---- the keyword
 
-abbrev keyword_faults : List (List ℕ) → Option (List Sort) → ℕ → Kind → Type 0
-keyword_faults parts form = Word when ((¬ BeginsWithOwner parts) ⊎ (form ≡ None)) ▸ form_faults form parts
+-- Word, where what would name the form is lacking, and then the faults of the form
+abbrev word_faults : (Option (List Sort) → Type 0) → List (List ℕ) → Option (List Sort) → ℕ → Kind → Type 0
+word_faults Lacks parts form = Word when (Lacks form) ▸ form_faults form parts
 
 some_none : {A : Type 0} (x : A) → ◌≡◌ {A = Option A} (Some x) None → ⊥
 some_none x e = cc
 
-module _ {A : Type 0} (parts : List (List ℕ)) where
-  known : (form : List Sort) (this : Result A Kind) → BeginsWithOwner parts → Judges (form_faults (Some form) parts) this → Judges (keyword_faults parts (Some form)) this
-  known form this owned judged =
-      judges-later Word ((¬ BeginsWithOwner parts) ⊎ (◌≡◌ {A = Option (List Sort)} (Some form) None)) (form_faults (Some form) parts) this
-      (λ h. elim h [ inl bare ↦ bare owned | inr e ↦ some_none form e ]) judged
+module _ {A : Type 0} (Lacks : Option (List Sort) → Type 0) (parts : List (List ℕ)) where
+  -- one keyword more: the form where the word is this one, or else that of the other keywords
+  by_keyword : ((form : List Sort) → ¬ Lacks (Some form)) → (t : Bool) (form : List Sort) (o : Option (List Sort)) (this others : Result A Kind)
+      → Judges (form_faults (Some form) parts) this → Judges (word_faults Lacks parts o) others → Judges (word_faults Lacks parts (cond t (Some form) o)) (cond t this others)
+  by_keyword known true form o this others here there = judges-later Word (Lacks (Some form)) (form_faults (Some form) parts) this (known form) here
+  by_keyword known false form o this others here there = there
 
-  unknown : Judges {A = A} (keyword_faults parts None) (Err Word)
-  unknown = judges-here Word ((¬ BeginsWithOwner parts) ⊎ (◌≡◌ {A = Option (List Sort)} None None)) (form_faults None parts) (inr refl)
+  unknown : Lacks None → Judges {A = A} (word_faults Lacks parts None) (Err Word)
+  unknown lacks = judges-here Word (Lacks None) (form_faults None parts) lacks
 
-  by_keyword : (t : Bool) (form : List Sort) (o : Option (List Sort)) (this others : Result A Kind) → Judges (keyword_faults parts (Some form)) this → Judges (keyword_faults parts o) others
-      → Judges (keyword_faults parts (cond t (Some form) o)) (cond t this others)
-  by_keyword true form o this others here there = here
-  by_keyword false form o this others here there = there
+-- ---- the lines that begin with an owner
 
-judges-keyword : (owner word : List ℕ) (args : List (List ℕ)) → IsDigitFirst owner → Judges (keyword_faults (owner ∷ word ∷ args) (lookup word command_forms)) (command_or_fault owner (word ∷ args))
+-- no owner stands first, or its keyword names no form
+abbrev LacksCommand : List (List ℕ) → Option (List Sort) → Type 0
+LacksCommand parts form = (¬ BeginsWithOwner parts) ⊎ (form ≡ None)
+
+owned_form : (parts : List (List ℕ)) → BeginsWithOwner parts → (form : List Sort) → ¬ LacksCommand parts (Some form)
+owned_form parts owned form h = elim h [ inl bare ↦ bare owned | inr e ↦ some_none form e ]
+
+judges-keyword : (owner word : List ℕ) (args : List (List ℕ)) → IsDigitFirst owner → Judges (word_faults (LacksCommand (owner ∷ word ∷ args)) (owner ∷ word ∷ args) (lookup word command_forms)) (command_or_fault owner (word ∷ args))
 unfolding command_or_fault
 judges-keyword owner word args owned =
     let parts = owner ∷ word ∷ args in
-    by_keyword parts (bytes_eq word (codes "alloc")) _ _ _ _ (known parts _ _ owned (judges-alloc owner word args))
-    (by_keyword parts (bytes_eq word (codes "load")) _ _ _ _ (known parts _ _ owned (judges-load owner word args))
-    (by_keyword parts (bytes_eq word (codes "store")) _ _ _ _ (known parts _ _ owned (judges-store owner word args))
-    (by_keyword parts (bytes_eq word (codes "copy")) _ _ _ _ (known parts _ _ owned (judges-copy owner word args))
-    (by_keyword parts (bytes_eq word (codes "same")) _ _ _ _ (known parts _ _ owned (judges-same owner word args))
-    (by_keyword parts (bytes_eq word (codes "drop")) _ _ _ _ (known parts _ _ owned (judges-drop owner word args))
-    (unknown parts))))))
+    let known = owned_form parts owned in
+    by_keyword (LacksCommand parts) parts known (bytes_eq word (codes "alloc")) _ _ _ _ (judges-alloc owner word args)
+    (by_keyword (LacksCommand parts) parts known (bytes_eq word (codes "load")) _ _ _ _ (judges-load owner word args)
+    (by_keyword (LacksCommand parts) parts known (bytes_eq word (codes "store")) _ _ _ _ (judges-store owner word args)
+    (by_keyword (LacksCommand parts) parts known (bytes_eq word (codes "copy")) _ _ _ _ (judges-copy owner word args)
+    (by_keyword (LacksCommand parts) parts known (bytes_eq word (codes "same")) _ _ _ _ (judges-same owner word args)
+    (by_keyword (LacksCommand parts) parts known (bytes_eq word (codes "drop")) _ _ _ _ (judges-drop owner word args)
+    (unknown (LacksCommand parts) parts (inr refl)))))))
 
 judges-command : (owner : List ℕ) (rest : List (List ℕ)) → IsDigitFirst owner → Judges (command_part_faults (owner ∷ rest)) (command_or_fault owner rest)
 unfolding command_or_fault
-judges-command owner [] owned = judges-here Form (LacksKeyword (owner ∷ [])) (keyword_faults (owner ∷ []) None) owned
+judges-command owner [] owned = judges-here Form (LacksKeyword (owner ∷ [])) (word_faults (LacksCommand (owner ∷ [])) (owner ∷ []) None) owned
 judges-command owner (word ∷ args) owned =
-    judges-later Form (LacksKeyword (owner ∷ word ∷ args)) (keyword_faults (owner ∷ word ∷ args) (lookup word command_forms)) (command_or_fault owner (word ∷ args)) (λ h. h) (judges-keyword owner word args owned)
+    let parts = owner ∷ word ∷ args in
+    judges-later Form (LacksKeyword parts) (word_faults (LacksCommand parts) parts (lookup word command_forms)) (command_or_fault owner (word ∷ args)) (λ h. h) (judges-keyword owner word args owned)
 
 no_keyword : (first : List ℕ) (rest : List (List ℕ)) → ¬ IsDigitFirst first → LacksKeyword (first ∷ rest) → ⊥
 no_keyword first [] bare h = bare h
@@ -211,18 +259,12 @@ no_keyword first (word ∷ args) bare h = h
 judges-no_owner : (first : List ℕ) (rest : List (List ℕ)) → ¬ IsDigitFirst first → Judges {A = ℕ × Command} (command_part_faults (first ∷ rest)) (Err Word)
 judges-no_owner first rest bare =
     let parts = first ∷ rest in
-    judges-later Form (LacksKeyword parts) (keyword_faults parts (form_of parts)) (Err Word) (no_keyword first rest bare)
-    (judges-here Word ((¬ BeginsWithOwner parts) ⊎ (form_of parts ≡ None)) (form_faults (form_of parts) parts) (inl bare))
-
-in_range_Decides : (low high b : ℕ) → Decides (leb low b && leb b high) ((low ≤ b) × (b ≤ high))
-in_range_Decides low high b = (
-  λ h. let p = and_parts (leb low b) (leb b high) h in (leb-true low b p.0, leb-true b high p.1),
-  λ h. and_from (leb low b) (leb b high) (le-leb low b h.0) (le-leb b high h.1),
-)
+    judges-later Form (LacksKeyword parts) (word_faults (LacksCommand parts) parts (form_of parts)) (Err Word) (no_keyword first rest bare)
+    (judges-here Word (LacksCommand parts (form_of parts)) (form_faults (form_of parts) parts) (inl bare))
 
 begins_with_digit-Decides : (part : List ℕ) → Decides (begins_with_digit part) (IsDigitFirst part)
 begins_with_digit-Decides [] = (λ e. false≢true e, λ h. absurd h)
-begins_with_digit-Decides (b ∷ bs) = in_range_Decides 48 57 b
+begins_with_digit-Decides (b ∷ bs) = in_range-Decides 48 57 b
 
 by_first : (t : Bool) (first : List ℕ) (rest : List (List ℕ)) → Decides t (IsDigitFirst first) → Judges (command_part_faults (first ∷ rest)) (cond t (command_or_fault first rest) (Err Word))
 by_first true first rest decides = judges-command first rest (decides.0 refl)
@@ -230,7 +272,7 @@ by_first false first rest decides = judges-no_owner first rest (not_from_Decides
 
 pub judges-owned : (parts : List (List ℕ)) → Judges (command_part_faults parts) (owned_command parts)
 unfolding owned_command
-judges-owned [] = judges-here Form ⊤ (keyword_faults [] None) tt
+judges-owned [] = judges-here Form ⊤ (word_faults (LacksCommand []) [] None) tt
 judges-owned (first ∷ rest) = by_first (begins_with_digit first) first rest (begins_with_digit-Decides first)
 
 -- ---- the lines that begin with their keyword
@@ -239,32 +281,46 @@ cons_nil : {A : Type 0} (x : A) (xs : List A) → ◌≡◌ {A = List A} (x ∷ 
 cons_nil x xs e = cc
 
 judges-alone : (word : List ℕ) (args : List (List ℕ)) (line : Line) → Judges (form_faults (Some (keyword ∷ [])) (word ∷ args)) (alone args line)
-judges-alone word [] line = judges-later Form (¬ (length (word ∷ []) ≡ 1)) (each_part (keyword ∷ []) (word ∷ [])) (Ok line) (λ fails. fails refl) (judges-end line)
-judges-alone word (a ∷ args) line = judges-here Form (¬ (length (word ∷ a ∷ args) ≡ 1)) (each_part (keyword ∷ []) (word ∷ a ∷ args)) (λ e. absurd (omega (arith, e)))
+judges-alone word [] line = counted (keyword ∷ []) (word ∷ []) refl [] [] (Ok line) refl (judges-end line)
+judges-alone word (a ∷ args) line = miscounted (keyword ∷ []) (word ∷ []) refl [] (a ∷ args) (λ e. absurd (omega (arith, e)))
 
--- the word, and then the form that it names
-abbrev named_faults : List (List ℕ) → Option (List Sort) → ℕ → Kind → Type 0
-named_faults parts form = Word when (form ≡ None) ▸ form_faults form parts
+judges-shade : (word : List ℕ) (args : List (List ℕ)) → Judges (form_faults (Some (keyword ∷ root ∷ [])) (word ∷ args)) (shade_of args)
+unfolding shade_of
+judges-shade word args = judges-one (keyword ∷ []) (word ∷ []) refl root args _ (λ a. judges-root a _ _ (λ r. judges-end _))
 
-module _ {A : Type 0} (parts : List (List ℕ)) where
-  named : (form : List Sort) (this : Result A Kind) → Judges (form_faults (Some form) parts) this → Judges (named_faults parts (Some form)) this
-  named form this judged = judges-later Word (◌≡◌ {A = Option (List Sort)} (Some form) None) (form_faults (Some form) parts) this (some_none form) judged
+judges-deal : (word : List ℕ) (args : List (List ℕ)) → Judges (form_faults (Some (keyword ∷ copies_or_entries ∷ number ∷ tray ∷ [])) (word ∷ args)) (deal_of args)
+unfolding deal_of
+judges-deal word args = judges-three (keyword ∷ []) (word ∷ []) refl copies_or_entries number tray args _ (λ a b c.
+    judges-kind a _ _ (λ k. judges-number b _ _ (λ n. judges-tray c _ _ (λ t. judges-end _))))
 
-  unnamed : Judges {A = A} (named_faults parts None) (Err Word)
-  unnamed = judges-here Word (◌≡◌ {A = Option (List Sort)} None None) (form_faults None parts) refl
+judges-give : (word : List ℕ) (args : List (List ℕ)) → Judges (form_faults (Some (keyword ∷ tray ∷ [])) (word ∷ args)) (give_of args)
+unfolding give_of
+judges-give word args = judges-one (keyword ∷ []) (word ∷ []) refl tray args _ (λ a. judges-tray a _ _ (λ t. judges-end _))
 
-  by_name : (t : Bool) (form : List Sort) (o : Option (List Sort)) (this others : Result A Kind) → Judges (named_faults parts (Some form)) this → Judges (named_faults parts o) others
-      → Judges (named_faults parts (cond t (Some form) o)) (cond t this others)
-  by_name true form o this others here there = here
-  by_name false form o this others here there = there
+judges-join : (word : List ℕ) (args : List (List ℕ)) → Judges (form_faults (Some (keyword ∷ tray ∷ tray ∷ [])) (word ∷ args)) (join_of args)
+unfolding join_of
+judges-join word args = judges-two (keyword ∷ []) (word ∷ []) refl tray tray args _ (λ a b.
+    judges-tray a _ _ (λ t. judges-tray b _ _ (λ u. judges-end _)))
+
+-- the keyword names no form
+abbrev LacksForm : Option (List Sort) → Type 0
+LacksForm form = form ≡ None
 
 judges-keyword_line : (word : List ℕ) (args : List (List ℕ)) → Judges (keyword_part_faults (word ∷ args)) (keyword_line word args)
 unfolding keyword_line
 judges-keyword_line word args =
     let parts = word ∷ args in
-    judges-later Form (parts ≡ []) (named_faults parts (lookup word keyword_forms)) (keyword_line word args) (cons_nil word args)
-    (by_name parts (bytes_eq word (codes "dump")) _ _ _ _ (named parts _ _ (judges-alone word args lines.Dump))
-    (unnamed parts))
+    judges-later Form (parts ≡ []) (word_faults LacksForm parts (lookup word keyword_forms)) (keyword_line word args) (cons_nil word args)
+    (by_keyword LacksForm parts some_none (bytes_eq word (codes "begin")) _ _ _ _ (judges-alone word args lines.Begin)
+    (by_keyword LacksForm parts some_none (bytes_eq word (codes "shade")) _ _ _ _ (judges-shade word args)
+    (by_keyword LacksForm parts some_none (bytes_eq word (codes "deal")) _ _ _ _ (judges-deal word args)
+    (by_keyword LacksForm parts some_none (bytes_eq word (codes "give")) _ _ _ _ (judges-give word args)
+    (by_keyword LacksForm parts some_none (bytes_eq word (codes "join")) _ _ _ _ (judges-join word args)
+    (by_keyword LacksForm parts some_none (bytes_eq word (codes "flip")) _ _ _ _ (judges-alone word args lines.Flip)
+    (by_keyword LacksForm parts some_none (bytes_eq word (codes "trays")) _ _ _ _ (judges-alone word args lines.Trays)
+    (by_keyword LacksForm parts some_none (bytes_eq word (codes "stat")) _ _ _ _ (judges-alone word args lines.Stat)
+    (by_keyword LacksForm parts some_none (bytes_eq word (codes "dump")) _ _ _ _ (judges-alone word args lines.Dump)
+    (unknown LacksForm parts refl))))))))))
 
 -- ---- all lines
 
@@ -287,7 +343,7 @@ by_owner false first rest decides = judges-without_owner (first ∷ rest) (keywo
 
 judges-line_parts : (parts : List (List ℕ)) → Judges (line_part_faults parts) (line_of_parts parts)
 unfolding line_of_parts
-judges-line_parts [] = judges-without_owner [] (Err Form) (λ h. h) (judges-here Form (◌≡◌ {A = List (List ℕ)} [] []) (named_faults [] None) refl)
+judges-line_parts [] = judges-without_owner [] (Err Form) (λ h. h) (judges-here Form (◌≡◌ {A = List (List ℕ)} [] []) (word_faults LacksForm [] None) refl)
 judges-line_parts (first ∷ rest) = by_owner (begins_with_digit first) first rest (begins_with_digit-Decides first)
 
 -- ---- the first line

@@ -12,6 +12,8 @@ use Rattle.rh_layout.specs.declared.command.Command.TheVariants.{Alloc, Load, St
 use Rattle.rh_layout.specs.declared.command.Operand.{Operand}
 use Rattle.rh_layout.specs.declared.command.Operand.TheVariants as operands
 use Rattle.rh_layout.specs.declared.command.RootId.{RootId}
+use Rattle.rh_core.specs.declared.outcomes as outcomes
+use Rattle.rh_core.specs.declared.outcomes.Kind.TheVariants.{Copies, Entries}
 use Rattle.rh_text.specs.Number.{IsU32, IsI64, number_of, integer_of}
 use Rattle.rh_text.specs.Parts.{parts_of, is_formed, has_dot, begins_with_digit, spell_parts, one_part, two_parts, three_parts, six_parts}
 use Rattle.rh_text.specs.RawLine.{RawLine, lines_of, raw_text}
@@ -25,27 +27,53 @@ use Rattle.rh_text.specs.lemmas.RawLines.{lines_text}
 use Rattle.rh_text.specs.lemmas.Roots.{root_means}
 use Rattle.rh_text.specs.lemmas.Steps.{bind_ok, chosen, refused, ok_is, or_fault_ok}
 use Rattle.rh_trace.specs.declared.fault.Kind.{Kind}
-use Rattle.rh_trace.specs.declared.fault.Kind.TheVariants.{Long, Cut, Form, Header, Word, Number, Root}
+use Rattle.rh_trace.specs.declared.fault.Kind.TheVariants.{Long, Cut, Form, Header, Word, Number, Root, Tray}
 use Rattle.rh_trace.specs.declared.fault.ParseError.{ParseError}
 use Rattle.rh_trace.specs.declared.fault.TraceFault.{TraceFault}
 use Rattle.rh_trace.specs.declared.line as declared
 use Rattle.rh_trace.specs.declared.line.Line.{Line}
 use Rattle.rh_trace.specs.declared.line.Line.TheVariants as line_variants
 use Rattle.rh_trace.specs.Line.{line_of}
-use Rattle.rh_trace.specs.Spelling.{Script, operand_text, command_parts, command_text, line_parts, header_parts, spell_line, spell_header, spelling, OperandFits, CommandFits, LineFits, HeaderFits, IsScript}
-use Rattle.rh_trace.specs.Reading.{number_or_fault, integer_or_fault, root_or_fault, operand_or_fault, alloc_of, load_of, store_of, copy_of, same_of, drop_of, command_or_fault, owned_command, single_command, alone, keyword_line, line_of_parts, sizes_of, header_of_parts, checked_parts, fault_at, line_or_kind, header_or_kind, line_or_fault, header_or_fault, lines_from, script_or_fault, trace_of, Gives}
+use Rattle.rh_trace.specs.TrayName.{tray_name_of, IsTrayName}
+use Rattle.rh_trace.specs.Spelling.{Script, operand_text, kind_text, command_parts, command_text, line_parts, header_parts, spell_line, spell_header, spelling, OperandFits, CommandFits, LineFits, HeaderFits, IsScript}
+use Rattle.rh_trace.specs.Reading.{number_or_fault, integer_or_fault, root_or_fault, operand_or_fault, tray_or_fault, kind_or_fault, alloc_of, load_of, store_of, copy_of, same_of, drop_of, command_or_fault, owned_command, single_command, alone, shade_of, deal_of, give_of, join_of, keyword_line, line_of_parts, sizes_of, header_of_parts, checked_parts, fault_at, line_or_kind, header_or_kind, line_or_fault, header_or_fault, lines_from, script_or_fault, trace_of, Gives}
 use Rattle.rh_trace.specs.lemmas.LinesInTurn.{number_within}
+use Rattle.rh_trace.specs.lemmas.TrayNames.{name-from_read}
 
 with_fault_ok : {A : Type 0} (number : ℕ) (r : Result A Kind) (x : A) → with_fault (fault_at number) r ≡ Ok x → r ≡ Ok x
 with_fault_ok number (Ok y) x e = cc
 with_fault_ok number (Err kind) x e = absurd cc
 
--- numbers and roots
+-- one keyword more: what is said of the keyword where the part is this one, or else of the part by the other keywords
+by_test : {A : Type 0} (Says : List ℕ → A → Type 0) (is : Bool) (part keyword : List ℕ) (this others : Result A Kind) (x : A) → (is ≡ true → part ≡ keyword)
+    → (this ≡ Ok x → Says keyword x) → (others ≡ Ok x → Says part x) → cond is this others ≡ Ok x → Says part x
+by_test Says true part keyword this others x same here there e = subst (λ (w : List ℕ). Says w x) (sym (same refl)) (here e)
+by_test Says false part keyword this others x same here there e = there e
+
+by_keyword : {A : Type 0} (Says : List ℕ → A → Type 0) (part keyword : List ℕ) (this others : Result A Kind) (x : A)
+    → (this ≡ Ok x → Says keyword x) → (others ≡ Ok x → Says part x) → cond (bytes_eq part keyword) this others ≡ Ok x → Says part x
+by_keyword Says part keyword this others x here there e = by_test Says (bytes_eq part keyword) part keyword this others x (bytes_eq-Decides part keyword).0 here there e
+
+-- numbers, roots and names of trays
 pub number_or_fault-means : (part : List ℕ) (n : ℕ) → number_or_fault part ≡ Ok n → (part ≡ decimal n) × IsU32 n
 number_or_fault-means part n e = number_means part n (or_fault_ok (number_of part) Number n e)
 
 root_or_fault-means : (part : List ℕ) (root : RootId) → root_or_fault part ≡ Ok root → (part ≡ root_text root) × RootFits root
 root_or_fault-means part root e = root_means part root (or_fault_ok (root_of part) Root root e)
+
+tray_or_fault-means : (part name : List ℕ) → tray_or_fault part ≡ Ok name → (part ≡ name) × IsTrayName name
+tray_or_fault-means part name e =
+    let h = name-from_read part name (or_fault_ok (tray_name_of part) Tray name e) in
+    (sym h.0, h.1)
+
+-- what is dealt
+kind_or_fault-means : (part : List ℕ) (kind : outcomes.Kind.Kind) → kind_or_fault part ≡ Ok kind → part ≡ kind_text kind
+unfolding kind_or_fault
+kind_or_fault-means part kind e =
+    let says : List ℕ → outcomes.Kind.Kind → Type 0 = λ w k. w ≡ kind_text k in
+    let entries : Result outcomes.Kind.Kind Kind = cond (bytes_eq part (codes "entries")) (Ok Entries) (Err Word) in
+    by_keyword says part (codes "copies") (Ok Copies) entries kind (λ f. ap kind_text (ok_is Copies kind f))
+    (by_keyword says part (codes "entries") (Ok Entries) (Err Word) kind (λ f. ap kind_text (ok_is Entries kind f)) (λ no. absurd cc)) e
 
 -- operands
 integer_or_fault-means : (part : List ℕ) (n : ℤ) → integer_or_fault part ≡ Ok n → (part ≡ signed_decimal n) × IsI64 n
@@ -73,14 +101,17 @@ abbrev pub Reads : List (List ℕ) → ℕ × Command → Type 0
 Reads parts owned = (parts ≡ command_parts owned.0 owned.1) × CommandFits owned.0 owned.1
 
 -- the parts of a line, each as it was found
-parts_1 : (owner word a o x : List ℕ) (args : List (List ℕ)) → args ≡ a ∷ [] → owner ≡ o → a ≡ x → owner ∷ word ∷ args ≡ o ∷ word ∷ x ∷ []
-parts_1 owner word a o x args e p q = cc
+args_1 : (a x : List ℕ) (args : List (List ℕ)) → args ≡ a ∷ [] → a ≡ x → args ≡ x ∷ []
+args_1 a x args e p = cc
 
-parts_2 : (owner word a b o x y : List ℕ) (args : List (List ℕ)) → args ≡ a ∷ b ∷ [] → owner ≡ o → a ≡ x → b ≡ y → owner ∷ word ∷ args ≡ o ∷ word ∷ x ∷ y ∷ []
-parts_2 owner word a b o x y args e p q r = cc
+args_2 : (a b x y : List ℕ) (args : List (List ℕ)) → args ≡ a ∷ b ∷ [] → a ≡ x → b ≡ y → args ≡ x ∷ y ∷ []
+args_2 a b x y args e p q = cc
 
-parts_3 : (owner word a b c o x y z : List ℕ) (args : List (List ℕ)) → args ≡ a ∷ b ∷ c ∷ [] → owner ≡ o → a ≡ x → b ≡ y → c ≡ z → owner ∷ word ∷ args ≡ o ∷ word ∷ x ∷ y ∷ z ∷ []
-parts_3 owner word a b c o x y z args e p q r t = cc
+args_3 : (a b c x y z : List ℕ) (args : List (List ℕ)) → args ≡ a ∷ b ∷ c ∷ [] → a ≡ x → b ≡ y → c ≡ z → args ≡ x ∷ y ∷ z ∷ []
+args_3 a b c x y z args e p q r = cc
+
+after_owner : (owner o word : List ℕ) (args xs : List (List ℕ)) → owner ≡ o → args ≡ xs → owner ∷ word ∷ args ≡ o ∷ word ∷ xs
+after_owner owner o word args xs e p = cc
 
 alloc_of-means : (owner : List ℕ) (args : List (List ℕ)) (owned : ℕ × Command) → alloc_of owner args ≡ Ok owned → Reads (owner ∷ codes "alloc" ∷ args) owned
 unfolding alloc_of
@@ -93,7 +124,7 @@ alloc_of-means owner args owned e =
     let owner_is = number_or_fault-means owner b.0 b.1 in
     let dst_is = root_or_fault-means a.0.0 c.0 c.1 in
     let fields_is = number_or_fault-means a.0.1 d.0 d.1 in
-    let whole : owner ∷ codes "alloc" ∷ args ≡ command_parts b.0 (Alloc c.0 d.0) = parts_2 owner (codes "alloc") a.0.0 a.0.1 (decimal b.0) (root_text c.0) (decimal d.0) args args_are owner_is.0 dst_is.0 fields_is.0 in
+    let whole : owner ∷ codes "alloc" ∷ args ≡ command_parts b.0 (Alloc c.0 d.0) = after_owner owner (decimal b.0) (codes "alloc") args (root_text c.0 ∷ decimal d.0 ∷ []) owner_is.0 (args_2 a.0.0 a.0.1 (root_text c.0) (decimal d.0) args args_are dst_is.0 fields_is.0) in
     subst (Reads (owner ∷ codes "alloc" ∷ args)) (ok_is (b.0, Alloc c.0 d.0) owned d.2) (whole, (owner_is.1, dst_is.1, fields_is.1))
 
 load_of-means : (owner : List ℕ) (args : List (List ℕ)) (owned : ℕ × Command) → load_of owner args ≡ Ok owned → Reads (owner ∷ codes "load" ∷ args) owned
@@ -109,7 +140,7 @@ load_of-means owner args owned e =
     let dst_is = root_or_fault-means a.0.0 c.0 c.1 in
     let src_is = root_or_fault-means a.0.1 d.0 d.1 in
     let field_is = number_or_fault-means a.0.2 f.0 f.1 in
-    let whole : owner ∷ codes "load" ∷ args ≡ command_parts b.0 (Load c.0 d.0 f.0) = parts_3 owner (codes "load") a.0.0 a.0.1 a.0.2 (decimal b.0) (root_text c.0) (root_text d.0) (decimal f.0) args args_are owner_is.0 dst_is.0 src_is.0 field_is.0 in
+    let whole : owner ∷ codes "load" ∷ args ≡ command_parts b.0 (Load c.0 d.0 f.0) = after_owner owner (decimal b.0) (codes "load") args (root_text c.0 ∷ root_text d.0 ∷ decimal f.0 ∷ []) owner_is.0 (args_3 a.0.0 a.0.1 a.0.2 (root_text c.0) (root_text d.0) (decimal f.0) args args_are dst_is.0 src_is.0 field_is.0) in
     subst (Reads (owner ∷ codes "load" ∷ args)) (ok_is (b.0, Load c.0 d.0 f.0) owned f.2) (whole, (owner_is.1, dst_is.1, src_is.1, field_is.1))
 
 store_of-means : (owner : List ℕ) (args : List (List ℕ)) (owned : ℕ × Command) → store_of owner args ≡ Ok owned → Reads (owner ∷ codes "store" ∷ args) owned
@@ -125,7 +156,7 @@ store_of-means owner args owned e =
     let obj_is = root_or_fault-means a.0.0 c.0 c.1 in
     let field_is = number_or_fault-means a.0.1 d.0 d.1 in
     let operand_is = operand_or_fault-means a.0.2 f.0 f.1 in
-    let whole : owner ∷ codes "store" ∷ args ≡ command_parts b.0 (Store c.0 d.0 f.0) = parts_3 owner (codes "store") a.0.0 a.0.1 a.0.2 (decimal b.0) (root_text c.0) (decimal d.0) (operand_text f.0) args args_are owner_is.0 obj_is.0 field_is.0 operand_is.0 in
+    let whole : owner ∷ codes "store" ∷ args ≡ command_parts b.0 (Store c.0 d.0 f.0) = after_owner owner (decimal b.0) (codes "store") args (root_text c.0 ∷ decimal d.0 ∷ operand_text f.0 ∷ []) owner_is.0 (args_3 a.0.0 a.0.1 a.0.2 (root_text c.0) (decimal d.0) (operand_text f.0) args args_are obj_is.0 field_is.0 operand_is.0) in
     subst (Reads (owner ∷ codes "store" ∷ args)) (ok_is (b.0, Store c.0 d.0 f.0) owned f.2) (whole, (owner_is.1, obj_is.1, field_is.1, operand_is.1))
 
 copy_of-means : (owner : List ℕ) (args : List (List ℕ)) (owned : ℕ × Command) → copy_of owner args ≡ Ok owned → Reads (owner ∷ codes "copy" ∷ args) owned
@@ -139,7 +170,7 @@ copy_of-means owner args owned e =
     let owner_is = number_or_fault-means owner b.0 b.1 in
     let dst_is = root_or_fault-means a.0.0 c.0 c.1 in
     let src_is = root_or_fault-means a.0.1 d.0 d.1 in
-    let whole : owner ∷ codes "copy" ∷ args ≡ command_parts b.0 (Copy c.0 d.0) = parts_2 owner (codes "copy") a.0.0 a.0.1 (decimal b.0) (root_text c.0) (root_text d.0) args args_are owner_is.0 dst_is.0 src_is.0 in
+    let whole : owner ∷ codes "copy" ∷ args ≡ command_parts b.0 (Copy c.0 d.0) = after_owner owner (decimal b.0) (codes "copy") args (root_text c.0 ∷ root_text d.0 ∷ []) owner_is.0 (args_2 a.0.0 a.0.1 (root_text c.0) (root_text d.0) args args_are dst_is.0 src_is.0) in
     subst (Reads (owner ∷ codes "copy" ∷ args)) (ok_is (b.0, Copy c.0 d.0) owned d.2) (whole, (owner_is.1, dst_is.1, src_is.1))
 
 same_of-means : (owner : List ℕ) (args : List (List ℕ)) (owned : ℕ × Command) → same_of owner args ≡ Ok owned → Reads (owner ∷ codes "same" ∷ args) owned
@@ -153,7 +184,7 @@ same_of-means owner args owned e =
     let owner_is = number_or_fault-means owner b.0 b.1 in
     let one_is = root_or_fault-means a.0.0 c.0 c.1 in
     let other_is = root_or_fault-means a.0.1 d.0 d.1 in
-    let whole : owner ∷ codes "same" ∷ args ≡ command_parts b.0 (Same c.0 d.0) = parts_2 owner (codes "same") a.0.0 a.0.1 (decimal b.0) (root_text c.0) (root_text d.0) args args_are owner_is.0 one_is.0 other_is.0 in
+    let whole : owner ∷ codes "same" ∷ args ≡ command_parts b.0 (Same c.0 d.0) = after_owner owner (decimal b.0) (codes "same") args (root_text c.0 ∷ root_text d.0 ∷ []) owner_is.0 (args_2 a.0.0 a.0.1 (root_text c.0) (root_text d.0) args args_are one_is.0 other_is.0) in
     subst (Reads (owner ∷ codes "same" ∷ args)) (ok_is (b.0, Same c.0 d.0) owned d.2) (whole, (owner_is.1, one_is.1, other_is.1))
 
 drop_of-means : (owner : List ℕ) (args : List (List ℕ)) (owned : ℕ × Command) → drop_of owner args ≡ Ok owned → Reads (owner ∷ codes "drop" ∷ args) owned
@@ -165,14 +196,8 @@ drop_of-means owner args owned e =
     let args_are = one_part-means args a.0 (or_fault_ok (one_part args) Form a.0 a.1) in
     let owner_is = number_or_fault-means owner b.0 b.1 in
     let root_is = root_or_fault-means a.0 c.0 c.1 in
-    let whole : owner ∷ codes "drop" ∷ args ≡ command_parts b.0 (Drop c.0) = parts_1 owner (codes "drop") a.0 (decimal b.0) (root_text c.0) args args_are owner_is.0 root_is.0 in
+    let whole : owner ∷ codes "drop" ∷ args ≡ command_parts b.0 (Drop c.0) = after_owner owner (decimal b.0) (codes "drop") args (root_text c.0 ∷ []) owner_is.0 (args_1 a.0 (root_text c.0) args args_are root_is.0) in
     subst (Reads (owner ∷ codes "drop" ∷ args)) (ok_is (b.0, Drop c.0) owned c.2) (whole, (owner_is.1, root_is.1))
-
--- one keyword more: the owned where the keyword is this one, or else that of the other keywords
-by_keyword : (is : Bool) (owner keyword text : List ℕ) (args : List (List ℕ)) (this others : Result (ℕ × Command) Kind) (owned : ℕ × Command) → (is ≡ true → keyword ≡ text)
-    → (this ≡ Ok owned → Reads (owner ∷ text ∷ args) owned) → (others ≡ Ok owned → Reads (owner ∷ keyword ∷ args) owned) → cond is this others ≡ Ok owned → Reads (owner ∷ keyword ∷ args) owned
-by_keyword true owner keyword text args this others owned same here there e = subst (λ (w : List ℕ). Reads (owner ∷ w ∷ args) owned) (sym (same refl)) (here e)
-by_keyword false owner keyword text args this others owned same here there e = there e
 
 command_or_fault-means : (owner : List ℕ) (rest : List (List ℕ)) (owned : ℕ × Command) → command_or_fault owner rest ≡ Ok owned → Reads (owner ∷ rest) owned
 unfolding command_or_fault
@@ -183,12 +208,13 @@ command_or_fault-means owner (keyword ∷ args) owned e =
     let copies : Result (ℕ × Command) Kind = cond (bytes_eq keyword (codes "copy")) (copy_of owner args) sames in
     let stores : Result (ℕ × Command) Kind = cond (bytes_eq keyword (codes "store")) (store_of owner args) copies in
     let loads : Result (ℕ × Command) Kind = cond (bytes_eq keyword (codes "load")) (load_of owner args) stores in
-    by_keyword (bytes_eq keyword (codes "alloc")) owner keyword (codes "alloc") args (alloc_of owner args) loads owned (bytes_eq-Decides keyword (codes "alloc")).0 (alloc_of-means owner args owned)
-    (by_keyword (bytes_eq keyword (codes "load")) owner keyword (codes "load") args (load_of owner args) stores owned (bytes_eq-Decides keyword (codes "load")).0 (load_of-means owner args owned)
-    (by_keyword (bytes_eq keyword (codes "store")) owner keyword (codes "store") args (store_of owner args) copies owned (bytes_eq-Decides keyword (codes "store")).0 (store_of-means owner args owned)
-    (by_keyword (bytes_eq keyword (codes "copy")) owner keyword (codes "copy") args (copy_of owner args) sames owned (bytes_eq-Decides keyword (codes "copy")).0 (copy_of-means owner args owned)
-    (by_keyword (bytes_eq keyword (codes "same")) owner keyword (codes "same") args (same_of owner args) drops owned (bytes_eq-Decides keyword (codes "same")).0 (same_of-means owner args owned)
-    (by_keyword (bytes_eq keyword (codes "drop")) owner keyword (codes "drop") args (drop_of owner args) (Err Word) owned (bytes_eq-Decides keyword (codes "drop")).0 (drop_of-means owner args owned) (λ no. absurd cc)))))) e
+    let says : List ℕ → ℕ × Command → Type 0 = λ w x. Reads (owner ∷ w ∷ args) x in
+    by_keyword says keyword (codes "alloc") (alloc_of owner args) loads owned (alloc_of-means owner args owned)
+    (by_keyword says keyword (codes "load") (load_of owner args) stores owned (load_of-means owner args owned)
+    (by_keyword says keyword (codes "store") (store_of owner args) copies owned (store_of-means owner args owned)
+    (by_keyword says keyword (codes "copy") (copy_of owner args) sames owned (copy_of-means owner args owned)
+    (by_keyword says keyword (codes "same") (same_of owner args) drops owned (same_of-means owner args owned)
+    (by_keyword says keyword (codes "drop") (drop_of owner args) (Err Word) owned (drop_of-means owner args owned) (λ no. absurd cc)))))) e
 
 pub owned_command-means : (parts : List (List ℕ)) (owned : ℕ × Command) → owned_command parts ≡ Ok owned → Reads parts owned
 unfolding owned_command
@@ -284,17 +310,73 @@ alone-means : (word : List ℕ) (args : List (List ℕ)) (this line : Line) → 
 alone-means word [] this line reads e = subst (ReadsLine (word ∷ [])) (ok_is this line e) reads
 alone-means word (a ∷ args) this line reads e = absurd cc
 
--- one keyword more: the line where the keyword is this one, or else that of the other keywords
-by_first_word : (is : Bool) (word text : List ℕ) (args : List (List ℕ)) (this others : Result Line Kind) (line : Line) → (is ≡ true → word ≡ text)
-    → (this ≡ Ok line → ReadsLine (text ∷ args) line) → (others ≡ Ok line → ReadsLine (word ∷ args) line) → cond is this others ≡ Ok line → ReadsLine (word ∷ args) line
-by_first_word true word text args this others line same here there e = subst (λ (w : List ℕ). ReadsLine (w ∷ args) line) (sym (same refl)) (here e)
-by_first_word false word text args this others line same here there e = there e
+shade_of-means : (args : List (List ℕ)) (line : Line) → shade_of args ≡ Ok line → ReadsLine (codes "shade" ∷ args) line
+unfolding shade_of
+shade_of-means args line e =
+    let a = bind_ok (or_fault (one_part args) Form) (λ part. root_or_fault part >>= λ r. Ok (line_variants.Shade r)) line e in
+    let b = bind_ok (root_or_fault a.0) (λ r. Ok (line_variants.Shade r)) line a.2 in
+    let args_are = one_part-means args a.0 (or_fault_ok (one_part args) Form a.0 a.1) in
+    let root_is = root_or_fault-means a.0 b.0 b.1 in
+    let whole : codes "shade" ∷ args ≡ line_parts (line_variants.Shade b.0) = ap (λ (ps : List (List ℕ)). codes "shade" ∷ ps) (args_1 a.0 (root_text b.0) args args_are root_is.0) in
+    subst (ReadsLine (codes "shade" ∷ args)) (ok_is (line_variants.Shade b.0) line b.2) (whole, root_is.1)
+
+deal_of-means : (args : List (List ℕ)) (line : Line) → deal_of args ≡ Ok line → ReadsLine (codes "deal" ∷ args) line
+unfolding deal_of
+deal_of-means args line e =
+    let a = bind_ok (or_fault (three_parts args) Form) (λ parts. kind_or_fault parts.0 >>= λ k. number_or_fault parts.1 >>= λ m. tray_or_fault parts.2 >>= λ t. Ok (line_variants.Deal k m t)) line e in
+    let b = bind_ok (kind_or_fault a.0.0) (λ k. number_or_fault a.0.1 >>= λ m. tray_or_fault a.0.2 >>= λ t. Ok (line_variants.Deal k m t)) line a.2 in
+    let c = bind_ok (number_or_fault a.0.1) (λ m. tray_or_fault a.0.2 >>= λ t. Ok (line_variants.Deal b.0 m t)) line b.2 in
+    let d = bind_ok (tray_or_fault a.0.2) (λ t. Ok (line_variants.Deal b.0 c.0 t)) line c.2 in
+    let args_are = three_parts-means args a.0 (or_fault_ok (three_parts args) Form a.0 a.1) in
+    let kind_is = kind_or_fault-means a.0.0 b.0 b.1 in
+    let most_is = number_or_fault-means a.0.1 c.0 c.1 in
+    let tray_is = tray_or_fault-means a.0.2 d.0 d.1 in
+    let whole : codes "deal" ∷ args ≡ line_parts (line_variants.Deal b.0 c.0 d.0) = ap (λ (ps : List (List ℕ)). codes "deal" ∷ ps) (args_3 a.0.0 a.0.1 a.0.2 (kind_text b.0) (decimal c.0) d.0 args args_are kind_is most_is.0 tray_is.0) in
+    subst (ReadsLine (codes "deal" ∷ args)) (ok_is (line_variants.Deal b.0 c.0 d.0) line d.2) (whole, (most_is.1, tray_is.1))
+
+give_of-means : (args : List (List ℕ)) (line : Line) → give_of args ≡ Ok line → ReadsLine (codes "give" ∷ args) line
+unfolding give_of
+give_of-means args line e =
+    let a = bind_ok (or_fault (one_part args) Form) (λ part. tray_or_fault part >>= λ t. Ok (line_variants.Give t)) line e in
+    let b = bind_ok (tray_or_fault a.0) (λ t. Ok (line_variants.Give t)) line a.2 in
+    let args_are = one_part-means args a.0 (or_fault_ok (one_part args) Form a.0 a.1) in
+    let tray_is = tray_or_fault-means a.0 b.0 b.1 in
+    let whole : codes "give" ∷ args ≡ line_parts (line_variants.Give b.0) = ap (λ (ps : List (List ℕ)). codes "give" ∷ ps) (args_1 a.0 b.0 args args_are tray_is.0) in
+    subst (ReadsLine (codes "give" ∷ args)) (ok_is (line_variants.Give b.0) line b.2) (whole, tray_is.1)
+
+join_of-means : (args : List (List ℕ)) (line : Line) → join_of args ≡ Ok line → ReadsLine (codes "join" ∷ args) line
+unfolding join_of
+join_of-means args line e =
+    let a = bind_ok (or_fault (two_parts args) Form) (λ parts. tray_or_fault parts.0 >>= λ i. tray_or_fault parts.1 >>= λ o. Ok (line_variants.Join i o)) line e in
+    let b = bind_ok (tray_or_fault a.0.0) (λ i. tray_or_fault a.0.1 >>= λ o. Ok (line_variants.Join i o)) line a.2 in
+    let c = bind_ok (tray_or_fault a.0.1) (λ o. Ok (line_variants.Join b.0 o)) line b.2 in
+    let args_are = two_parts-means args a.0 (or_fault_ok (two_parts args) Form a.0 a.1) in
+    let into_is = tray_or_fault-means a.0.0 b.0 b.1 in
+    let other_is = tray_or_fault-means a.0.1 c.0 c.1 in
+    let whole : codes "join" ∷ args ≡ line_parts (line_variants.Join b.0 c.0) = ap (λ (ps : List (List ℕ)). codes "join" ∷ ps) (args_2 a.0.0 a.0.1 b.0 c.0 args args_are into_is.0 other_is.0) in
+    subst (ReadsLine (codes "join" ∷ args)) (ok_is (line_variants.Join b.0 c.0) line c.2) (whole, (into_is.1, other_is.1))
 
 keyword_line-means : (word : List ℕ) (args : List (List ℕ)) (line : Line) → keyword_line word args ≡ Ok line → ReadsLine (word ∷ args) line
 unfolding keyword_line
 keyword_line-means word args line e =
-    by_first_word (bytes_eq word (codes "dump")) word (codes "dump") args (alone args line_variants.Dump) (Err Word) line (bytes_eq-Decides word (codes "dump")).0 (alone-means (codes "dump") args line_variants.Dump line (refl, tt))
-    (λ no. absurd cc) e
+    let dumps : Result Line Kind = cond (bytes_eq word (codes "dump")) (alone args line_variants.Dump) (Err Word) in
+    let stats : Result Line Kind = cond (bytes_eq word (codes "stat")) (alone args line_variants.Stat) dumps in
+    let trays : Result Line Kind = cond (bytes_eq word (codes "trays")) (alone args line_variants.Trays) stats in
+    let flips : Result Line Kind = cond (bytes_eq word (codes "flip")) (alone args line_variants.Flip) trays in
+    let joins : Result Line Kind = cond (bytes_eq word (codes "join")) (join_of args) flips in
+    let gives : Result Line Kind = cond (bytes_eq word (codes "give")) (give_of args) joins in
+    let deals : Result Line Kind = cond (bytes_eq word (codes "deal")) (deal_of args) gives in
+    let shades : Result Line Kind = cond (bytes_eq word (codes "shade")) (shade_of args) deals in
+    let says : List ℕ → Line → Type 0 = λ w l. ReadsLine (w ∷ args) l in
+    by_keyword says word (codes "begin") (alone args line_variants.Begin) shades line (alone-means (codes "begin") args line_variants.Begin line (refl, tt))
+    (by_keyword says word (codes "shade") (shade_of args) deals line (shade_of-means args line)
+    (by_keyword says word (codes "deal") (deal_of args) gives line (deal_of-means args line)
+    (by_keyword says word (codes "give") (give_of args) joins line (give_of-means args line)
+    (by_keyword says word (codes "join") (join_of args) flips line (join_of-means args line)
+    (by_keyword says word (codes "flip") (alone args line_variants.Flip) trays line (alone-means (codes "flip") args line_variants.Flip line (refl, tt))
+    (by_keyword says word (codes "trays") (alone args line_variants.Trays) stats line (alone-means (codes "trays") args line_variants.Trays line (refl, tt))
+    (by_keyword says word (codes "stat") (alone args line_variants.Stat) dumps line (alone-means (codes "stat") args line_variants.Stat line (refl, tt))
+    (by_keyword says word (codes "dump") (alone args line_variants.Dump) (Err Word) line (alone-means (codes "dump") args line_variants.Dump line (refl, tt)) (λ no. absurd cc))))))))) e
 
 by_owner : (t : Bool) (first : List ℕ) (rest : List (List ℕ)) (line : Line) → cond t (command_or_fault first rest >>= λ owned. Ok (line_of owned.0 owned.1)) (keyword_line first rest) ≡ Ok line → ReadsLine (first ∷ rest) line
 by_owner true first rest line e = command_line-means first rest line e

@@ -1,10 +1,10 @@
 -- What a trace is spelled as is read as that trace.
-use Rattle.std.proofs.Common.{◌≡◌, ℕ, ℤ, pos, negsuc, suc, ◌+◌, ◌^◌, ◌<◌, ◌≤◌, Bool, true, false, cond, ltb, eqb, not, List, [], ◌∷◌, ◌++◌, length, Option, Result, Ok, Err, refl, sym, ap, ◌∙◌, append_assoc, arith}
+use Rattle.std.proofs.Common.{◌≡◌, ℕ, ℤ, pos, negsuc, suc, ◌+◌, ◌^◌, ◌<◌, ◌≤◌, Bool, true, false, inl, inr, cond, leb, ltb, eqb, not, List, [], ◌∷◌, ◌++◌, length, Option, Result, Ok, Err, refl, sym, ap, ◌∙◌, append_assoc, arith}
 use Rattle.std.specs.Prelude.{codes, decimal}
 use Rattle.std.specs.Fmt.{signed_decimal}
 use Rattle.std.specs.List.{flat_map, join_with_byte, AllByRecursion, list_all}
 use Rattle.std.specs.Str.{bytes_eq}
-use Rattle.std.proofs.lemmas.Bool.{false≢true, false_from_ne_true, or_right, and_parts, le-ltb, ne_eqb, or_from}
+use Rattle.std.proofs.lemmas.Bool.{false≢true, false_from_ne_true, or_right, and_parts, and_from, leb-true, le-ltb, ne_eqb, or_from}
 use Rattle.std.proofs.lemmas.List.Folds.{list_any-append}
 use Rattle.std.proofs.lemmas.Slice.Eq.{bytes_eq-Decides}
 use Rattle.rh_layout.specs.declared.command.Command.{Command}
@@ -12,6 +12,8 @@ use Rattle.rh_layout.specs.declared.command.Command.TheVariants.{Alloc, Load, St
 use Rattle.rh_layout.specs.declared.command.Operand.{Operand}
 use Rattle.rh_layout.specs.declared.command.Operand.TheVariants as operands
 use Rattle.rh_layout.specs.declared.command.RootId.{RootId}
+use Rattle.rh_core.specs.declared.outcomes as outcomes
+use Rattle.rh_core.specs.declared.outcomes.Kind.TheVariants.{Copies, Entries}
 use Rattle.rh_text.specs.Number.{IsU32, IsI64}
 use Rattle.rh_text.specs.Parts.{parts_of, is_filled, is_formed, has_dot, begins_with_digit, spell_parts, one_part, two_parts, three_parts, six_parts}
 use Rattle.rh_text.specs.RawLine.{lines_of}
@@ -20,17 +22,19 @@ use Rattle.rh_text.specs.Steps.{◌>>=◌, or_fault, with_fault}
 use Rattle.rh_text.specs.lemmas.Integers.{i64_size, integer_of-decimal}
 use Rattle.rh_text.specs.lemmas.Numbers.{number_of-decimal}
 use Rattle.rh_text.specs.lemmas.Roots.{root_of-text, root_part}
-use Rattle.rh_text.specs.lemmas.Joins.{IsPart, is_decimal_digit, bounds, filled-decimal, decimal_digits, wide_digits, wide_filled, number_part, integer_part, parts_of-join, printable-join, length-join, is_formed-join, ended_line, lines_of-prefix}
+use Rattle.rh_text.specs.lemmas.Joins.{IsPart, is_glyph, is_decimal_digit, bounds, within, filled-decimal, decimal_digits, wide_digits, wide_filled, number_part, integer_part, parts_of-join, printable-join, length-join, is_formed-join, ended_line, lines_of-prefix}
 use Rattle.rh_trace.specs.declared.fault.Kind.{Kind}
-use Rattle.rh_trace.specs.declared.fault.Kind.TheVariants.{Long, Form, Word, Number, Root}
+use Rattle.rh_trace.specs.declared.fault.Kind.TheVariants.{Long, Form, Word, Number, Root, Tray}
 use Rattle.rh_trace.specs.declared.fault.TraceFault.{TraceFault}
 use Rattle.rh_trace.specs.declared.line as declared
 use Rattle.rh_trace.specs.declared.line.Line.{Line}
 use Rattle.rh_trace.specs.declared.line.Line.TheVariants as lines
 use Rattle.rh_trace.specs.declared.line.Asked.TheVariants as asked
 use Rattle.rh_trace.specs.Line.{asked_of, line_of}
-use Rattle.rh_trace.specs.Spelling.{Script, operand_text, asked_parts, command_parts, command_text, line_parts, header_parts, spell_line, spelling, OperandFits, CommandFits, LineFits, HeaderFits, IsScript}
-use Rattle.rh_trace.specs.Reading.{number_or_fault, integer_or_fault, root_or_fault, operand_or_fault, alloc_of, load_of, store_of, copy_of, same_of, drop_of, command_or_fault, owned_command, single_command, keyword_line, line_of_parts, sizes_of, header_of_parts, checked_parts, fault_at, line_or_kind, header_or_kind, line_or_fault, header_or_fault, lines_from, script_or_fault, trace_of}
+use Rattle.rh_trace.specs.TrayName.{IsNameByte, IsTrayName}
+use Rattle.rh_trace.specs.Spelling.{Script, operand_text, kind_text, asked_parts, command_parts, command_text, line_parts, header_parts, spell_line, spelling, OperandFits, CommandFits, LineFits, HeaderFits, IsScript}
+use Rattle.rh_trace.specs.Reading.{number_or_fault, integer_or_fault, root_or_fault, operand_or_fault, tray_or_fault, kind_or_fault, alloc_of, load_of, store_of, copy_of, same_of, drop_of, command_or_fault, owned_command, single_command, shade_of, deal_of, give_of, join_of, keyword_line, line_of_parts, sizes_of, header_of_parts, checked_parts, fault_at, line_or_kind, header_or_kind, line_or_fault, header_or_fault, lines_from, script_or_fault, trace_of}
+use Rattle.rh_trace.specs.lemmas.TrayNames.{read-from_name}
 
 -- ---- what the parts of a spelled line are like
 
@@ -44,29 +48,29 @@ operand_part operands.Nil fits = record { filled = refl; glyphs = refl; short = 
 operand_part (operands.Int n) fits = integer_part n fits
 operand_part (operands.Root root) fits = root_part root fits
 
-alloc_part : IsPart (codes "alloc")
-alloc_part = record { filled = refl; glyphs = refl; short = omega arith }
+keyword_part : (keyword : List ℕ) → is_filled keyword ≡ true → list_all is_glyph keyword ≡ true → leb (length keyword) 21 ≡ true → IsPart keyword
+keyword_part keyword filled glyphs short = record { filled = filled; glyphs = glyphs; short = leb-true (length keyword) 21 short }
 
-load_part : IsPart (codes "load")
-load_part = record { filled = refl; glyphs = refl; short = omega arith }
+kind_part : (kind : outcomes.Kind.Kind) → IsPart (kind_text kind)
+kind_part Copies = keyword_part (codes "copies") refl refl refl
+kind_part Entries = keyword_part (codes "entries") refl refl refl
 
-store_part : IsPart (codes "store")
-store_part = record { filled = refl; glyphs = refl; short = omega arith }
+is_glyph-name_byte : (b : ℕ) → IsNameByte b → is_glyph b ≡ true
+is_glyph-name_byte b (inl h) = within 33 126 b (omega (arith, h.0)) (omega (arith, h.1))
+is_glyph-name_byte b (inr (inl h)) = within 33 126 b (omega (arith, h.0)) (omega (arith, h.1))
+is_glyph-name_byte b (inr (inr h)) = within 33 126 b (omega (arith, h)) (omega (arith, h))
 
-copy_part : IsPart (codes "copy")
-copy_part = record { filled = refl; glyphs = refl; short = omega arith }
+glyphs-name_bytes : (bytes : List ℕ) → AllByRecursion IsNameByte bytes → list_all is_glyph bytes ≡ true
+glyphs-name_bytes [] h = refl
+glyphs-name_bytes (b ∷ bytes) h = and_from (is_glyph b) (list_all is_glyph bytes) (is_glyph-name_byte b h.0) (glyphs-name_bytes bytes h.1)
 
-same_part : IsPart (codes "same")
-same_part = record { filled = refl; glyphs = refl; short = omega arith }
-
-drop_part : IsPart (codes "drop")
-drop_part = record { filled = refl; glyphs = refl; short = omega arith }
-
-dump_part : IsPart (codes "dump")
-dump_part = record { filled = refl; glyphs = refl; short = omega arith }
-
-heap_part : IsPart (codes "heap")
-heap_part = record { filled = refl; glyphs = refl; short = omega arith }
+tray_part : (name : List ℕ) → IsTrayName name → IsPart name
+tray_part [] h = absurd h
+tray_part (first ∷ rest) h = record {
+  filled = refl;
+  glyphs = glyphs-name_bytes (first ∷ rest) (inl h.0, h.2);
+  short = omega (arith, h.1);
+}
 
 pub checked_parts-join : (number : ℕ) (first : List ℕ) (others : List (List ℕ)) → number ≤ 1048576 → AreParts first others → checked_parts number (ended_line (join_with_byte 32 (first ∷ others))) ≡ Ok (first ∷ others)
 unfolding checked_parts
@@ -79,13 +83,21 @@ checked_parts-join number first others small are =
     ∙ ap (λ (t : Bool). cond (not t) (Err Form) (Ok (parts_of line))) (is_formed-join first others are.each)
     ∙ ap (λ (ps : List (List ℕ)). Ok ps) (parts_of-join first others are.each)
 
--- ---- numbers, roots, lines and the header
+-- ---- numbers, roots, names of trays, lines and the header
 
 number_or_fault-decimal : (n : ℕ) → IsU32 n → number_or_fault (decimal n) ≡ Ok n
 number_or_fault-decimal n small = ap (λ (o : Option ℕ). or_fault o Number) (number_of-decimal n small)
 
 root_or_fault-text : (root : RootId) → RootFits root → root_or_fault (root_text root) ≡ Ok root
 root_or_fault-text root fits = ap (λ (o : Option RootId). or_fault o Root) (root_of-text root fits)
+
+tray_or_fault-name : (name : List ℕ) → IsTrayName name → tray_or_fault name ≡ Ok name
+tray_or_fault-name name fits = ap (λ (o : Option (List ℕ)). or_fault o Tray) (read-from_name name fits)
+
+kind_or_fault-text : (kind : outcomes.Kind.Kind) → kind_or_fault (kind_text kind) ≡ Ok kind
+unfolding kind_or_fault
+kind_or_fault-text Copies = refl
+kind_or_fault-text Entries = refl
 
 pub starts_with_digit : (digits : List ℕ) → is_filled digits ≡ true → list_all is_decimal_digit digits ≡ true → begins_with_digit digits ≡ true
 starts_with_digit [] h k = absurd (cc)
@@ -173,42 +185,42 @@ command-read owner (Alloc dst fields) fits = record {
   first = decimal owner;
   others = codes "alloc" ∷ root_text dst ∷ decimal fields ∷ [];
   spelled = refl;
-  are = record { each = (number_part owner fits.0, (alloc_part, (root_part dst fits.1, (number_part fields fits.2, tt)))); few = omega arith };
+  are = record { each = (number_part owner fits.0, (keyword_part (codes "alloc") refl refl refl, (root_part dst fits.1, (number_part fields fits.2, tt)))); few = omega arith };
   read = owned_command-decimal owner (codes "alloc" ∷ root_text dst ∷ decimal fields ∷ []) fits.0 ∙ alloc-read owner dst fields fits;
 }
 command-read owner (Load dst src field) fits = record {
   first = decimal owner;
   others = codes "load" ∷ root_text dst ∷ root_text src ∷ decimal field ∷ [];
   spelled = refl;
-  are = record { each = (number_part owner fits.0, (load_part, (root_part dst fits.1, (root_part src fits.2, (number_part field fits.3, tt))))); few = omega arith };
+  are = record { each = (number_part owner fits.0, (keyword_part (codes "load") refl refl refl, (root_part dst fits.1, (root_part src fits.2, (number_part field fits.3, tt))))); few = omega arith };
   read = owned_command-decimal owner (codes "load" ∷ root_text dst ∷ root_text src ∷ decimal field ∷ []) fits.0 ∙ load-read owner dst src field fits;
 }
 command-read owner (Store obj field operand) fits = record {
   first = decimal owner;
   others = codes "store" ∷ root_text obj ∷ decimal field ∷ operand_text operand ∷ [];
   spelled = refl;
-  are = record { each = (number_part owner fits.0, (store_part, (root_part obj fits.1, (number_part field fits.2, (operand_part operand fits.3, tt))))); few = omega arith };
+  are = record { each = (number_part owner fits.0, (keyword_part (codes "store") refl refl refl, (root_part obj fits.1, (number_part field fits.2, (operand_part operand fits.3, tt))))); few = omega arith };
   read = owned_command-decimal owner (codes "store" ∷ root_text obj ∷ decimal field ∷ operand_text operand ∷ []) fits.0 ∙ store-read owner obj field operand fits;
 }
 command-read owner (Copy dst src) fits = record {
   first = decimal owner;
   others = codes "copy" ∷ root_text dst ∷ root_text src ∷ [];
   spelled = refl;
-  are = record { each = (number_part owner fits.0, (copy_part, (root_part dst fits.1, (root_part src fits.2, tt)))); few = omega arith };
+  are = record { each = (number_part owner fits.0, (keyword_part (codes "copy") refl refl refl, (root_part dst fits.1, (root_part src fits.2, tt)))); few = omega arith };
   read = owned_command-decimal owner (codes "copy" ∷ root_text dst ∷ root_text src ∷ []) fits.0 ∙ copy-read owner dst src fits;
 }
 command-read owner (Same a b) fits = record {
   first = decimal owner;
   others = codes "same" ∷ root_text a ∷ root_text b ∷ [];
   spelled = refl;
-  are = record { each = (number_part owner fits.0, (same_part, (root_part a fits.1, (root_part b fits.2, tt)))); few = omega arith };
+  are = record { each = (number_part owner fits.0, (keyword_part (codes "same") refl refl refl, (root_part a fits.1, (root_part b fits.2, tt)))); few = omega arith };
   read = owned_command-decimal owner (codes "same" ∷ root_text a ∷ root_text b ∷ []) fits.0 ∙ same-read owner a b fits;
 }
 command-read owner (Drop root) fits = record {
   first = decimal owner;
   others = codes "drop" ∷ root_text root ∷ [];
   spelled = refl;
-  are = record { each = (number_part owner fits.0, (drop_part, (root_part root fits.1, tt))); few = omega arith };
+  are = record { each = (number_part owner fits.0, (keyword_part (codes "drop") refl refl refl, (root_part root fits.1, tt))); few = omega arith };
   read = owned_command-decimal owner (codes "drop" ∷ root_text root ∷ []) fits.0 ∙ drop-read owner root fits;
 }
 
@@ -228,7 +240,7 @@ by_owner : (t : Bool) (owned : Result (ℕ × Command) Kind) (other : Result Lin
 by_owner true owned other owner command e = ap (λ (r : Result (ℕ × Command) Kind). r >>= λ o. Ok (line_of o.0 o.1)) e
 by_owner false owned other owner command e = absurd cc
 
-line_of_parts-owned : (first : List ℕ) (rest : List (List ℕ)) (owner : ℕ) (command : Command) → owned_command (first ∷ rest) ≡ Ok (owner, command) → line_of_parts (first ∷ rest) ≡ Ok (line_of owner command)
+pub line_of_parts-owned : (first : List ℕ) (rest : List (List ℕ)) (owner : ℕ) (command : Command) → owned_command (first ∷ rest) ≡ Ok (owner, command) → line_of_parts (first ∷ rest) ≡ Ok (line_of owner command)
 unfolding owned_command line_of_parts
 line_of_parts-owned first rest owner command e = by_owner (begins_with_digit first) (command_or_fault first rest) (keyword_line first rest) owner command e
 
@@ -251,6 +263,42 @@ command_line-read line owner command fits is asks =
       read = line_of_parts-owned a.first a.others owner command a.read ∙ ap (λ (l : Line). Ok l) is;
     }
 
+-- a line that is its keyword alone
+alone-read : (line : Line) (keyword : List ℕ) → IsPart keyword → line_parts line ≡ keyword ∷ [] → line_of_parts (keyword ∷ []) ≡ Ok line → IsLineReadFrom line
+alone-read line keyword part spelled read = record { first = keyword; others = []; spelled = spelled; are = record { each = (part, tt); few = omega arith }; read = read }
+
+begin-read : line_of_parts (codes "begin" ∷ []) ≡ Ok lines.Begin
+unfolding line_of_parts keyword_line
+begin-read = refl
+
+shade-read : (root : RootId) → RootFits root → line_of_parts (codes "shade" ∷ root_text root ∷ []) ≡ Ok (lines.Shade root)
+unfolding line_of_parts keyword_line shade_of one_part
+shade-read root fits = rw (root_or_fault-text root fits) refl
+
+deal-read : (kind : outcomes.Kind.Kind) (most : ℕ) (tray : List ℕ) → IsU32 most → IsTrayName tray → line_of_parts (codes "deal" ∷ kind_text kind ∷ decimal most ∷ tray ∷ []) ≡ Ok (lines.Deal kind most tray)
+unfolding line_of_parts keyword_line deal_of three_parts
+deal-read kind most tray small name = rw (kind_or_fault-text kind, number_or_fault-decimal most small, tray_or_fault-name tray name) refl
+
+give-read : (tray : List ℕ) → IsTrayName tray → line_of_parts (codes "give" ∷ tray ∷ []) ≡ Ok (lines.Give tray)
+unfolding line_of_parts keyword_line give_of one_part
+give-read tray name = rw (tray_or_fault-name tray name) refl
+
+join-read : (into other : List ℕ) → IsTrayName into → IsTrayName other → line_of_parts (codes "join" ∷ into ∷ other ∷ []) ≡ Ok (lines.Join into other)
+unfolding line_of_parts keyword_line join_of two_parts
+join-read into other name second = rw (tray_or_fault-name into name, tray_or_fault-name other second) refl
+
+flip-read : line_of_parts (codes "flip" ∷ []) ≡ Ok lines.Flip
+unfolding line_of_parts keyword_line
+flip-read = refl
+
+trays-read : line_of_parts (codes "trays" ∷ []) ≡ Ok lines.Trays
+unfolding line_of_parts keyword_line
+trays-read = refl
+
+stat-read : line_of_parts (codes "stat" ∷ []) ≡ Ok lines.Stat
+unfolding line_of_parts keyword_line
+stat-read = refl
+
 dump-read : line_of_parts (codes "dump" ∷ []) ≡ Ok lines.Dump
 unfolding line_of_parts keyword_line
 dump-read = refl
@@ -262,11 +310,43 @@ line-read (lines.Store owner obj field operand) fits = command_line-read (lines.
 line-read (lines.Copy owner dst src) fits = command_line-read (lines.Copy owner dst src) owner (Copy dst src) fits refl refl
 line-read (lines.Same owner a b) fits = command_line-read (lines.Same owner a b) owner (Same a b) fits refl refl
 line-read (lines.Drop owner root) fits = command_line-read (lines.Drop owner root) owner (Drop root) fits refl refl
-line-read lines.Dump fits = record { first = codes "dump"; others = []; spelled = refl; are = record { each = (dump_part, tt); few = omega arith }; read = dump-read }
+line-read lines.Begin fits = alone-read lines.Begin (codes "begin") (keyword_part (codes "begin") refl refl refl) refl begin-read
+line-read (lines.Shade root) fits = record {
+  first = codes "shade";
+  others = root_text root ∷ [];
+  spelled = refl;
+  are = record { each = (keyword_part (codes "shade") refl refl refl, (root_part root fits, tt)); few = omega arith };
+  read = shade-read root fits;
+}
+line-read (lines.Deal kind most tray) fits = record {
+  first = codes "deal";
+  others = kind_text kind ∷ decimal most ∷ tray ∷ [];
+  spelled = refl;
+  are = record { each = (keyword_part (codes "deal") refl refl refl, (kind_part kind, (number_part most fits.0, (tray_part tray fits.1, tt)))); few = omega arith };
+  read = deal-read kind most tray fits.0 fits.1;
+}
+line-read (lines.Give tray) fits = record {
+  first = codes "give";
+  others = tray ∷ [];
+  spelled = refl;
+  are = record { each = (keyword_part (codes "give") refl refl refl, (tray_part tray fits, tt)); few = omega arith };
+  read = give-read tray fits;
+}
+line-read (lines.Join into other) fits = record {
+  first = codes "join";
+  others = into ∷ other ∷ [];
+  spelled = refl;
+  are = record { each = (keyword_part (codes "join") refl refl refl, (tray_part into fits.0, (tray_part other fits.1, tt))); few = omega arith };
+  read = join-read into other fits.0 fits.1;
+}
+line-read lines.Flip fits = alone-read lines.Flip (codes "flip") (keyword_part (codes "flip") refl refl refl) refl flip-read
+line-read lines.Trays fits = alone-read lines.Trays (codes "trays") (keyword_part (codes "trays") refl refl refl) refl trays-read
+line-read lines.Stat fits = alone-read lines.Stat (codes "stat") (keyword_part (codes "stat") refl refl refl) refl stat-read
+line-read lines.Dump fits = alone-read lines.Dump (codes "dump") (keyword_part (codes "dump") refl refl refl) refl dump-read
 
 header_parts_are : (h : declared.Header.Header) → HeaderFits h → AreParts (codes "heap") (decimal h.words ∷ decimal h.ratio ∷ decimal h.log ∷ decimal h.owners ∷ decimal h.slots ∷ [])
 header_parts_are h fits = record {
-  each = (heap_part, (number_part h.words fits.0, (number_part h.ratio fits.1, (number_part h.log fits.2, (number_part h.owners fits.3, (number_part h.slots fits.4, tt))))));
+  each = (keyword_part (codes "heap") refl refl refl, (number_part h.words fits.0, (number_part h.ratio fits.1, (number_part h.log fits.2, (number_part h.owners fits.3, (number_part h.slots fits.4, tt))))));
   few = omega arith;
 }
 
@@ -280,7 +360,7 @@ pub lines_of-parts : (first : List ℕ) (others : List (List ℕ)) (rest : List 
 lines_of-parts first others rest are =
     ap lines_of (append_assoc (join_with_byte 32 (first ∷ others)) (10 ∷ []) rest) ∙ lines_of-prefix (join_with_byte 32 (first ∷ others)) rest (printable-join first others are.each)
 
-line_or_fault-join : (number : ℕ) (line : Line) (first : List ℕ) (others : List (List ℕ)) → number ≤ 1048576 → AreParts first others → line_of_parts (first ∷ others) ≡ Ok line → line_or_fault number (ended_line (join_with_byte 32 (first ∷ others))) ≡ Ok line
+pub line_or_fault-join : (number : ℕ) (line : Line) (first : List ℕ) (others : List (List ℕ)) → number ≤ 1048576 → AreParts first others → line_of_parts (first ∷ others) ≡ Ok line → line_or_fault number (ended_line (join_with_byte 32 (first ∷ others))) ≡ Ok line
 unfolding line_or_kind
 line_or_fault-join number line first others small are read =
     ap (λ (r : Result (List (List ℕ)) Kind). with_fault (fault_at number) (r >>= line_of_parts)) (checked_parts-join number first others small are) ∙ ap (with_fault (fault_at number)) read

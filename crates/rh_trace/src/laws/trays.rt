@@ -18,10 +18,10 @@ ghost use Rattle.rh_trace.specs.declared.trays.JoinRefusal.{JoinRefusal};
 ghost use Rattle.rh_core.specs.declared.outcomes.Given.{Given as GivenOf};
 ghost use Rattle.rh_trace.specs.TrayName.{tray_name_of, IsTrayName};
 ghost use Rattle.rh_trace.specs.Trays.{Trays as TraysOf, Tray, tray_named, trays_with};
-ghost use Rattle.rh_trace.specs.Trays.{entries_with_all};
+ghost use Rattle.rh_trace.specs.Trays.{entries_with_all, IsJoinedInto};
 ghost use Rattle.rh_trace.specs.Engine.{EngineState, deal_line_step, refusals_of_deal};
 ghost use Rattle.rh_trace.specs.Engine.{join_line_step, refusals_of_join, give_line_step};
-ghost use Rattle.rh_trace.specs.Engine.{refusals_of_give};
+ghost use Rattle.rh_trace.specs.Engine.{refusals_of_give, IsDealtInto};
 
 /// What is read as the name of a tray is one, and each name is read as itself.
 pub fn the_names_of_trays_are_read()
@@ -65,6 +65,16 @@ pub fn deals_into_trays_are_refused_in_order()
         → IsFaultless (refusals_of_deal e kind most name) }
 {}
 
+/// Where a deal into a tray is accepted, the heap dealt a piece, and the answer counts its items
+/// and the entries that were passed over. The tray of the name is of the piece's epoch, and has at
+/// each place what it had before, joined with the newest of the piece's items, in order of place.
+/// All other trays stay, and the names keep their order; a new one goes last.
+pub fn what_is_dealt_is_in_its_tray()
+    ensures { (e : EngineState) (kind : KindOf) (most : ℕ) (name : List ℕ) (done : Counted)
+        → (deal_line_step e kind most name).1 ≡ Ok done
+        → IsDealtInto e (deal_line_step e kind most name).0 kind most name done }
+{}
+
 /// A join of trays is refused by the first of its refusals that holds, and changes nothing then.
 /// Where trays are joined none of them holds.
 pub fn joins_of_trays_are_refused_in_order()
@@ -75,6 +85,19 @@ pub fn joins_of_trays_are_refused_in_order()
     ensures joined { (e : EngineState) (into other : List ℕ) (entries : ℕ)
         → (join_line_step e into other).1 ≡ Ok entries
         → IsFaultless (refusals_of_join e into other) }
+{}
+
+/// Where a join of trays is accepted, the tray of the first name is a copy of the second where
+/// there was none. Else it is, of trays of two epochs, the later one; of one epoch it has at each
+/// place what one had alone, or the newer of what both had, in order of place. The answer is how
+/// many entries it has. All other trays stay, and the names keep their order; a new one goes last.
+/// A join never changes the heap.
+pub fn what_is_joined_is_in_the_first_tray()
+    ensures joined { (e : EngineState) (into other : List ℕ) (entries : ℕ)
+        → (join_line_step e into other).1 ≡ Ok entries
+        → IsJoinedInto e.trays (join_line_step e into other).0.trays into other entries }
+    ensures heap { (e : EngineState) (into other : List ℕ)
+        → (join_line_step e into other).0.heap ≡ e.heap }
 {}
 
 /// A give of a tray is refused by the first of its refusals that holds; where there is no such tray

@@ -4,7 +4,7 @@ use Rattle.std.specs.Io.KnownBytes.{Appends}
 use Rattle.std.proofs.lemmas.List.{take_all}
 use Rattle.std.proofs.lemmas.Result.{err_from_is_err_and}
 use Rattle.rh_layout.specs.declared.command.Reply.TheVariants as replies
-use Rattle.rh_trace.specs.Answers.{Answer, answered_text, is_answer, is_refused, total_line}
+use Rattle.rh_trace.specs.Answers.{Answer, answered_text, is_answer, is_refused, is_flip, total_line}
 use Rattle.rh_trace.specs.Run.{answers_to, summary_of, summary_with, output_of, Writes}
 use Rattle.rh_trace.specs.declared.summary.Summary.{Summary}
 use Rattle.rh_text.specs.Output.{AppendsLess}
@@ -17,12 +17,12 @@ pub loop-line-preserved : goal.loop-line-preserved
 loop-line-preserved g c =
     let known = g.W.Write.contents in
     let lines = c.args.lines.now in
-    let all = answers_to (record { heap = c.args.heap.now }) lines in
+    let all = answers_to c.args.engine.now lines in
     let i = c.loop-line.line-index in
     let d = Answer (Ok replies.Done) in
-    let len = length-answers_to (record { heap = c.args.heap.now }) lines in
+    let len = length-answers_to c.args.engine.now lines in
     let lt : i < length all = omega (arith, len, c.loop-line-test.true) in
-    let next = answers_next all (record { heap = c.loop-line.heap }) lines i _ d c.loop-line-test.true len c.loop-line.invariant.rest in
+    let next = answers_next all c.loop-line.engine lines i c.line-item.result d c.line-item.is c.loop-line-test.true len c.loop-line.invariant.rest in
     let x = get_or all i d in
     let sum : c.play_line.new.summary ≡ summary_with c.loop-line.summary x = c.in_ok-play_line.ensures.summary ∙ ap (summary_with c.loop-line.summary) (sym next.answer) in
     record {
@@ -31,14 +31,16 @@ loop-line-preserved g c =
       summary = sum ∙ ap (λ s. summary_with s x) c.loop-line.invariant.summary ∙ summary_more all i d lt;
       commands = omega (arith, ap (λ s. s.commands) sum, bit_le (is_answer x), c.loop-line.invariant.commands);
       refused = omega (arith, ap (λ s. s.refused) sum, bit_le (is_refused x), c.loop-line.invariant.refused);
+      flips = omega (arith, ap (λ s. s.flips) sum, bit_le (is_flip x), c.loop-line.invariant.flips);
+      root_words = omega (arith, c.in_ok-play_line.ensures.few_roots, c.loop-line.invariant.root_words);
       none_failed = c.in_ok-play_line.ensures.none_failed (ok_no_error _ _);
     }
 
 pub returns-clause-summary : goal.returns-clause-summary
 returns-clause-summary g c =
     let lines = c.args.lines.now in
-    let all = answers_to (record { heap = c.args.heap.now }) lines in
-    let len = length-answers_to (record { heap = c.args.heap.now }) lines in
+    let all = answers_to c.args.engine.now lines in
+    let len = length-answers_to c.args.engine.now lines in
     c.loop-line.invariant.summary ∙ ap summary_of (take_all c.loop-line.line-index all (omega (arith, len, c.loop-line-test.false)))
 
 pub returns-in_err-play_line-clause-written : goal.returns-in_err-play_line-clause-written
@@ -46,12 +48,12 @@ returns-in_err-play_line-clause-written g c =
     let known = g.W.Write.contents in
     let p = err_from_is_err_and c.from_residual.result c.from_residual.ensures.1 in
     let lines = c.args.lines.now in
-    let all = answers_to (record { heap = c.args.heap.now }) lines in
+    let all = answers_to c.args.engine.now lines in
     let i = c.loop-line.line-index in
     let d = Answer (Ok replies.Done) in
-    let len = length-answers_to (record { heap = c.args.heap.now }) lines in
+    let len = length-answers_to c.args.engine.now lines in
     let lt : i < length all = omega (arith, len, c.loop-line-test.true) in
-    let next = answers_next all (record { heap = c.loop-line.heap }) lines i _ d c.loop-line-test.true len c.loop-line.invariant.rest in
+    let next = answers_next all c.loop-line.engine lines i c.line-item.result d c.line-item.is c.loop-line-test.true len c.loop-line.invariant.rest in
     let stop = c.in_err-play_line.field-0.0 in
     let written = subst (λ a. Writes {X = Unit {0}} (answered_text a) (Err stop) (known c.loop-line.writer) (known c.play_line.new.writer)) (sym next.answer) c.in_err-play_line.ensures.written in
     rw (p.1, p.2) (stopped_within (Unit {0}) Summary stop (known c.args.writer.now) (known c.loop-line.writer) (known c.play_line.new.writer) (flat_map answered_text (take i all)) (answered_text (get_or all i d)) (flat_map answered_text (drop (i + 1) all) ++ total_line (summary_of all)) (output_of all) (around answered_text all i d (total_line (summary_of all)) lt) c.loop-line.invariant.sent written)
@@ -61,9 +63,9 @@ returns-in_err-send-clause-written g c =
     let known = g.W.Write.contents in
     let p = err_from_is_err_and c.from_residual-in_err-send.result c.from_residual-in_err-send.ensures.1 in
     let lines = c.args.lines.now in
-    let all = answers_to (record { heap = c.args.heap.now }) lines in
+    let all = answers_to c.args.engine.now lines in
     let i = c.loop-line.line-index in
-    let len = length-answers_to (record { heap = c.args.heap.now }) lines in
+    let len = length-answers_to c.args.engine.now lines in
     let whole : take i all ≡ all = take_all i all (omega (arith, len, c.loop-line-test.false)) in
     let total : c.as_bytes.result.now ≡ total_line (summary_of all) = c.as_bytes.ensures ∙ c.put_total.ensures ∙ ap total_line (c.loop-line.invariant.summary ∙ ap summary_of whole) in
     let sent : Appends (known c.args.writer.now) (known c.loop-line.writer) (flat_map answered_text all) = Appends-at (known c.args.writer.now) (known c.loop-line.writer) (flat_map answered_text (take i all)) (flat_map answered_text all) (ap (flat_map answered_text) whole) c.loop-line.invariant.sent in
@@ -74,9 +76,9 @@ pub returns-clause-written : goal.returns-clause-written
 returns-clause-written g c =
     let known = g.W.Write.contents in
     let lines = c.args.lines.now in
-    let all = answers_to (record { heap = c.args.heap.now }) lines in
+    let all = answers_to c.args.engine.now lines in
     let i = c.loop-line.line-index in
-    let len = length-answers_to (record { heap = c.args.heap.now }) lines in
+    let len = length-answers_to c.args.engine.now lines in
     let whole : take i all ≡ all = take_all i all (omega (arith, len, c.loop-line-test.false)) in
     let total : c.as_bytes.result.now ≡ total_line (summary_of all) = c.as_bytes.ensures ∙ c.put_total.ensures ∙ ap total_line (c.loop-line.invariant.summary ∙ ap summary_of whole) in
     let sent : Appends (known c.args.writer.now) (known c.loop-line.writer) (flat_map answered_text all) = Appends-at (known c.args.writer.now) (known c.loop-line.writer) (flat_map answered_text (take i all)) (flat_map answered_text all) (ap (flat_map answered_text) whole) c.loop-line.invariant.sent in

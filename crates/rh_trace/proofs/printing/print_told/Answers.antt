@@ -18,13 +18,13 @@ returns-in_err-send-2-clause-err g c =
     let known = g.W.Write.contents in
     let p = err_from_is_err_and c.from_residual-in_err-send-2.result c.from_residual-in_err-send-2.ensures.1 in
     let script = c.args.trace.now in
-    let less = sent_less_of_next spell_line (known c.args.writer.now) (known c.loop-line.writer) (known c.send-in-loop-line.new.writer) (spell_header script.header) c.as_bytes-in-loop-line.result.now c.lines-lines.result.now c.loop-line.line-index _ c.loop-line-test.true (c.as_bytes-in-loop-line.ensures ∙ c.put_line.ensures) c.loop-line.invariant.sent c.in_err-send-2.ensures.err in
+    let less = sent_less_of_next spell_line (known c.args.writer.now) (known c.loop-line.writer) (known c.send-in-loop-line.new.writer) (spell_header script.header) c.as_bytes-in-loop-line.result.now c.lines-lines.result.now c.loop-line.line-index _ c.loop-line-test.true (c.as_bytes-in-loop-line.ensures ∙ c.put_line.ensures ∙ ap spell_line c.line-item.is) c.loop-line.invariant.sent c.in_err-send-2.ensures.err in
     rw p.1 (subst (λ lines. AppendsLess (known c.args.writer.now) (known c.send-in-loop-line.new.writer) (spell_header script.header ++ flat_map spell_line lines)) c.lines-lines.ensures less)
 
 pub loop-line-preserved : goal.loop-line-preserved
 loop-line-preserved g c =
     let known = g.W.Write.contents in
     record {
-      sent = sent_next spell_line (known c.args.writer.now) (known c.loop-line.writer) (known c.send-in-loop-line.new.writer) (spell_header c.args.trace.now.header) c.as_bytes-in-loop-line.result.now c.lines-lines.result.now c.loop-line.line-index _ c.loop-line-test.true (c.as_bytes-in-loop-line.ensures ∙ c.put_line.ensures) c.loop-line.invariant.sent c.in_ok-send-2.ensures.ok;
+      sent = sent_next spell_line (known c.args.writer.now) (known c.loop-line.writer) (known c.send-in-loop-line.new.writer) (spell_header c.args.trace.now.header) c.as_bytes-in-loop-line.result.now c.lines-lines.result.now c.loop-line.line-index _ c.loop-line-test.true (c.as_bytes-in-loop-line.ensures ∙ c.put_line.ensures ∙ ap spell_line c.line-item.is) c.loop-line.invariant.sent c.in_ok-send-2.ensures.ok;
       none_failed = c.in_ok-send-2.ensures.none_failed;
     }

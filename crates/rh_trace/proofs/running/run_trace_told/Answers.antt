@@ -17,17 +17,21 @@ returns-in-Err-OutOfMemory-clause-read g c =
 pub returns-in-Ok-clause-plain : goal.returns-in-Ok-clause-plain
 returns-in-Ok-clause-plain g c =
     let known = g.R.Read.remaining in
-    let law = c.heaps_answer_as_plain_heaps.ensures in
+    let begins = c.heaps_answer_as_plain_heaps.ensures.new in
+    let steps = c.an_event_answers_as_the_plain_heap.ensures in
+    let keeps = c.every_event_keeps_a_heap_well_formed.ensures.event in
     let dumps = c.a_heap_has_the_dump_of_its_plain_heap.ensures in
     let read : Consumes (known c.args.reader.now) (known c.read_all.new.reader) c.deref.result.now =
     subst (Consumes (known c.args.reader.now) (known c.read_all.new.reader)) (sym (c.deref.ensures.value ∙ c.in-Ok.ensures.bytes.2.0)) c.in-Ok.ensures.bytes.1 in
-    plain law.new law.step dumps c.deref.result.now (known c.args.reader.now) (known c.read_all.new.reader) (g.W.Write.contents c.args.writer.now) (g.W.Write.contents c.run_input.new.writer) read c.run_input.result c.run_input.ensures.ends
+    plain keeps steps begins dumps c.deref.result.now (known c.args.reader.now) (known c.read_all.new.reader) (g.W.Write.contents c.args.writer.now) (g.W.Write.contents c.run_input.new.writer) read c.run_input.result c.run_input.ensures.begun c.run_input.ensures.ends
 
 pub returns-in-Ok-clause-plain_prefix : goal.returns-in-Ok-clause-plain_prefix
 returns-in-Ok-clause-plain_prefix g c =
     let known = g.R.Read.remaining in
-    let law = c.heaps_answer_as_plain_heaps.ensures in
+    let begins = c.heaps_answer_as_plain_heaps.ensures.new in
+    let steps = c.an_event_answers_as_the_plain_heap.ensures in
+    let keeps = c.every_event_keeps_a_heap_well_formed.ensures.event in
     let dumps = c.a_heap_has_the_dump_of_its_plain_heap.ensures in
     let read : Consumes (known c.args.reader.now) (known c.read_all.new.reader) c.deref.result.now =
     subst (Consumes (known c.args.reader.now) (known c.read_all.new.reader)) (sym (c.deref.ensures.value ∙ c.in-Ok.ensures.bytes.2.0)) c.in-Ok.ensures.bytes.1 in
-    plain_prefix law.new law.step dumps c.deref.result.now (known c.args.reader.now) (known c.read_all.new.reader) (g.W.Write.contents c.args.writer.now) (g.W.Write.contents c.run_input.new.writer) read c.run_input.result c.run_input.ensures.ends
+    plain_prefix keeps steps begins dumps c.deref.result.now (known c.args.reader.now) (known c.read_all.new.reader) (g.W.Write.contents c.args.writer.now) (g.W.Write.contents c.run_input.new.writer) read c.run_input.result c.run_input.ensures.begun c.run_input.ensures.ends

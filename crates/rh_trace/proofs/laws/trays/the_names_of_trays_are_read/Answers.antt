@@ -1,4 +1,4 @@
-use Rattle.rh_trace.proofs.TrayNames.{name-from_read, read-from_name}
+use Rattle.rh_trace.specs.lemmas.TrayNames.{name-from_read, read-from_name}
 use Rattle.rh_trace.proofs.laws.trays.the_names_of_trays_are_read.Goals as goal
 
 pub returns-clause-read : goal.returns-clause-read

@@ -1,0 +1,93 @@
+-- A heap counts its flips and root words as a summary adds them up.
+use Rattle.std.proofs.Common.{◌≡◌, ℕ, ◌+◌, cond, List, [], ◌∷◌, Option, Some, None, Result, Ok, Err, refl, ap, arith}
+use Rattle.std.specs.Prelude.{is_some, count_by}
+use Rattle.std.specs.Result.{result_ok}
+use Rattle.rh_layout.specs.declared.command.Command.{Command}
+use Rattle.rh_layout.specs.declared.command.RootId.{RootId}
+use Rattle.rh_partial.specs.PartialReplica.{ReplicaState}
+use Rattle.rh_core.specs.declared.outcomes.Dealt.{Dealt}
+use Rattle.rh_core.specs.declared.outcomes.Flipped.{Flipped}
+use Rattle.rh_core.specs.declared.outcomes.Kind.{Kind}
+use Rattle.rh_core.specs.declared.refusals.DealError.{DealError}
+use Rattle.rh_core.specs.declared.refusals.FlipError.{FlipError}
+use Rattle.rh_core.specs.Commands.{heap_step}
+use Rattle.rh_core.specs.Cycle.{begin_step, flip_step}
+use Rattle.rh_core.specs.Dealing.{deal_step}
+use Rattle.rh_core.specs.Giving.{give_step}
+use Rattle.rh_core.specs.Heap.{HeapState}
+use Rattle.rh_core.specs.Shading.{shade_step}
+use Rattle.rh_trace.specs.declared.engine.DealRefusal.{DealRefusal}
+use Rattle.rh_trace.specs.declared.line.Asked.{Asked}
+use Rattle.rh_trace.specs.declared.line.Asked.TheVariants as asked
+use Rattle.rh_trace.specs.declared.line.Line.{Line}
+use Rattle.rh_trace.specs.Answers.{is_flip, flip_of, words_of, root_words_of}
+use Rattle.rh_trace.specs.Engine.{EngineState, deal_unless, deal_done, tray_refusal, give_found}
+use Rattle.rh_trace.specs.Line.{asked_of}
+use Rattle.rh_trace.specs.Run.{asked_step, line_step, answers_to, engine_after}
+use Rattle.rh_trace.specs.Trays.{Trays, Tray, tray_named, replica_of}
+use Rattle.rh_trace.proofs.CountsByHead.{count_by-head}
+
+-- the counts stay
+abbrev pub CountsStay : HeapState → HeapState → Type 0
+CountsStay a b = (b.flips ≡ a.flips) × (b.root_words ≡ a.root_words)
+
+-- a flip, if it was done, is counted, and so are the words that it wrote
+abbrev pub IsCounted : HeapState → HeapState → Option Flipped → Type 0
+IsCounted a b done = (b.flips ≡ a.flips + cond (is_some done) 1 0) × (b.root_words ≡ a.root_words + words_of done)
+
+counted-none : (a b : HeapState) → CountsStay a b → IsCounted a b None
+counted-none a b stay = (omega (arith, stay.0), omega (arith, stay.1))
+
+counted-flip : (a b : HeapState) (answer : Result Flipped FlipError) → ((f : Flipped) → answer ≡ Ok f → (b.flips ≡ a.flips + 1) × (b.root_words ≡ a.root_words + f.roots)) → ((why : FlipError) → answer ≡ Err why → b ≡ a) → IsCounted a b (result_ok answer)
+counted-flip a b (Ok f) done refused = done f refl
+counted-flip a b (Err why) done refused =
+    let same = refused why refl in
+    counted-none a b (ap (λ (h : HeapState). h.flips) same, ap (λ (h : HeapState). h.root_words) same)
+
+counts-deal_done : (a h : HeapState) (dealt : Result Dealt DealError) (trays : Trays) (name : List ℕ) → CountsStay a h → CountsStay a (deal_done h dealt trays name).0.heap
+counts-deal_done a h (Ok dealt) trays name stay = stay
+counts-deal_done a h (Err why) trays name stay = stay
+
+-- what the heap's own steps keep and count
+pub record HeapCounts : Type 0 where
+  pub command : (h : HeapState) (owner : ℕ) (command : Command) → CountsStay h (heap_step h owner command).0
+  pub begin : (h : HeapState) → CountsStay h (begin_step h).0
+  pub shade : (h : HeapState) (root : RootId) → CountsStay h (shade_step h root).0
+  pub deal : (h : HeapState) (kind : Kind) (most : ℕ) → CountsStay h (deal_step h kind most).0
+  pub give : (h : HeapState) (r : ReplicaState) → CountsStay h (give_step h r).0
+  pub flip : (h : HeapState) → IsCounted h (flip_step h).0 (result_ok (flip_step h).1)
+
+pub flip_counts : (h : HeapState) → ((f : Flipped) → (flip_step h).1 ≡ Ok f → ((flip_step h).0.flips ≡ h.flips + 1) × ((flip_step h).0.root_words ≡ h.root_words + f.roots)) → ((why : FlipError) → (flip_step h).1 ≡ Err why → (flip_step h).0 ≡ h) → IsCounted h (flip_step h).0 (result_ok (flip_step h).1)
+flip_counts h done refused = counted-flip h (flip_step h).0 (flip_step h).1 done refused
+
+deal-counts : HeapCounts → (refusal : Option DealRefusal) (e : EngineState) (kind : Kind) (most : ℕ) (name : List ℕ) → CountsStay e.heap (deal_unless refusal e kind most name).0.heap
+deal-counts counts (Some why) e kind most name = (refl, refl)
+deal-counts counts None e kind most name = counts-deal_done e.heap (deal_step e.heap kind most).0 (deal_step e.heap kind most).1 e.trays name (counts.deal e.heap kind most)
+
+give-counts : HeapCounts → (found : Option Tray) (e : EngineState) → CountsStay e.heap (give_found found e).0.heap
+give-counts counts None e = (refl, refl)
+give-counts counts (Some t) e = counts.give e.heap (replica_of t)
+
+asked-counted : HeapCounts → (what : Asked) (e : EngineState) → IsCounted e.heap (asked_step e what).0.heap (flip_of (asked_step e what).1)
+asked-counted counts (asked.Command owner command) e = counted-none e.heap (heap_step e.heap owner command).0 (counts.command e.heap owner command)
+asked-counted counts asked.Begin e = counted-none e.heap (begin_step e.heap).0 (counts.begin e.heap)
+asked-counted counts (asked.Shade root) e = counted-none e.heap (shade_step e.heap root).0 (counts.shade e.heap root)
+asked-counted counts (asked.Deal kind most tray) e = counted-none e.heap (asked_step e (asked.Deal kind most tray)).0.heap (deal-counts counts (tray_refusal e tray) e kind most tray)
+asked-counted counts (asked.Give tray) e = counted-none e.heap (asked_step e (asked.Give tray)).0.heap (give-counts counts (tray_named e.trays tray) e)
+asked-counted counts (asked.Join into other) e = counted-none e.heap e.heap (refl, refl)
+asked-counted counts asked.Flip e = counts.flip e.heap
+asked-counted counts asked.Trays e = counted-none e.heap e.heap (refl, refl)
+asked-counted counts asked.Stat e = counted-none e.heap e.heap (refl, refl)
+asked-counted counts asked.Dump e = counted-none e.heap e.heap (refl, refl)
+
+pub flips_of-lines : HeapCounts → (e : EngineState) (lines : List Line) → (engine_after e lines).heap.flips ≡ e.heap.flips + count_by is_flip (answers_to e lines)
+flips_of-lines counts e [] = omega arith
+flips_of-lines counts e (line ∷ lines) =
+    let one = line_step e line in
+    omega (arith, flips_of-lines counts one.0 lines, (asked-counted counts (asked_of line) e).0, count_by-head is_flip one.1 (answers_to one.0 lines))
+
+pub root_words_of-lines : HeapCounts → (e : EngineState) (lines : List Line) → (engine_after e lines).heap.root_words ≡ e.heap.root_words + root_words_of (answers_to e lines)
+root_words_of-lines counts e [] = omega arith
+root_words_of-lines counts e (line ∷ lines) =
+    let one = line_step e line in
+    omega (arith, root_words_of-lines counts one.0 lines, (asked-counted counts (asked_of line) e).1)

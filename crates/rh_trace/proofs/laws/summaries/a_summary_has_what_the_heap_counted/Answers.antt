@@ -1,0 +1,38 @@
+use Rattle.rh_trace.proofs.CountedFlips.{flip_counts, flips_of-lines, root_words_of-lines}
+use Rattle.rh_trace.proofs.laws.summaries.a_summary_has_what_the_heap_counted.Goals as goal
+
+pub returns-clause-flips : goal.returns-clause-flips
+returns-clause-flips c =
+    let command = c.a_command_leaves_the_cycle.ensures.stays in
+    let begin = c.a_cycle_begins_with_nothing_placed.ensures.stays in
+    let shade = c.a_shade_leaves_the_cycle.ensures.stays in
+    let deal = c.a_deal_looks_at_as_many_as_it_may.ensures.stays in
+    let give = c.a_give_leaves_the_cycle.ensures in
+    let ended = c.a_flip_ends_the_cycle.ensures.ended in
+    let refused = c.a_flip_is_refused_exactly_where_its_cycle_is_not_closed.ensures.refused in
+    flips_of-lines (record {
+      command = λ h owner what. ((command h owner what).8, (command h owner what).9);
+      begin = λ h. ((begin h).6, (begin h).7);
+      shade = λ h root. ((shade h root).8, (shade h root).9);
+      deal = λ h kind most. ((deal h kind most).4, (deal h kind most).5);
+      give = λ h r. ((give h r).8, (give h r).9);
+      flip = λ h. flip_counts h (λ f same. ((ended h f same).7, (ended h f same).8)) (refused h);
+    })
+
+pub returns-clause-root_words : goal.returns-clause-root_words
+returns-clause-root_words c =
+    let command = c.a_command_leaves_the_cycle.ensures.stays in
+    let begin = c.a_cycle_begins_with_nothing_placed.ensures.stays in
+    let shade = c.a_shade_leaves_the_cycle.ensures.stays in
+    let deal = c.a_deal_looks_at_as_many_as_it_may.ensures.stays in
+    let give = c.a_give_leaves_the_cycle.ensures in
+    let ended = c.a_flip_ends_the_cycle.ensures.ended in
+    let refused = c.a_flip_is_refused_exactly_where_its_cycle_is_not_closed.ensures.refused in
+    root_words_of-lines (record {
+      command = λ h owner what. ((command h owner what).8, (command h owner what).9);
+      begin = λ h. ((begin h).6, (begin h).7);
+      shade = λ h root. ((shade h root).8, (shade h root).9);
+      deal = λ h kind most. ((deal h kind most).4, (deal h kind most).5);
+      give = λ h r. ((give h r).8, (give h r).9);
+      flip = λ h. flip_counts h (λ f same. ((ended h f same).7, (ended h f same).8)) (refused h);
+    })
