@@ -22,7 +22,9 @@ rheap_top =
 -- the program with its commands
 abbrev pub rheap_app : App
 rheap_app =
-    with_subcommand (with_subcommand (with_subcommand rheap_top (file_app (codes "run")).top) (file_app (codes "replay")).top) (file_app (codes "dump")).top
+    let with_run = with_subcommand rheap_top (file_app (codes "run")).top
+    in let with_replay = with_subcommand with_run (file_app (codes "replay")).top
+    in with_subcommand with_replay (file_app (codes "dump")).top
 
 -- a command's name and its file, where both are there
 abbrev pub with_file : Text → Option Text → Option (Text × Text)

@@ -10,16 +10,19 @@ Faults of a line, of which the first that holds is told:
   Cut     the line has no line end
   Form    a byte isn't printable, or a part is empty
   Header  the first line doesn't begin with `heap`, or hasn't six parts
-  Word    the line's keyword is neither `dump` nor that of a command
+  Word    the line's keyword isn't one at that place
   Form    no keyword follows the owner, or the number of parts is wrong
+and then, part by part, from left to right:
+  Word    a `deal` is of neither `copies` nor `entries`
   Number  a part isn't the number that it should be
   Root    a part isn't the root that it should be, as 1.0
+  Tray    a part isn't the name of a tray
 
 Faults of the heap that the first line asks for:
   BadSpace, BadRatio, BadRoots, BadLog
 
 Statuses:
-  0  done; a refused command is an answer, and no failure
+  0  done; a refused line is an answer, and no failure
   1  a fault in the file, or it can't be opened or read, or a write failed
   2  the command line isn't understood
   3  memory was refused

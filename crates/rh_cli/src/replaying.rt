@@ -8,6 +8,7 @@ ghost use Rattle.rh_cli.specs.Replay.{TellsLegal, TellsWrong};
 
 use crate::ending::Ending;
 use crate::fault::LineFault;
+use rh_layout::limits::MAX_INPUT_BYTES;
 use rh_replay::{HistoryError, Verdict, check, read_history, report};
 use rh_text::{Calls, InputFault, read_all};
 use std::alloc::Allocator;
@@ -41,7 +42,7 @@ fn replay_input<A: Allocator + Copy, O: Write>(
     input: &[u8],
     out: &mut O,
 ) -> Result<Ending, LineFault>
-    requires { length input.now ≤ 16777216 }
+    requires { length input.now ≤ MAX_INPUT_BYTES }
     ensures concluded { ConcludesReplay input.now (status_after result) (O.contents out.old)
         (O.contents out.new) }
     ensures late { IfErr result (λ fault. IsLateFault fault) }
@@ -58,7 +59,7 @@ fn report_on<A: Allocator + Copy, O: Write>(
     input: &[u8],
     out: &mut O,
 ) -> Result<Verdict, LineFault>
-    requires { length input.now ≤ 16777216 }
+    requires { length input.now ≤ MAX_INPUT_BYTES }
     ensures ends { ReplayEnds input.now result (O.contents out.old) (O.contents out.new) }
     ensures late { IfErr result (λ fault. IsLateFault fault) }
 {
