@@ -4,6 +4,7 @@ use crate::devices::SlowWriter;
 use crate::expectations::{expect_equal, expect_refusals};
 use refusing::refused_in_turn;
 use rh_core::{Config, Heap};
+use rh_dump::limits::MAX_OBJECTS;
 use rh_dump::{Graph, graph, plain_graph, same_text, write_dump};
 use rh_layout::{Command, Operand, RootId};
 use rh_model::Plain;
@@ -71,7 +72,7 @@ fn expect_dumps(rt: &(impl AllocGlobal + Abort), commands: &[Command], text: &st
     }
     let moving = graph(rt.alloc(), &heap).ok().expect(rt, "memory is ample");
     expect_dump(rt, &moving, text);
-    if plain.objects() <= 16_777_216 {
+    if plain.objects() <= MAX_OBJECTS as usize {
         let still = plain_graph(rt.alloc(), &plain)
             .ok()
             .expect(rt, "memory is ample");
@@ -124,7 +125,7 @@ fn refused_memory(rt: HostRuntime) {
 
 /// Makes the graph of a plain heap. Answers whether memory was refused.
 fn is_refused_a_plain_graph<A: Allocator + Copy>(heap: &Plain, memory: A) -> bool {
-    heap.objects() <= 16_777_216 && plain_graph(memory, heap).is_err()
+    heap.objects() <= MAX_OBJECTS as usize && plain_graph(memory, heap).is_err()
 }
 
 #[test]

@@ -14,6 +14,7 @@ const KINDS: &[(Kind, &str)] = &[
     (Kind::Word, "Word"),
     (Kind::Number, "Number"),
     (Kind::Root, "Root"),
+    (Kind::Tray, "Tray"),
 ];
 
 #[test]

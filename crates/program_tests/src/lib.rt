@@ -6,6 +6,8 @@ mod command_line;
 #[cfg(test)]
 mod counts;
 #[cfg(test)]
+mod cycles;
+#[cfg(test)]
 mod devices;
 #[cfg(test)]
 mod dumps;
@@ -17,6 +19,8 @@ mod failed_calls;
 mod faults;
 #[cfg(test)]
 mod histories;
+#[cfg(test)]
+mod leading;
 #[cfg(test)]
 mod reading;
 #[cfg(test)]

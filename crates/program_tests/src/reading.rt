@@ -6,14 +6,22 @@ use crate::texts::{
     BOUNDARY, CUT, KEYWORDS, LONG_HEADER, LONG_LINE, OPERANDS, WITHOUT_FIELDS, repeated,
 };
 use refusing::refused_in_turn;
+use rh_core::Kind as PieceKind;
 use rh_layout::{Operand, RootId};
-use rh_trace::{Header, Kind, Line, ParseError, TraceFault, Write, parse, print};
+use rh_trace::{
+    Header, Kind, Line, ParseError, TraceFault, TrayName, Write, parse, print, tray_name_of,
+};
 use std::process::Abort;
 use std::test::Fail;
 
 const A: RootId = RootId { owner: 1, slot: 0 };
 
 const B: RootId = RootId { owner: 1, slot: 1 };
+
+/// The name of a tray that these bytes are.
+fn tray(rt: &impl Abort, name: &[u8]) -> TrayName {
+    tray_name_of(name).expect(rt, "a name")
+}
 
 /// The fault that a text has, and its line.
 fn fault_of(rt: &impl AllocGlobal, text: &[u8]) -> Option<TraceFault> {
@@ -62,13 +70,53 @@ fn reads_each_keyword(rt: HostRuntime) -> Result<(), Fail> {
             b: B,
         },
         Line::Drop { owner: 1, root: A },
-        Line::Dump,
     ];
     expect_equal(&rt, trace.header(), header);
-    expect_equal(&rt, trace.lines(), lines.as_slice());
-    expect_equal(&rt, (trace.len(), trace.is_empty()), (7, false));
-    assert!(rt; trace.len() == 7 && trace.line(5) == lines[5]);
+    expect_equal(&rt, (trace.len(), trace.is_empty()), (16, false));
+    expect_equal(
+        &rt,
+        trace.lines().split_at(6.min(trace.len())).0,
+        lines.as_slice(),
+    );
+    assert!(rt; trace.len() == 16 && trace.line(5) == lines[5]);
     assert!(rt; size_of::<Line>() <= 40);
+    Ok(())
+}
+
+#[test]
+fn reads_each_line_of_a_cycle(rt: HostRuntime) -> Result<(), Fail> {
+    let trace = parse(rt.alloc(), KEYWORDS).ok().ok_or("a trace")?;
+    let (first, second) = (tray(&rt, b"t"), tray(&rt, b"a_2z9"));
+    let lines = [
+        Line::Begin,
+        Line::Shade { root: A },
+        Line::Deal {
+            kind: PieceKind::Copies,
+            most: 4_294_967_295,
+            tray: first,
+        },
+        Line::Deal {
+            kind: PieceKind::Entries,
+            most: 0,
+            tray: second,
+        },
+        Line::Give {
+            tray: tray(&rt, b"abcdefghijklmnop"),
+        },
+        Line::Join {
+            into: first,
+            other: second,
+        },
+        Line::Flip,
+        Line::Trays,
+        Line::Stat,
+        Line::Dump,
+    ];
+    expect_equal(
+        &rt,
+        trace.lines().split_at(6.min(trace.len())).1,
+        lines.as_slice(),
+    );
     Ok(())
 }
 
@@ -144,7 +192,37 @@ const FAULTS_OF_LINES: &[(&[u8], Kind)] = &[
     (b"1\n", Kind::Form),
     (b"1 grow 1.0\n", Kind::Word),
     (b"1 begin\n", Kind::Word),
-    (b"begin\n", Kind::Word),
+    (b"1 shade\n", Kind::Word),
+    (b"1 flip\n", Kind::Word),
+    (b"begun\n", Kind::Word),
+    (b"recall\n", Kind::Word),
+    (b"abandon\n", Kind::Word),
+    (b"begin 1\n", Kind::Form),
+    (b"flip 1\n", Kind::Form),
+    (b"trays t\n", Kind::Form),
+    (b"stat 1\n", Kind::Form),
+    (b"shade\n", Kind::Form),
+    (b"shade 10\n", Kind::Root),
+    (b"shade nil\n", Kind::Root),
+    (b"shade 1.0 1.1\n", Kind::Form),
+    (b"deal copies 1\n", Kind::Form),
+    (b"deal x 1\n", Kind::Form),
+    (b"deal copies 1 t t\n", Kind::Form),
+    (b"deal x 1 t\n", Kind::Word),
+    (b"deal x -1 T\n", Kind::Word),
+    (b"deal Copies 1 t\n", Kind::Word),
+    (b"deal copies -1 T\n", Kind::Number),
+    (b"deal copies 1 T\n", Kind::Tray),
+    (b"deal entries 4294967296 t\n", Kind::Number),
+    (b"give\n", Kind::Form),
+    (b"give T\n", Kind::Tray),
+    (b"give 1\n", Kind::Tray),
+    (b"give abcdefghijklmnopq\n", Kind::Tray),
+    (b"give t t\n", Kind::Form),
+    (b"join a\n", Kind::Form),
+    (b"join a B\n", Kind::Tray),
+    (b"join _a b\n", Kind::Tray),
+    (b"join a b c\n", Kind::Form),
     (b"alloc 1 1.0 2\n", Kind::Word),
     (b"1 dump\n", Kind::Word),
     (b"dump 1\n", Kind::Form),

@@ -20,7 +20,7 @@ pub const CUT: &[u8] = b"heap 16 8 4 2 2\n1 alloc 1.0 2\n1 alloc 1.0";
 
 /// A first line, and one line of each keyword.
 pub const KEYWORDS: &[u8] =
-    b"heap 16 8 4 2 2\n1 alloc 1.0 2\n1 load 1.1 1.0 0\n1 store 1.0 0 5\n1 copy 1.1 0.0\n1 same 1.0 1.1\n1 drop 1.0\ndump\n";
+    b"heap 16 8 4 2 2\n1 alloc 1.0 2\n1 load 1.1 1.0 0\n1 store 1.0 0 5\n1 copy 1.1 0.0\n1 same 1.0 1.1\n1 drop 1.0\nbegin\nshade 1.0\ndeal copies 4294967295 t\ndeal entries 0 a_2z9\ngive abcdefghijklmnop\njoin t a_2z9\nflip\ntrays\nstat\ndump\n";
 
 /// Stores of each kind of operand, and lines of the greatest numbers.
 pub const OPERANDS: &[u8] =
@@ -59,6 +59,41 @@ pub const ORDER_OF_REFUSALS: &[u8] =
 
 pub const ORDER_OF_REFUSALS_ANSWERS: &[u8] =
     b"refused NotYours\nrefused NoRoot\nrefused NotObject\nrefused NotObject\nrefused NoRoot\nnil\ntotal commands 6 refused 5 flips 0 rootwords 0\n";
+
+/// A whole cycle, whose log entry is never dealt.
+pub const WHOLE_CYCLE: &[u8] =
+    b"heap 16 8 4 2 2\n1 alloc 1.0 2\nbegin\n1 alloc 1.1 1\n1 store 1.0 0 1.1\nshade 1.0\nshade 1.1\ndeal copies 9 t\ngive t\nflip\nstat\n";
+
+pub const WHOLE_CYCLE_ANSWERS: &[u8] =
+    b"object 2\ncycle 1\nobject 1\ndone\nplaced\nplaced\ndealt 3 passed 0\ngiven joined 3 repeated 0 stale 0 placed 0\nflipped roots 2 live 7\nstat used 7 free 9 cycle off epoch 2 number 1 log 0 granted 24 spent 15 placed 0 missing 0\ntotal commands 3 refused 0 flips 1 rootwords 2\n";
+
+/// Trays joined in both orders and given again.
+pub const JOINED: &[u8] =
+    b"heap 64 8 8 2 2\n1 alloc 1.0 2\nbegin\n1 alloc 1.1 3\n1 drop 1.1\nshade 1.0\ndeal copies 1 a\n1 store 1.0 0 9\ndeal copies 1 b\ndeal entries 9 b\njoin c a\njoin c b\njoin d b\njoin d a\ntrays\ngive c\ngive d\ngive d\nflip\n";
+
+pub const JOINED_ANSWERS: &[u8] =
+    b"object 2\ncycle 1\nobject 3\ndone\nplaced\ndealt 1 passed 0\ndone\ndealt 1 passed 0\ndealt 1 passed 0\njoined 1\njoined 2\njoined 2\njoined 2\ntray a epoch 1 entries 1\ntray b epoch 1 entries 2\ntray c epoch 1 entries 2\ntray d epoch 1 entries 2\ngiven joined 2 repeated 0 stale 0 placed 0\ngiven joined 0 repeated 2 stale 0 placed 0\ngiven joined 0 repeated 2 stale 0 placed 0\nflipped roots 1 live 4\ntotal commands 4 refused 0 flips 1 rootwords 1\n";
+
+/// A tray of 65 entries, for which credit is short too.
+pub const TOO_MANY: &[u8] =
+    b"heap 1024 56 8 2 2\n1 alloc 1.0 65\nbegin\n1 alloc 1.1 5\nshade 1.0\ndeal copies 64 a\ndeal copies 9 a\ngive a\nstat\n";
+
+pub const TOO_MANY_ANSWERS: &[u8] =
+    b"object 65\ncycle 1\nobject 5\nplaced\ndealt 64 passed 0\ndealt 1 passed 0\nrefused TooMany\nstat used 74 free 950 cycle on epoch 1 number 0 log 0 granted 392 spent 68 placed 1 missing 65\ntotal commands 2 refused 0 flips 0 rootwords 0\n";
+
+/// Trays of two epochs joined, listed in order of first use and given.
+pub const TWO_EPOCHS: &[u8] =
+    b"heap 64 8 8 2 2\n1 alloc 1.0 2\nbegin\n1 alloc 1.1 3\n1 drop 1.1\nshade 1.0\ndeal copies 9 z\ngive z\nflip\nbegin\n1 alloc 1.1 3\n1 drop 1.1\nshade 1.0\ndeal copies 1 m\njoin a z\njoin m z\njoin z m\ntrays\ngive z\ngive m\ngive a\n";
+
+pub const TWO_EPOCHS_ANSWERS: &[u8] =
+    b"object 2\ncycle 1\nobject 3\ndone\nplaced\ndealt 2 passed 0\ngiven joined 2 repeated 0 stale 0 placed 0\nflipped roots 1 live 4\ncycle 2\nobject 3\ndone\nplaced\ndealt 1 passed 0\njoined 2\njoined 1\njoined 1\ntray z epoch 2 entries 1\ntray m epoch 2 entries 1\ntray a epoch 1 entries 2\ngiven joined 1 repeated 0 stale 0 placed 0\ngiven joined 0 repeated 1 stale 0 placed 0\nrefused StaleEpoch is 2 was 1\ntotal commands 5 refused 0 flips 1 rootwords 1\n";
+
+/// An object that a root holds over four cycles, among 18 stores.
+pub const FOUR_CYCLES: &[u8] =
+    b"heap 64 8 8 2 2\n1 alloc 1.0 2\n1 store 1.0 0 1\n1 store 1.0 1 1.0\n1 store 1.0 0 2\n1 store 1.0 0 3\n1 store 1.0 0 4\nbegin\n1 alloc 1.1 3\nshade 1.0\n1 store 1.0 0 5\n1 store 1.0 0 6\n1 store 1.1 2 1.0\ndeal copies 9 a\n1 store 1.0 0 7\ngive a\ndeal entries 9 a\ngive a\nflip\nshade 1.1\ndeal copies 9 b\ngive b\nflip\nstat\n1 store 1.0 1 1.1\n1 drop 1.1\nbegin\n1 alloc 1.1 7\n1 drop 1.1\nshade 1.0\n1 store 1.0 0 11\ndeal copies 9 a\ndeal copies 9 c\n1 store 1.0 0 12\n1 store 1.0 0 13\ngive c\ndeal entries 1 d\njoin d c\njoin d d\njoin x x\ndeal entries 9 d\ngive d\nflip\ndeal copies 9 d\ngive d\nflip\nbegin\n1 alloc 1.1 7\n1 drop 1.1\n1 store 1.0 1 nil\n1 store 1.0 0 15\nshade 1.0\ndeal copies 9 e\ngive e\ndeal entries 9 f\ngive f\n1 store 1.0 0 16\nflip\ndeal entries 9 f\ngive f\nflip\nbegin\n1 alloc 1.1 0\n1 store 1.0 1 1.1\n1 store 1.0 0 1.1\nshade 1.1\nshade 1.0\nshade 1.0\ndeal copies 9 g\ndeal copies 9 g\ngive g\n1 alloc 0.0 0\n1 drop 0.0\ngive g\nflip\nstat\n1 load 1.0 1.0 1\n1 same 1.0 1.1\ntrays\n";
+
+pub const FOUR_CYCLES_ANSWERS: &[u8] =
+    b"object 2\ndone\ndone\ndone\ndone\ndone\ncycle 1\nobject 3\nplaced\ndone\ndone\ndone\ndealt 2 passed 0\ndone\ngiven joined 1 repeated 0 stale 1 placed 0\ndealt 3 passed 1\ngiven joined 1 repeated 1 stale 0 placed 0\nrefused RootUnplaced 1.1\nplaced\ndealt 3 passed 0\ngiven joined 3 repeated 0 stale 0 placed 0\nflipped roots 2 live 9\nstat used 9 free 55 cycle off epoch 2 number 9 log 0 granted 40 spent 27 placed 0 missing 0\ndone\ndone\ncycle 2\nobject 7\ndone\nplaced\ndone\nrefused OtherEpoch\ndealt 2 passed 0\ndone\ndone\ngiven joined 1 repeated 0 stale 1 placed 1\ndealt 1 passed 0\njoined 2\njoined 2\nrefused NoTray\ndealt 2 passed 0\ngiven joined 1 repeated 1 stale 0 placed 0\nrefused Missing 3\ndealt 3 passed 0\ngiven joined 3 repeated 2 stale 0 placed 0\nflipped roots 1 live 9\ncycle 3\nobject 7\ndone\ndone\ndone\nplaced\ndealt 2 passed 0\ngiven joined 2 repeated 0 stale 0 placed 0\ndealt 2 passed 0\ngiven joined 0 repeated 2 stale 0 placed 0\ndone\nrefused Missing 1\ndealt 1 passed 0\ngiven joined 1 repeated 1 stale 0 placed 0\nflipped roots 1 live 4\ncycle 4\nobject 0\ndone\ndone\nplaced\nplaced\nalready\ndealt 1 passed 0\ndealt 1 passed 0\nrefused CreditShort need 10 free 8\nobject 0\ndone\ngiven joined 2 repeated 0 stale 0 placed 0\nflipped roots 2 live 6\nstat used 6 free 58 cycle off epoch 5 number 18 log 0 granted 32 spent 12 placed 0 missing 0\nobject 0\nsame yes\ntray a epoch 1 entries 2\ntray b epoch 1 entries 3\ntray c epoch 2 entries 2\ntray d epoch 2 entries 5\ntray e epoch 3 entries 2\ntray f epoch 3 entries 2\ntray g epoch 4 entries 2\ntotal commands 30 refused 0 flips 4 rootwords 6\n";
 
 /// The first line of a trace with 16 slots: 16 bytes. And a line of 16 bytes, with its answer.
 pub const LONG_HEADER: &[u8] = b"heap 8 1 1 2 16\n";

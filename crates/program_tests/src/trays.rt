@@ -23,6 +23,14 @@ const NAMES: &[(&[u8], bool)] = &[
     (b"1a", false),
     (b"_a", false),
     (b"a-b", false),
+    (b"aB", false),
+    (b"a.0", false),
+    (b"a/", false),
+    (b"a:", false),
+    (b"a`", false),
+    (b"a{", false),
+    (b"`", false),
+    (b"{", false),
 ];
 
 #[test]
@@ -207,6 +215,9 @@ fn too_many_trays(rt: HostRuntime) {
     let refused = engine.join(name(&rt, b"z"), name(&rt, b"y"));
     expect_equal(&rt, refused, Ok(Err(JoinRefusal::NoTray)));
     let refused = engine.deal(Kind::Copies, 1, name(&rt, b"z"));
+    expect_equal(&rt, refused, Ok(Err(DealRefusal::TooManyTrays)));
+    // Nothing was stored, so there is no entry to deal either.
+    let refused = engine.deal(Kind::Entries, 1, name(&rt, b"z"));
     expect_equal(&rt, refused, Ok(Err(DealRefusal::TooManyTrays)));
     expect_equal(&rt, engine.give(name(&rt, b"z")), Err(GiveRefusal::NoTray));
 }
