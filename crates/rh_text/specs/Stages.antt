@@ -11,7 +11,7 @@ abbrev pub ◌when◌ : {K : Type 0} → K → Type 0 → K → Type 0
 abbrev pub no_fault : {K : Type 0} → ℕ → K → Type 0
 no_fault place kind = ⊥
 
--- one stage before the others: it is at place 0, and the others at the places after it
+-- one stage before the others: it is at position 0, and the others at the positions after it
 infixr 6 ◌▸◌
 abbrev pub ◌▸◌ : {K : Type 0} → (K → Type 0) → (ℕ → K → Type 0) → ℕ → K → Type 0
 (first ▸ others) zero kind = first kind
@@ -28,15 +28,15 @@ in_lines faults number (l ∷ ls) line place kind =
 abbrev pub IsFaultless : {K : Type 0} → (ℕ → K → Type 0) → Type 0
 IsFaultless {K = K} faults = (place : ℕ) (kind : K) → ¬ faults place kind
 
--- the kind of fault that comes first: it holds at a place, and any other that holds stands at a
--- later place, or is the same
+-- the kind of fault that comes first: it holds at a position, and any other that holds stands
+-- at a later position, or is the same
 pub record IsLeast {K : Type 0} (Holds : ℕ → K → Type 0) (kind : K) : Type 0 where
   pub place : ℕ
   pub holds : Holds place kind
   pub least : (p : ℕ) (k : K) → Holds p k → (place < p) ⊎ ((p ≡ place) × (k ≡ kind))
 
--- the fault of lines that comes first: it holds on this line at a place, and any other that holds
--- is on a later line, or on this line at a later place, or is the same
+-- the fault of lines that comes first: it holds on this line at a position, and any other that
+-- holds is on a later line, or on this line at a later position, or is the same
 pub record IsFirst {K : Type 0} (Holds : ℕ → ℕ → K → Type 0) (line : ℕ) (kind : K) : Type 0 where
   pub place : ℕ
   pub holds : Holds line place kind

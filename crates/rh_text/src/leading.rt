@@ -48,7 +48,9 @@ pub fn leading_number(text: &[u8]) -> Option<(u32, &[u8])>
     ensures { MatchOption result
         ((number byte : ℕ) → (rest : List ℕ) → number < 10 ^ 8 → IsOutOfRange 48 57 byte
         → text.now ≢ decimal number ++ byte ∷ rest)
-        (λ x. IsU32 x.0 × (text.now ≡ decimal x.0 ++ x.1.now)) }
+        (λ x. IsU32 x.0 × (text.now ≡ decimal x.0 ++ x.1.now)
+        × (x.0 ≢ 0 → (byte : ℕ) × (after : List ℕ) × IsOutOfRange 48 57 byte
+        × (x.1.now ≡ byte ∷ after))) }
 {
     let [first, rest @ ..] = text else {
         return None;

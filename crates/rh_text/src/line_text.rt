@@ -53,6 +53,7 @@ impl LineText {
     }
 
     /// Puts bytes at the end.
+    #[inline(always)]
     pub fn put(&mut self, text: &[u8])
         requires { length self.old + length text.now ≤ 256 }
         ensures { self.new ≡ self.old ++ text.now }

@@ -22,6 +22,7 @@ pub struct Write;
 ///
 /// `Write` where a write failed, or 33,554,432 of them were made and some of the text is left. A
 /// prefix of the text was written then.
+#[inline(always)]
 pub fn send<W: io::Write>(writer: &mut W, writes: &mut Calls, text: &[u8]) -> Result<(), Write>
     requires { writes.old.failed ≡ false }
     ensures ok { OnOk result (Appends (W.contents writer.old) (W.contents writer.new) text.now) }

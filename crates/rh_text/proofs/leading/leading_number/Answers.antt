@@ -1,5 +1,5 @@
-use Rattle.std.proofs.Common.{◌≤◌, length, ap, arith, inl, inr}
-use Rattle.std.proofs.lemmas.List.{length-drop}
+use Rattle.std.proofs.Common.{◌≤◌, length, ap, arith, inl, inr, refl, drop, get_or}
+use Rattle.std.proofs.lemmas.List.{length-drop, drop_more}
 use Rattle.rh_text.proofs.NumberHead.{below_power, zero_leads, next_rest, next_digit, number_leads, first_is_digit, digits_end}
 use Rattle.rh_text.proofs.leading.leading_number.Goals as goal
 
@@ -21,13 +21,16 @@ returns c = λ number byte rest small out is.
     omega (arith, (digits_end c.args.text.now rest number byte small is c.loop-i.i out i.within i.reads.digits).1, c.loop-i-test.false)
 
 pub returns-then-first-eq48 : goal.returns-then-first-eq48
-returns-then-first-eq48 c = (omega arith, zero_leads c.args.text.now c.if-first-eq48.true)
+returns-then-first-eq48 c = (omega arith, zero_leads c.args.text.now c.if-first-eq48.true, λ some. absurd (some refl))
 
 pub returns-then-not-is_ascii_digit-2 : goal.returns-then-not-is_ascii_digit-2
 returns-then-not-is_ascii_digit-2 c =
     let i = c.loop-i.invariant in
-    let few : c.loop-i.i ≤ 8 = omega (arith, c.loop-i-test.true) in
-    (omega (arith, below_power c.args.text.now c.loop-i.i c.loop-i.number 8 few i.reads), number_leads c.args.text.now c.loop-i.rest.now c.loop-i.i c.loop-i.number i.rest i.filled few i.within i.leading i.reads)
+    let few : c.loop-i.i ≤ 8 = omega (arith, c.loop-i-test.true) in (
+      omega (arith, below_power c.args.text.now c.loop-i.i c.loop-i.number 8 few i.reads),
+      number_leads c.args.text.now c.loop-i.rest.now c.loop-i.i c.loop-i.number i.rest i.filled few i.within i.leading i.reads,
+      λ some. (get_or c.loop-i.rest.now 0 0, drop 1 c.loop-i.rest.now, c.if-not-is_ascii_digit-2.ensures.cases, drop_more c.loop-i.rest.now 0 0 (omega (arith, c.in-len1-up-rest.len_at_least))),
+    )
 
 pub overflow_mul-number : goal.overflow_mul-number
 overflow_mul-number c =
