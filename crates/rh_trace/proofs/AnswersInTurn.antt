@@ -1,6 +1,7 @@
 -- Lines run one after the other, and what a run gives.
 use Rattle.std.proofs.Common.{◌≡◌, ℕ, ◌+◌, ◌<◌, ◌≤◌, suc, Bool, true, false, cond, List, [], ◌∷◌, ◌++◌, length, get_or, take, drop, Option, Some, None, Result, Ok, Err, refl, sym, ap, subst, ◌∙◌, arith}
-use Rattle.std.specs.Prelude.{count_by, IfSome}
+use Rattle.std.specs.Prelude.{count_by, IfSome, nat_lt, if◌then◌else◌}
+use Rattle.std.specs.List.{flat_map}
 use Rattle.std.specs.Int.{from_bool}
 use Rattle.std.proofs.lemmas.List.{drop_more, take_more}
 use Rattle.std.proofs.lemmas.List.Sums.{count_by_more_yes, count_by_more_no}
@@ -13,11 +14,12 @@ use Rattle.rh_trace.specs.declared.fault.TraceFault.{TraceFault}
 use Rattle.rh_trace.specs.declared.run_fault.RunFault.TheVariants as faults
 use Rattle.rh_trace.specs.declared.line.Line.{Line}
 use Rattle.rh_trace.specs.declared.summary.Summary.{Summary}
+use Rattle.rh_trace.specs.Reading.{trace_of}
 use Rattle.rh_trace.specs.Spelling.{Script}
-use Rattle.rh_trace.specs.Answers.{Answered, is_answer, is_refused, is_flip, flip_of, words_of, root_words_of}
+use Rattle.rh_trace.specs.Answers.{Answered, answered_text, is_answer, is_refused, is_flip, flip_of, words_of, root_words_of}
 use Rattle.rh_trace.specs.Engine.{EngineState}
-use Rattle.rh_trace.specs.Run.{config_of, line_step, answers_to, answers_of, summary_of, summary_with, output_of, run_of_script, run_of_trace, run_of, text_of, Ends}
-use Rattle.rh_text.specs.lemmas.Appends.{Appends-none}
+use Rattle.rh_trace.specs.Run.{config_of, line_step, answers_to, answers_of, summary_of, summary_with, output_of, run_of_script, run_of_trace, run_of, StopsBeforeTotal, Ends}
+use Rattle.rh_text.specs.lemmas.Appends.{Appends-none, Keeps-same}
 
 pub length-answers_to : (state : EngineState) (lines : List Line) → length (answers_to state lines) ≡ length lines
 length-answers_to state [] = refl
@@ -81,9 +83,27 @@ pub no_fault : (o : Option ConfigFault) → ((f : ConfigFault) → o ≡ Some f 
 no_fault None h = refl
 no_fault (Some f) h = absurd (h f refl)
 
+-- where nothing was written, nothing of the total line was, and all that is due where there is a fault
+unwritten_script : (fault : Option ConfigFault) (script : Script) (a : Option (List ℕ)) → StopsBeforeTotal (run_of_script fault script) a a
+unwritten_script (Some fault) script a = Keeps-same a
+unwritten_script None script a =
+    let text = flat_map answered_text (answers_of script) in
+    (text, refl, ([], text, refl, Appends-none a))
+
+pub unwritten_trace : (read : Result Script TraceFault) (a : Option (List ℕ)) → StopsBeforeTotal (run_of_trace read) a a
+unwritten_trace (Err fault) a = Keeps-same a
+unwritten_trace (Ok script) a = unwritten_script (fault_of (config_of script.header)) script a
+
+unwritten_if : (long : Bool) (read : Result Script TraceFault) (a : Option (List ℕ)) → StopsBeforeTotal (if long then Err faults.Long else run_of_trace read) a a
+unwritten_if true read a = Keeps-same a
+unwritten_if false read a = unwritten_trace read a
+
+pub unwritten : (input : List ℕ) (a : Option (List ℕ)) → StopsBeforeTotal (run_of input) a a
+unwritten input a = unwritten_if (nat_lt 16777216 (length input)) (trace_of input) a
+
 pub nothing_written : (known : Option (List ℕ)) (a : Option (List ℕ)) → IfSome known (λ input. Ends (run_of input) (Err faults.OutOfMemory) a a)
 nothing_written None a = tt
-nothing_written (Some input) a = ([], text_of (run_of input), refl, Appends-none a)
+nothing_written (Some input) a = unwritten input a
 
 pub bit_is : (b : Bool) → from_bool b ≡ cond b 1 0
 bit_is true = refl

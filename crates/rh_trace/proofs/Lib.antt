@@ -12,6 +12,7 @@ pub mod NamedTrays
 pub mod EngineLemmas
 pub mod DealOrder
 pub mod PutTrays
+pub mod SetTrays
 pub mod LineOrder
 pub mod TrayChanges
 pub mod LinesAreEvents

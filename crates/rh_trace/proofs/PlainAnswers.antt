@@ -1,8 +1,10 @@
 -- What a run writes are the answers of a plain heap.
-use Rattle.std.proofs.Common.{◌≡◌, ℕ, ◌<◌, List, [], ◌∷◌, ◌++◌, length, Option, Some, None, Result, Ok, Err, refl, sym, ap, subst, ◌∙◌, arith}
+use Rattle.std.proofs.Common.{◌≡◌, ◌⊎◌, inl, inr, ℕ, ◌<◌, List, [], ◌∷◌, ◌++◌, length, Option, Some, None, Result, Ok, Err, refl, sym, ap, subst, ◌∙◌, arith}
 use Rattle.std.specs.Prelude.{IfOk, IsErrOf}
+use Rattle.std.specs.Io.KnownBytes as bytes
+use Rattle.std.specs.List.{flat_map}
 use Rattle.std.specs.Io.KnownBytes.{Appends, Consumes}
-use Rattle.std.proofs.lemmas.List.{length-append}
+use Rattle.std.proofs.lemmas.List.{length-append, append_cancel_right}
 use Rattle.rh_model.specs.Plain.{PlainHeap, empty_plain}
 use Rattle.rh_core.specs.declared.config.Config.{Config}
 use Rattle.rh_core.specs.declared.config.ConfigFault.{ConfigFault}
@@ -27,7 +29,7 @@ use Rattle.rh_trace.specs.declared.run_fault.RunFault.{RunFault}
 use Rattle.rh_trace.specs.declared.run_fault.RunFault.TheVariants as faults
 use Rattle.rh_trace.specs.declared.line.Line.{Line}
 use Rattle.rh_trace.specs.declared.summary.Summary.{Summary}
-use Rattle.rh_text.specs.Output.{AppendsLess}
+use Rattle.rh_text.specs.Output.{AppendsPrefix, AppendsLess}
 use Rattle.rh_trace.specs.Spelling.{Script}
 use Rattle.rh_trace.specs.Reading.{trace_of}
 use Rattle.rh_dump.specs.HeapDump.{dump_of, plain_dump_of}
@@ -35,8 +37,8 @@ use Rattle.rh_trace.specs.declared.line.Asked.{Asked}
 use Rattle.rh_trace.specs.declared.line.Asked.TheVariants as asked
 use Rattle.rh_trace.specs.Line.{asked_of}
 use Rattle.rh_trace.specs.Answers as answers
-use Rattle.rh_trace.specs.Answers.{Answered}
-use Rattle.rh_trace.specs.Run.{config_of, asked_step, line_step, answers_to, new_run, answers_of, summary_of, output_of, run_of_script, run_of_trace, text_of, Ends, IsPlainAnswer, plain_after, AreTransparent, IsPlainRun}
+use Rattle.rh_trace.specs.Answers.{Answered, answered_text, total_line}
+use Rattle.rh_trace.specs.Run.{config_of, asked_step, line_step, answers_to, new_run, answers_of, summary_of, output_of, run_of_script, run_of_trace, text_of, StopsBeforeTotal, Ends, IsPlainAnswer, plain_after, AreTransparent, IsPlainRun}
 use Rattle.rh_trace.specs.lemmas.ReadIsSpelled.{trace_of-means}
 
 -- a new heap stands for the empty plain heap
@@ -151,22 +153,62 @@ run_is_due : (due : Result (List ℕ × Summary) RunFault) (prefix rest : List �
 run_is_due (Ok run) prefix rest e some = (run, refl)
 run_is_due (Err fault) prefix rest e some = absurd (omega (arith, ap length e, length-append prefix rest, some))
 
+-- the heap was made, unless memory for it was refused and nothing was written
+abbrev pub IsBegunOr : List ℕ → Result Summary RunFault → Option (List ℕ) → Option (List ℕ) → Type 0
+IsBegunOr input result old new = (IsErrOf result faults.OutOfMemory × bytes.Keeps old new) ⊎ IsBegun input
+
+begun_unless : (input : List ℕ) (result : Result Summary RunFault) (old new : Option (List ℕ)) → IsBegunOr input result old new → ¬ IsErrOf result faults.OutOfMemory → IsBegun input
+begun_unless input result old new (inl refused) other = absurd (other refused.0)
+begun_unless input result old new (inr begun) other = begun
+
+-- a text was to be written, and nothing of its total line was
+abbrev IsStopped : Result (List ℕ × Summary) RunFault → Option (List ℕ) → Option (List ℕ) → Type 0
+IsStopped due old new = (run : List ℕ × Summary) × (due ≡ Ok run) × StopsBeforeTotal (Ok run) old new
+
+-- a text was to be written, or nothing was written
+stops : (due : Result (List ℕ × Summary) RunFault) (old new : Option (List ℕ)) → StopsBeforeTotal due old new → bytes.Keeps old new ⊎ IsStopped due old new
+stops (Ok run) old new ends = inr (run, refl, ends)
+stops (Err fault) old new kept = inl kept
+
+-- not all was written that a plain heap answers to a trace
+abbrev pub IsPlainCut : Option (List ℕ) → Option (List ℕ) → Option (List ℕ) → Option (List ℕ) → Type 0
+IsPlainCut from to old new = (script : Script) × (answers : List Answered) × IsPlainRun script answers from to × AppendsLess old new (output_of answers)
+
+-- of what a plain heap answers to a trace a prefix was written, and nothing of the total line
+abbrev pub IsPlainStop : Option (List ℕ) → Option (List ℕ) → Option (List ℕ) → Option (List ℕ) → Type 0
+IsPlainStop from to old new = (script : Script) × (answers : List Answered) × IsPlainRun script answers from to × AppendsPrefix old new (flat_map answered_text answers)
+
 module _ {A : Type 0} (keeps : Keeps A) (steps : Steps A) (begins : Begins) (dumps : Dumps) (input : List ℕ) (from to old new : Option (List ℕ)) (consumed : Consumes from to input) where
-  pub plain : (result : Result Summary RunFault) → (¬ IsErrOf result faults.OutOfMemory → IsBegun input) → Ends (run_of_trace (trace_of input)) result old new
+  pub plain : (result : Result Summary RunFault) → IsBegunOr input result old new → Ends (run_of_trace (trace_of input)) result old new
       → IfOk result (λ summary. (script : Script) × (answers : List Answered) × IsPlainRun script answers from to × (summary ≡ summary_of answers) × Appends old new (output_of answers))
   plain (Err fault) begun ends = tt
   plain (Ok summary) begun ends =
       let due = run_of_trace (trace_of input) in
       let ran = run_ok (trace_of input) (text_of due, summary) ends.0 in
-      let fine = begun (λ same. cc) ran.script ran.is ran.faultless in
+      let fine = begun_unless input (Ok summary) old new begun (λ same. cc) ran.script ran.is ran.faultless in
       (ran.script, answers_of ran.script, plain_run keeps steps begins dumps input ran.script from to consumed ran.is fine, ran.summary, subst (Appends old new) ran.text ends.1)
 
-  pub plain_prefix : (result : Result Summary RunFault) → (¬ IsErrOf result faults.OutOfMemory → IsBegun input) → Ends (run_of_trace (trace_of input)) result old new
-      → IsErrOf result faults.Write → (script : Script) × (answers : List Answered) × IsPlainRun script answers from to × AppendsLess old new (output_of answers)
+  pub plain_prefix : (result : Result Summary RunFault) → IsBegunOr input result old new → Ends (run_of_trace (trace_of input)) result old new → IsErrOf result faults.Write → IsPlainCut from to old new
   plain_prefix result begun ends failed =
       let due = run_of_trace (trace_of input) in
       let less : AppendsLess old new (text_of due) = subst (λ (r : Result Summary RunFault). Ends due r old new) failed ends in
       let some = run_is_due due less.0 less.1 less.2 less.3 in
       let ran = run_ok (trace_of input) some.0 some.1 in
-      let fine = begun (λ same. absurd cc) ran.script ran.is ran.faultless in
+      let fine = begun_unless input result old new begun (λ same. absurd cc) ran.script ran.is ran.faultless in
       (ran.script, answers_of ran.script, plain_run keeps steps begins dumps input ran.script from to consumed ran.is fine, subst (AppendsLess old new) (ap text_of some.1 ∙ ran.text) less)
+
+  stop_is_plain : IsBegun input → bytes.Keeps old new ⊎ IsStopped (run_of_trace (trace_of input)) old new → bytes.Keeps old new ⊎ IsPlainStop from to old new
+  stop_is_plain begun (inl kept) = inl kept
+  stop_is_plain begun (inr stopped) =
+      let ran = run_ok (trace_of input) stopped.0 stopped.1 in
+      let fine = begun ran.script ran.is ran.faultless in
+      let answers = answers_of ran.script in
+      let text = flat_map answered_text answers in
+      let same : stopped.2.0 ≡ text = append_cancel_right stopped.2.0 text (total_line (summary_of answers)) (ap (λ (s : Summary). stopped.2.0 ++ total_line s) (sym ran.summary) ∙ sym stopped.2.1 ∙ ran.text) in
+      inr (ran.script, answers, plain_run keeps steps begins dumps input ran.script from to consumed ran.is fine, subst (AppendsPrefix old new) same stopped.2.2)
+
+  pub plain_memory : (result : Result Summary RunFault) → IsBegunOr input result old new → Ends (run_of_trace (trace_of input)) result old new → IsErrOf result faults.OutOfMemory → bytes.Keeps old new ⊎ IsPlainStop from to old new
+  plain_memory result (inl refused) ends failed = inl refused.1
+  plain_memory result (inr begun) ends failed =
+      let due = run_of_trace (trace_of input) in
+      stop_is_plain begun (stops due old new (subst (λ (r : Result Summary RunFault). Ends due r old new) failed ends))

@@ -1,6 +1,6 @@
 -- The definitions at work: the texts of the answers to the lines of a cycle.
 use Rattle.std.proofs.Common.{◌≡◌, [], ◌∷◌, Ok, Err, refl}
-use Rattle.std.specs.Prelude.{◌++◌, true, false, codes}
+use Rattle.std.specs.Prelude.{ℕ, List, map, ◌++◌, true, false, codes}
 use Rattle.std.specs.Fmt.{digits}
 use Rattle.rh_layout.specs.declared.value.Value.TheVariants.{Nil}
 use Rattle.rh_core.specs.declared.outcomes.Shaded.TheVariants as shades
@@ -14,9 +14,12 @@ use Rattle.rh_trace.specs.declared.engine.DealRefusal.TheVariants as deal_refusa
 use Rattle.rh_trace.specs.declared.engine.GiveRefusal.TheVariants as give_refusals
 use Rattle.rh_trace.specs.declared.trays.JoinRefusal.TheVariants as join_refusals
 use Rattle.rh_trace.specs.Trays.{Tray}
+use Rattle.rh_layout.specs.declared.refusal.Refusal.{Refusal}
+use Rattle.rh_layout.specs.declared.refusal.Refusal.TheVariants as refusals
+use Rattle.rh_trace.specs.Answers.{refused_text}
 use Rattle.rh_trace.specs.CycleAnswers.{begin_text, shade_text, deal_text, give_text, join_text, flip_text, tray_text, stat_text}
 
-begun : begin_text (Ok 1) ≡ codes "cycle 1"
+begun : begin_text (Ok 12) ≡ codes "cycle 12"
 unfolding digits
 begun = refl
 
@@ -46,7 +49,7 @@ short_shade :
 unfolding digits
 short_shade = refl
 
-dealt : deal_text (Ok (record { items = 3; passed = 0 })) ≡ codes "dealt 3 passed 0"
+dealt : deal_text (Ok (record { items = 3; passed = 2 })) ≡ codes "dealt 3 passed 2"
 unfolding digits
 dealt = refl
 
@@ -138,12 +141,12 @@ no_cycle_to_flip : flip_text (Err flips.NoCycle) ≡ codes "refused NoCycle"
 no_cycle_to_flip = refl
 
 root_unplaced :
-    flip_text (Err (flips.RootUnplaced (record { owner = 0; slot = 0 })))
-    ≡ codes "refused RootUnplaced 0.0"
+    flip_text (Err (flips.RootUnplaced (record { owner = 1; slot = 0 })))
+    ≡ codes "refused RootUnplaced 1.0"
 unfolding digits
 root_unplaced = refl
 
-missing : flip_text (Err (flips.Missing 1)) ≡ codes "refused Missing 1"
+missing : flip_text (Err (flips.Missing 12)) ≡ codes "refused Missing 12"
 unfolding digits
 missing = refl
 
@@ -194,3 +197,23 @@ stat_on :
     ++ codes " granted 24 spent 15 placed 4 missing 5"
 unfolding digits after_flip in_cycle
 stat_on = refl
+
+-- each refusal of a command, with its text
+refused : List (Refusal × List ℕ)
+refused =
+    (refusals.NoRoot, codes "refused NoRoot")
+    ∷ (refusals.NotYours, codes "refused NotYours")
+    ∷ (refusals.NotObject, codes "refused NotObject")
+    ∷ (refusals.NoField, codes "refused NoField")
+    ∷ (refusals.IntRange, codes "refused IntRange")
+    ∷ (refusals.FieldsRange, codes "refused FieldsRange")
+    ∷ (refusals.SpaceFull 10 9, codes "refused SpaceFull need 10 free 9")
+    ∷ (refusals.LogFull, codes "refused LogFull")
+    ∷ (refusals.NumbersSpent, codes "refused NumbersSpent")
+    ∷ []
+
+refused_commands :
+    map (λ (row : Refusal × List ℕ). refused_text row.0) refused
+    ≡ map (λ (row : Refusal × List ℕ). row.1) refused
+unfolding digits refused
+refused_commands = refl

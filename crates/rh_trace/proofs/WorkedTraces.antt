@@ -13,8 +13,11 @@ use Rattle.rh_trace.specs.declared.fault.Kind.{Kind}
 use Rattle.rh_trace.specs.declared.fault.Kind.TheVariants.{Empty, Cut, Form, Header, Word, Number, Root, Tray}
 use Rattle.rh_trace.specs.declared.fault.TraceFault.{TraceFault}
 use Rattle.rh_trace.specs.declared.line.Line.{Line}
-use Rattle.rh_trace.specs.declared.line.Line.TheVariants.{Begin, Shade, Deal, Give, Join, Flip, Trays, Stat, Dump}
+use Rattle.rh_trace.specs.declared.line.Line.TheVariants.{Alloc, Load, Store, Copy, Same, Drop, Begin, Shade, Deal, Give, Join, Flip, Trays, Stat, Dump}
 use Rattle.rh_trace.specs.Spelling.{Script}
+use Rattle.rh_layout.specs.declared.command.RootId.{RootId}
+use Rattle.rh_layout.specs.declared.command.Operand.TheVariants as operands
+use Rattle.rh_core.specs.Cycle.{begin_step}
 use Rattle.rh_trace.specs.Reading.{operand_or_fault, alloc_of, load_of, store_of, copy_of, same_of, drop_of, command_or_fault, kind_or_fault, shade_of, deal_of, give_of, join_of, keyword_line, line_of_parts, sizes_of, header_of_parts, checked_parts, line_or_kind, header_or_kind, lines_from, script_or_fault, trace_of}
 use Rattle.rh_trace.specs.TrayName.{is_tray_name}
 use Rattle.rh_trace.specs.Run.{run_of, text_of}
@@ -105,3 +108,29 @@ answers = codes "object 1" ∷ codes "done" ∷ codes "int 5" ∷ codes "object 
 run : text_of (run_of (text shared)) ≡ text answers
 unfolding digits script_or_fault header_or_kind line_or_kind lines_from checked_parts is_formed header_of_parts six_parts sizes_of number_of integer_of line_of_parts command_or_fault alloc_of load_of store_of copy_of same_of drop_of one_part two_parts three_parts root_of operand_or_fault heap_step heap_after_command limit_of mutators_after refusal_of fault_in reply_to text shared answers
 run = refl
+
+-- a root of an owner and a slot
+root : ℕ → ℕ → RootId
+root owner slot = record { owner = owner; slot = slot }
+
+-- a command line of each keyword
+commands : List (List ℕ)
+commands = codes "3 alloc 1.0 2" ∷ codes "3 load 1.1 1.0 4" ∷ codes "3 store 1.0 4 nil" ∷ codes "3 copy 0.1 1.0" ∷ codes "3 same 1.0 1.1" ∷ codes "3 drop 1.0" ∷ []
+
+command_lines : List Line
+command_lines = Alloc 3 (root 1 0) 2 ∷ Load 3 (root 1 1) (root 1 0) 4 ∷ Store 3 (root 1 0) 4 operands.Nil ∷ Copy 3 (root 0 1) (root 1 0) ∷ Same 3 (root 1 0) (root 1 1) ∷ Drop 3 (root 1 0) ∷ []
+
+read_commands : trace_of (text (header ∷ commands)) ≡ Ok (record { header = record { words = 16; ratio = 8; log = 4; owners = 2; slots = 2 }; lines = command_lines })
+unfolding digits script_or_fault header_or_kind line_or_kind lines_from checked_parts is_formed header_of_parts six_parts sizes_of number_of integer_of line_of_parts command_or_fault alloc_of load_of store_of copy_of same_of drop_of one_part two_parts three_parts root_of operand_or_fault text header commands command_lines root
+read_commands = refl
+
+-- a log that is full, and a dump
+logged : List (List ℕ)
+logged = codes "heap 64 8 1 2 2" ∷ codes "1 alloc 1.0 1" ∷ codes "begin" ∷ codes "1 store 1.0 0 5" ∷ codes "1 store 1.0 0 6" ∷ codes "dump" ∷ []
+
+logged_answers : List (List ℕ)
+logged_answers = codes "object 1" ∷ codes "cycle 1" ∷ codes "done" ∷ codes "refused LogFull" ∷ codes "rheap 1" ∷ codes "roots 1" ∷ codes "1.0 @0" ∷ codes "objects 1" ∷ codes "@0 1 5" ∷ codes "end" ∷ codes "total commands 3 refused 1 flips 0 rootwords 0" ∷ []
+
+run_logged : text_of (run_of (text logged)) ≡ text logged_answers
+unfolding digits script_or_fault header_or_kind line_or_kind lines_from checked_parts is_formed header_of_parts six_parts sizes_of number_of integer_of line_of_parts command_or_fault alloc_of store_of two_parts three_parts root_of operand_or_fault keyword_line begin_step heap_step heap_after_command limit_of mutators_after refusal_of fault_in reply_to text logged logged_answers
+run_logged = refl

@@ -1,28 +1,34 @@
 -- A text that is written in parts, one after the other, and where it ended.
-use Rattle.std.proofs.Common.{◌≡◌, ℕ, ◌+◌, ◌<◌, List, [], ◌∷◌, ◌++◌, length, get_or, take, drop, Option, Result, Ok, Err, sym, ap, subst, ◌∙◌, append_assoc}
+use Rattle.std.proofs.Common.{◌≡◌, ℕ, ◌+◌, ◌<◌, List, [], ◌∷◌, ◌++◌, length, get_or, take, drop, Option, Result, Ok, Err, refl, sym, ap, subst, ◌∙◌, append_assoc, arith}
 use Rattle.std.specs.List.{flat_map}
 use Rattle.std.specs.Io.KnownBytes.{Appends}
-use Rattle.std.proofs.lemmas.List.{append-nil, take-append-drop, drop_more}
+use Rattle.std.proofs.lemmas.List.{append-nil, length-append, take-append-drop, drop_more}
 use Rattle.std.proofs.lemmas.List.Concat.{flat_map-append}
-use Rattle.rh_text.specs.Output.{AppendsPrefix, AppendsLess}
-use Rattle.rh_text.specs.lemmas.Appends.{Appends-then, Appends-less, less-more}
+use Rattle.rh_text.specs.Output.{AppendsLess}
+use Rattle.rh_text.specs.lemmas.Appends.{Appends-none, Appends-less, less-more}
+use Rattle.rh_dump.specs.Dump.{GraphState}
+use Rattle.rh_dump.specs.Line.{header_line, roots_line, objects_line, end_line, root_lines, object_lines, spell_dump_line, dump_text}
 use Rattle.rh_trace.specs.declared.stop.Stop.{Stop}
-use Rattle.rh_trace.specs.declared.stop.Stop.TheVariants as stops
+use Rattle.rh_trace.specs.Answers.{with_line_end}
 use Rattle.rh_trace.specs.Run.{Writes}
 
--- a prefix of one part, after all that stands before it
-prefix_within : (a b c : Option (List ℕ)) (before text after : List ℕ) → Appends a b before → AppendsPrefix b c text → AppendsPrefix a c (before ++ (text ++ after))
-prefix_within a b c before text after p q = (
-  before ++ q.0,
-  q.1 ++ after,
-  ap (λ (t : List ℕ). before ++ (t ++ after)) q.2 ∙ ap (λ (t : List ℕ). before ++ t) (append_assoc q.0 q.1 after) ∙ sym (append_assoc before q.0 (q.1 ++ after)),
-  Appends-then a b c before q.0 p q.3,
-)
+-- nothing of a text was written that isn't empty
+pub nothing_of : (a : Option (List ℕ)) (text : List ℕ) → 0 < length text → AppendsLess a a text
+nothing_of a text filled = ([], text, refl, filled, Appends-none a)
+
+-- nothing of a line was written
+pub nothing_of_line : (a : Option (List ℕ)) (text : List ℕ) → AppendsLess a a (with_line_end text)
+nothing_of_line a text = nothing_of a (with_line_end text) (omega (arith, length-append text (10 ∷ [])))
+
+-- nothing of a dump was written
+pub nothing_of_dump : (a : Option (List ℕ)) (graph : GraphState) → AppendsLess a a (dump_text graph)
+nothing_of_dump a graph =
+    let after = roots_line (length graph.roots) ∷ (root_lines graph.roots ++ (objects_line (length graph.objects) ∷ (object_lines 0 graph.objects ++ (end_line ∷ [])))) in
+    nothing_of a (dump_text graph) (omega (arith, length-append (spell_dump_line header_line) (flat_map spell_dump_line after)))
 
 -- where a part wasn't written whole, neither was the text
 pub stopped_within : (X Y : Type 0) (stop : Stop) (a b c : Option (List ℕ)) (before text after whole : List ℕ) → whole ≡ before ++ (text ++ after) → Appends a b before → Writes {X = X} text (Err stop) b c → Writes {X = Y} whole (Err stop) a c
-stopped_within X Y stops.Write a b c before text after whole is p q = subst (AppendsLess a c) (sym is) (Appends-less a b c before (text ++ after) p (less-more b c text after q))
-stopped_within X Y stops.OutOfMemory a b c before text after whole is p q = subst (AppendsPrefix a c) (sym is) (prefix_within a b c before text after p q)
+stopped_within X Y stop a b c before text after whole is p q = subst (AppendsLess a c) (sym is) (Appends-less a b c before (text ++ after) p (less-more b c text after q))
 
 -- what stands before the text of one item, and after it
 pub around : {X : Type 0} (f : X → List ℕ) (xs : List X) (i : ℕ) (d : X) (last : List ℕ) → i < length xs → flat_map f xs ++ last ≡ flat_map f (take i xs) ++ (f (get_or xs i d) ++ (flat_map f (drop (i + 1) xs) ++ last))
@@ -39,11 +45,8 @@ stopped_at X Y stop a b c f xs i d lt p q =
     stopped_within X Y stop a b c (flat_map f (take i xs)) (f (get_or xs i d)) (flat_map f (drop (i + 1) xs) ++ []) (flat_map f xs) (sym (append-nil (flat_map f xs)) ∙ around f xs i d [] lt) p q
 
 -- how writing ended, where it is known
-pub write_failed : (X : Type 0) (r : Result X Stop) (stop : Stop) (text : List ℕ) (a b : Option (List ℕ)) → r ≡ Err stop → stop ≡ stops.Write → Writes text r a b → AppendsLess a b text
-write_failed X r stop text a b is kind written = subst (λ (s : Stop). Writes {X = X} text (Err s) a b) kind (subst (λ (q : Result X Stop). Writes text q a b) is written)
-
-pub memory_refused : (X : Type 0) (r : Result X Stop) (stop : Stop) (text : List ℕ) (a b : Option (List ℕ)) → r ≡ Err stop → stop ≡ stops.OutOfMemory → Writes text r a b → AppendsPrefix a b text
-memory_refused X r stop text a b is kind written = subst (λ (s : Stop). Writes {X = X} text (Err s) a b) kind (subst (λ (q : Result X Stop). Writes text q a b) is written)
+pub stopped : (X : Type 0) (r : Result X Stop) (stop : Stop) (text : List ℕ) (a b : Option (List ℕ)) → r ≡ Err stop → Writes text r a b → AppendsLess a b text
+stopped X r stop text a b is written = subst (λ (q : Result X Stop). Writes text q a b) is written
 
 pub ok_no_error : {A E : Type 0} (x : A) (e : E) → ◌≡◌ {A = Result A E} (Ok x) (Err e) → ⊥
 ok_no_error x e same = cc

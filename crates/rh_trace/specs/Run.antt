@@ -28,7 +28,6 @@ use Rattle.rh_trace.specs.declared.line.Asked.TheVariants as asked
 use Rattle.rh_trace.specs.declared.line.Header.{Header}
 use Rattle.rh_trace.specs.declared.line.Line.{Line}
 use Rattle.rh_trace.specs.declared.stop.Stop.{Stop}
-use Rattle.rh_trace.specs.declared.stop.Stop.TheVariants as stops
 use Rattle.rh_trace.specs.declared.summary.Summary.{Summary}
 use Rattle.rh_trace.specs.declared.trays.JoinRefusal.{JoinRefusal}
 use Rattle.rh_trace.specs.Trays.{Trays}
@@ -141,17 +140,25 @@ abbrev pub IsFault : RunFault → Result (List ℕ × Summary) RunFault → Opti
     → Option (List ℕ) → Type 0
 IsFault fault due old new = (due ≡ Err fault) × Keeps old new
 
--- How writing this text ends: all of it is written; a write failed, and a prefix of it is written,
--- and not all; memory was refused, and a prefix of it is written.
+-- How writing this text ends: all of it is written; or a write failed or memory was refused, and a
+-- prefix of it is written, and not all.
 abbrev pub Writes : {X : Type 0} → List ℕ → Result X Stop → Option (List ℕ) → Option (List ℕ)
     → Type 0
 Writes text (Ok x) old new = Appends old new text
-Writes text (Err stops.Write) old new = AppendsLess old new text
-Writes text (Err stops.OutOfMemory) old new = AppendsPrefix old new text
+Writes text (Err stop) old new = AppendsLess old new text
+
+-- of the text that was to be written a prefix is written that ends before the total line; where
+-- there is no such text, nothing is written
+abbrev pub StopsBeforeTotal : Result (List ℕ × Summary) RunFault → Option (List ℕ)
+    → Option (List ℕ) → Type 0
+StopsBeforeTotal (Ok run) old new =
+    (text : List ℕ) × (run.0 ≡ text ++ total_line run.1) × AppendsPrefix old new text
+StopsBeforeTotal (Err fault) old new = Keeps old new
 
 -- How a run ends that was to give this: with its text written; with a fault of the input and
 -- nothing written; where a read failed with nothing written; where a write failed with a prefix of
--- its text written, and not all; where memory was refused with a prefix of its text written.
+-- its text written, and not all; where memory was refused with a prefix of its answers written and
+-- nothing of the total line, or, if the input has a fault, with nothing written.
 abbrev pub Ends : Result (List ℕ × Summary) RunFault → Result Summary RunFault → Option (List ℕ)
     → Option (List ℕ) → Type 0
 Ends due (Ok summary) old new = (due ≡ Ok (text_of due, summary)) × Appends old new (text_of due)
@@ -160,7 +167,7 @@ Ends due (Err (faults.Trace fault)) old new = IsFault (faults.Trace fault) due o
 Ends due (Err (faults.New fault)) old new = IsFault (faults.New fault) due old new
 Ends due (Err faults.Read) old new = Keeps old new
 Ends due (Err faults.Write) old new = AppendsLess old new (text_of due)
-Ends due (Err faults.OutOfMemory) old new = AppendsPrefix old new (text_of due)
+Ends due (Err faults.OutOfMemory) old new = StopsBeforeTotal due old new
 
 -- What is asked is answered as a plain heap does: a command by its step, or by a limit refusal
 -- where the step is accepted; a dump by that of the plain heap. A plain heap has no cycles and no

@@ -1,4 +1,5 @@
-//! Laws of the definitions alone. Each function does nothing: its contract is the law.
+//! Laws of the definitions alone. Each function does nothing, or lends other laws to its own proof:
+//! its contract is the law.
 
 ghost use Rattle.std.specs.Prelude.{◌≡◌, ℕ, List, Ok, Err};
 ghost use Rattle.rh_text.specs.RawLine.{RawLine, lines_of, raw_text};
@@ -19,8 +20,8 @@ pub mod summaries;
 pub mod trays;
 
 /// The fault that reading names is the one that comes first in the order of the format: it holds on
-/// its line, and any other that holds is on a later line or at a later place of this line. What is
-/// read has no fault, and a line without a fault is the spelling of one that fits.
+/// its line, and any other that holds is on a later line or at a later position of this line. What
+/// is read has no fault, and a line without a fault is the spelling of one that fits.
 pub fn the_first_fault_is_named()
     ensures first { (bytes : List ℕ) (fault : FaultOf) → trace_of bytes ≡ Err fault
         → IsFirst (trace_faults (lines_of bytes)) fault.line fault.kind }

@@ -34,6 +34,7 @@ fn leading_operand(text: &[u8]) -> Option<(Operand, &[u8])>
 }
 
 /// `ROOT FIELDS`, with which the text begins, as the line `OWNER alloc ROOT FIELDS`.
+#[inline(always)]
 fn leading_alloc(owner: u32, text: &[u8]) -> Option<(u32, Command, &[u8])>
     ensures { IfSome result (λ x. BeginsWith (decimal owner ++ 32 ∷ (codes "alloc " ++ text.now))
         x.0 x.1 x.2.now) }
@@ -45,6 +46,7 @@ fn leading_alloc(owner: u32, text: &[u8]) -> Option<(u32, Command, &[u8])>
 }
 
 /// `DST SRC FIELD`, with which the text begins, as the line `OWNER load DST SRC FIELD`.
+#[inline(always)]
 fn leading_load(owner: u32, text: &[u8]) -> Option<(u32, Command, &[u8])>
     ensures { IfSome result (λ x. BeginsWith (decimal owner ++ 32 ∷ (codes "load " ++ text.now))
         x.0 x.1 x.2.now) }
@@ -59,6 +61,7 @@ fn leading_load(owner: u32, text: &[u8]) -> Option<(u32, Command, &[u8])>
 }
 
 /// `OBJ FIELD OPERAND`, with which the text begins, as the line `OWNER store OBJ FIELD OPERAND`.
+#[inline(always)]
 fn leading_store(owner: u32, text: &[u8]) -> Option<(u32, Command, &[u8])>
     ensures { IfSome result (λ x. BeginsWith (decimal owner ++ 32 ∷ (codes "store " ++ text.now))
         x.0 x.1 x.2.now) }
@@ -77,6 +80,7 @@ fn leading_store(owner: u32, text: &[u8]) -> Option<(u32, Command, &[u8])>
 }
 
 /// `DST SRC`, with which the text begins, as the line `OWNER copy DST SRC`.
+#[inline(always)]
 fn leading_copy(owner: u32, text: &[u8]) -> Option<(u32, Command, &[u8])>
     ensures { IfSome result (λ x. BeginsWith (decimal owner ++ 32 ∷ (codes "copy " ++ text.now))
         x.0 x.1 x.2.now) }
@@ -88,6 +92,7 @@ fn leading_copy(owner: u32, text: &[u8]) -> Option<(u32, Command, &[u8])>
 }
 
 /// `A B`, with which the text begins, as the line `OWNER same A B`.
+#[inline(always)]
 fn leading_same(owner: u32, text: &[u8]) -> Option<(u32, Command, &[u8])>
     ensures { IfSome result (λ x. BeginsWith (decimal owner ++ 32 ∷ (codes "same " ++ text.now))
         x.0 x.1 x.2.now) }
@@ -99,6 +104,7 @@ fn leading_same(owner: u32, text: &[u8]) -> Option<(u32, Command, &[u8])>
 }
 
 /// `ROOT`, with which the text begins, as the line `OWNER drop ROOT`.
+#[inline(always)]
 fn leading_drop(owner: u32, text: &[u8]) -> Option<(u32, Command, &[u8])>
     ensures { IfSome result (λ x. BeginsWith (decimal owner ++ 32 ∷ (codes "drop " ++ text.now))
         x.0 x.1 x.2.now) }
@@ -108,6 +114,7 @@ fn leading_drop(owner: u32, text: &[u8]) -> Option<(u32, Command, &[u8])>
 }
 
 /// The command with which the text begins, by its keyword, as an owner's line.
+#[inline(always)]
 fn leading_command(owner: u32, text: &[u8]) -> Option<(u32, Command, &[u8])>
     ensures { IfSome result (λ x. BeginsWith (decimal owner ++ 32 ∷ text.now) x.0 x.1 x.2.now) }
 {
@@ -136,6 +143,7 @@ fn leading_command(owner: u32, text: &[u8]) -> Option<(u32, Command, &[u8])>
 /// left to right, without looking for the line's end or its parts first. It is `None` also for
 /// lines that ask for more, such as one whose number has more than eight digits: `line_or_fault`
 /// reads these.
+#[inline(always)]
 pub fn leading_command_line(number: u32, text: &[u8]) -> Option<(u32, Command, &[u8])>
     ensures { IfSome result (λ x. number ≤ MAX_LINES × CommandFits x.0 x.1
         × (text.now ≡ spell_command x.0 x.1 ++ x.2.now)) }

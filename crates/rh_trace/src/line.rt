@@ -172,6 +172,7 @@ pub enum Asked {
 
 impl Line {
     /// The line of an owner's command.
+    #[inline(always)]
     pub fn of(owner: u32, command: Command) -> Line
         ensures { result ≡ line_of owner command }
     {

@@ -1,7 +1,9 @@
 //! The lines of a trace, run one after the other.
 
 ghost use Rattle.std.specs.Prelude.{◌≡◌, ◌<◌, ◌≤◌, ◌+◌, ◌^◌, length, false, IfOk, IsErrOf, OnOk};
+ghost use Rattle.std.specs.List.{flat_map};
 ghost use Rattle.rh_text.specs.Calls.{AreSpent};
+ghost use Rattle.rh_text.specs.Output.{AppendsLess};
 ghost use Rattle.rh_core.specs.Stat.{stat_of};
 ghost use Rattle.rh_dump.specs.HeapDump.{dump_of};
 ghost use Rattle.rh_dump.specs.Line.{dump_text};
@@ -143,9 +145,10 @@ fn put_numbers<A: Allocator + Copy>(heap: &Heap<A>, text: &mut LineText)
     put_stat(text, &heap.stat());
 }
 
-/// Runs a line of any sort, as `play_line` does.
-#[inline(never)]
-fn play_any<A: Allocator + Copy, W: io::Write>(
+/// Runs a line, counts it where it is a command or a flip that was done, and writes what is
+/// answered.
+#[inline(always)]
+fn play_line<A: Allocator + Copy, W: io::Write>(
     alloc: A,
     engine: &mut Engine<A>,
     line: &Line,
@@ -183,38 +186,6 @@ fn play_any<A: Allocator + Copy, W: io::Write>(
     write_line(text, writer, writes)
 }
 
-/// Runs a line, counts it where it is a command or a flip that was done, and writes what is
-/// answered. Most lines are commands, so these are looked for first.
-fn play_line<A: Allocator + Copy, W: io::Write>(
-    alloc: A,
-    engine: &mut Engine<A>,
-    line: &Line,
-    text: &mut LineText,
-    summary: &mut Summary,
-    writer: &mut W,
-    writes: &mut Calls,
-) -> Result<(), Stop>
-    requires none_failed { writes.old.failed ≡ false }
-    requires few_commands { summary.old.commands < 2 ^ 63 }
-    requires few_refused { summary.old.refused < 2 ^ 63 }
-    requires few_flips { summary.old.flips < 2 ^ 63 }
-    requires few_root_words { summary.old.root_words < 2 ^ 127 }
-    ensures state { OnOk result (engine.new ≡ (line_step engine.old line.now).0) }
-    ensures summary { OnOk result (summary.new
-        ≡ summary_with summary.old (line_step engine.old line.now).1) }
-    ensures few_roots { summary.new.root_words ≤ summary.old.root_words + 2 ^ 32 }
-    ensures written { Writes (answered_text (line_step engine.old line.now).1) result
-        (W.contents writer.old) (W.contents writer.new) }
-    ensures failed { IsErrOf result Stop.Write → AreSpent writes.new }
-    ensures none_failed { ¬ IsErrOf result Stop.Write → writes.new.failed ≡ false }
-{
-    if let Asked::Command { owner, command } = line.asks() {
-        answer_command(engine, owner, &command, text, summary);
-        return write_line(text, writer, writes);
-    }
-    play_any(alloc, engine, line, text, summary, writer, writes)
-}
-
 /// Runs all lines, and writes what is answered to each and the total line.
 pub(crate) fn play<A: Allocator + Copy, W: io::Write>(
     alloc: A,
@@ -227,6 +198,10 @@ pub(crate) fn play<A: Allocator + Copy, W: io::Write>(
     ensures summary { IfOk result (λ s. s ≡ summary_of (answers_to engine.old lines.now)) }
     ensures written { Writes (output_of (answers_to engine.old lines.now)) result
         (W.contents writer.old) (W.contents writer.new) }
+    // Where memory was refused, nothing of the total line was written.
+    ensures before_total { IsErrOf result Stop.OutOfMemory
+        → AppendsLess (W.contents writer.old) (W.contents writer.new)
+        (flat_map answered_text (answers_to engine.old lines.now)) }
     ensures failed { IsErrOf result Stop.Write → AreSpent writes.new }
     ensures none_failed { ¬ IsErrOf result Stop.Write → writes.new.failed ≡ false }
 {

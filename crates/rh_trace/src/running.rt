@@ -1,13 +1,14 @@
 //! A trace run on a new heap.
 
-ghost use Rattle.std.specs.Prelude.{◌≡◌, List, ℕ, false, IfOk, IsErrOf, IfSome, None, Ok};
-ghost use Rattle.std.specs.Io.KnownBytes.{Appends, Consumes};
+ghost use Rattle.std.specs.Prelude.{◌≡◌, ◌⊎◌, List, ℕ, false, IfOk, IsErrOf, IfSome, None, Ok};
+ghost use Rattle.std.specs.List.{flat_map};
+ghost use Rattle.std.specs.Io.KnownBytes.{Appends, Consumes, Keeps};
 ghost use Rattle.rh_core.specs.Config.{fault_of};
 ghost use Rattle.rh_core.specs.Cycle.{IsWellFormed};
 ghost use Rattle.rh_core.specs.Heap.{new_heap};
 ghost use Rattle.rh_text.specs.Calls.{AreSpent};
-ghost use Rattle.rh_text.specs.Output.{AppendsLess};
-ghost use Rattle.rh_trace.specs.Answers.{Answered};
+ghost use Rattle.rh_text.specs.Output.{AppendsPrefix, AppendsLess};
+ghost use Rattle.rh_trace.specs.Answers.{Answered, answered_text};
 ghost use Rattle.rh_trace.specs.Reading.{trace_of};
 ghost use Rattle.rh_trace.specs.Spelling.{Script};
 ghost use Rattle.rh_trace.specs.Run.{config_of, summary_of, output_of, run_of_trace, run_of};
@@ -57,10 +58,13 @@ fn run_input<A: Allocator + Copy, W: io::Write>(
     requires { writes.old.failed ≡ false }
     ensures ends { Ends (run_of_trace (trace_of input.now)) result (W.contents writer.old)
         (W.contents writer.new) }
-    // The heap that the trace began with was well formed.
-    ensures begun { ¬ IsErrOf result RunFault.OutOfMemory → (script : Script)
-        → trace_of input.now ≡ Ok script → fault_of (config_of script.header) ≡ None
-        → IsWellFormed (new_heap (config_of script.header)) }
+    // The heap that the trace began with was well formed, unless memory was refused before it was
+    // made; then nothing was written.
+    ensures begun { (IsErrOf result RunFault.OutOfMemory
+        × Keeps (W.contents writer.old) (W.contents writer.new))
+        ⊎ ((script : Script) → trace_of input.now ≡ Ok script
+        → fault_of (config_of script.header) ≡ None
+        → IsWellFormed (new_heap (config_of script.header))) }
     ensures never_read { ¬ IsErrOf result RunFault.Read }
     ensures failed { IsErrOf result RunFault.Write → AreSpent writes.new }
     ensures none_failed { ¬ IsErrOf result RunFault.Write → writes.new.failed ≡ false }
@@ -97,7 +101,9 @@ fn run_input<A: Allocator + Copy, W: io::Write>(
 /// Of the faults of an input the first is answered: `Long`, then `Trace`, then `New`. `Read` comes
 /// where a read failed or was one too many, `Write` where a write failed or 33,554,432 writes of
 /// one line didn't come to its end, `OutOfMemory` where the allocator refused memory, also at a
-/// deal, a join or a dump. `run_trace_told` says of Read and Write that they come nowhere else.
+/// deal, a join or a dump. After `Write` a prefix of the text may be written, and not all of it;
+/// after `OutOfMemory` a prefix of the answers, and nothing of the total line. `run_trace_told` says
+/// of Read and Write that they come nowhere else.
 pub fn run_trace<A: Allocator + Copy, R: io::Read, W: io::Write>(
     alloc: A,
     reader: &mut R,
@@ -123,6 +129,15 @@ pub fn run_trace<A: Allocator + Copy, R: io::Read, W: io::Write>(
         × (answers : List Answered)
         × IsPlainRun script answers (R.remaining reader.old) (R.remaining reader.new)
         × AppendsLess (W.contents writer.old) (W.contents writer.new) (output_of answers) }
+    // The same where memory was refused, unless nothing was written: then nothing is said of the
+    // trace, which may not have been read.
+    ensures plain_memory { IsErrOf result RunFault.OutOfMemory
+        → Keeps (W.contents writer.old) (W.contents writer.new)
+        ⊎ ((script : Script)
+        × (answers : List Answered)
+        × IsPlainRun script answers (R.remaining reader.old) (R.remaining reader.new)
+        × AppendsPrefix (W.contents writer.old) (W.contents writer.new)
+        (flat_map answered_text answers)) }
 {
     run_trace_told(alloc, reader, &mut Calls::new(), writer, &mut Calls::new())
 }
@@ -157,6 +172,13 @@ pub fn run_trace_told<A: Allocator + Copy, R: io::Read, W: io::Write>(
         × (answers : List Answered)
         × IsPlainRun script answers (R.remaining reader.old) (R.remaining reader.new)
         × AppendsLess (W.contents writer.old) (W.contents writer.new) (output_of answers) }
+    ensures plain_memory { IsErrOf result RunFault.OutOfMemory
+        → Keeps (W.contents writer.old) (W.contents writer.new)
+        ⊎ ((script : Script)
+        × (answers : List Answered)
+        × IsPlainRun script answers (R.remaining reader.old) (R.remaining reader.new)
+        × AppendsPrefix (W.contents writer.old) (W.contents writer.new)
+        (flat_map answered_text answers)) }
     // Read is answered only where a read failed or none was left, and no read failed where it
     // isn't.
     ensures read_failed { IsErrOf result RunFault.Read → AreSpent reads.new }

@@ -1,6 +1,6 @@
 //! Trays: partial replicas with names, in the order in which the names were first used.
 
-ghost use Rattle.std.specs.Prelude.{◌≡◌, [], length, slice_get, OnOk, OnErr, IfOk};
+ghost use Rattle.std.specs.Prelude.{◌≡◌, [], length, slice_get, OnOk, OnErr, IfOk, IsOk};
 ghost use Rattle.std.specs.Option.{option_map};
 ghost use Rattle.rh_trace.specs.Trays.{tray_named, trays_with, tray_or_empty, tray_of};
 ghost use Rattle.rh_trace.specs.Trays.{tray_with, joined_trays, joined_into};
@@ -13,6 +13,7 @@ use rh_partial::{PartialReplica, Piece};
 use std::alloc::Allocator;
 use std::hash::{BuildHasherDefault, FoldHasher};
 use std::marker::Model;
+use std::mem;
 use thiserror::Error;
 
 /// The most trays of a trace.
@@ -85,10 +86,7 @@ impl<A: Allocator + Copy> Trays<A> {
     pub fn is_beyond(&self, name: TrayName) -> bool
         ensures { result ≡ is_beyond_in self.now name }
     {
-        match self.get(name) {
-            Some(_) => false,
-            None => self.len() >= MAX_TRAYS,
-        }
+        self.len() >= MAX_TRAYS && self.get(name).is_none()
     }
 
     /// The tray of this name takes a replica in place of what it had. Nothing has changed where a
@@ -103,16 +101,6 @@ impl<A: Allocator + Copy> Trays<A> {
         }
     }
 
-    /// A copy of the replica in the tray of this name, or an empty one of this epoch.
-    fn copy_or_empty(&self, name: TrayName, epoch: u64) -> Result<PartialReplica<A>, OutOfMemory>
-        ensures { IfOk result (λ r. tray_of r ≡ tray_or_empty self.now name epoch) }
-    {
-        match self.get(name) {
-            Some(replica) => copied(replica),
-            None => Ok(PartialReplica::empty(self.alloc, epoch)),
-        }
-    }
-
     /// Folds a piece into the tray of this name, which is made where it isn't there, and must else
     /// be of the piece's epoch. Nothing has changed where a growth was refused.
     pub(crate) fn fold_in(&mut self, name: TrayName, piece: &Piece) -> Result<(), OutOfMemory>
@@ -121,9 +109,14 @@ impl<A: Allocator + Copy> Trays<A> {
             (tray_with (tray_or_empty self.old name piece.now.epoch) piece.now.items)) }
         ensures unchanged { OnErr result (self.new ≡ self.old) }
     {
-        let replica = self.copy_or_empty(name, piece.epoch())?;
-        let more = taken(replica, piece)?;
-        self.put(name, more)
+        match self.replicas.get_mut(&name) {
+            Some(replica) => fold_into(replica, self.alloc, piece),
+            None => {
+                let mut replica = PartialReplica::empty(self.alloc, piece.epoch());
+                fold_into(&mut replica, self.alloc, piece)?;
+                self.put(name, replica)
+            }
+        }
     }
 
     /// Joins the second tray into the first, which becomes a copy of it where it isn't there.
@@ -141,6 +134,7 @@ impl<A: Allocator + Copy> Trays<A> {
     ) -> Result<Result<u64, JoinRefusal>, OutOfMemory>
         ensures state { OnOk result (self.new ≡ (join_step self.old into other).0) }
         ensures answer { IfOk result (λ answer. answer ≡ (join_step self.old into other).1) }
+        ensures accepted { OnErr result (IsOk (join_step self.old into other).1) }
         ensures unchanged { OnErr result (self.new ≡ self.old) }
     {
         let Some(second) = self.get(other) else {
@@ -162,62 +156,73 @@ impl<A: Allocator + Copy> Trays<A> {
             ≡ length (joined_into (tray_named self.old into) (tray_of second)).entries) }
         ensures unchanged { OnErr result (self.new ≡ self.old) }
     {
-        let both = self.joined_with(into, second)?;
-        let entries = both.len() as u64;
-        self.put(into, both)?;
-        Ok(entries)
-    }
-
-    /// What the tray of this name becomes with which a replica is joined.
-    fn joined_with(
-        &self,
-        into: TrayName,
-        second: PartialReplica<A>,
-    ) -> Result<PartialReplica<A>, OutOfMemory>
-        ensures { IfOk result (λ both.
-            tray_of both ≡ joined_into (tray_named self.now into) (tray_of second)) }
-    {
-        match self.get(into) {
-            Some(first) => joined(copied(first)?, second),
-            None => Ok(second),
+        match self.replicas.get_mut(&into) {
+            Some(first) => join_into(first, self.alloc, second),
+            None => {
+                let entries = second.len() as u64;
+                self.put(into, second)?;
+                Ok(entries)
+            }
         }
     }
 }
 
-/// A replica with the items of a piece of its epoch.
-fn taken<A: Allocator + Copy>(
-    replica: PartialReplica<A>,
+/// Folds a piece into a replica of its epoch. Its entries are what they were where a growth was
+/// refused.
+fn fold_into<A: Allocator + Copy>(
+    replica: &mut PartialReplica<A>,
+    alloc: A,
     piece: &Piece,
-) -> Result<PartialReplica<A>, OutOfMemory>
-    requires { replica.epoch ≡ piece.now.epoch }
-    ensures { IfOk result (λ more. tray_of more ≡ tray_with (tray_of replica) piece.now.items) }
+) -> Result<(), OutOfMemory>
+    requires { replica.old.epoch ≡ piece.now.epoch }
+    ensures folded { OnOk result
+        (tray_of replica.new ≡ tray_with (tray_of replica.old) piece.now.items) }
+    ensures unchanged { OnErr result (tray_of replica.new ≡ tray_of replica.old) }
 {
-    // What the order of the entries is, from which the clause follows.
-    let _ = replica.len();
-    match replica.take(piece) {
+    let whole = mem::replace(replica, PartialReplica::empty(alloc, piece.epoch()));
+    // What the order of the entries is, here and below, from which the clauses follow.
+    let _ = whole.len();
+    match whole.take(piece) {
         Ok(more) => {
             let _ = more.len();
-            Ok(more)
+            *replica = more;
+            Ok(())
         }
-        Err(_) => Err(OutOfMemory),
+        Err(refused) => {
+            let _ = refused.back.len();
+            *replica = refused.back;
+            Err(OutOfMemory)
+        }
     }
 }
 
-/// Two replicas joined.
-fn joined<A: Allocator + Copy>(
-    first: PartialReplica<A>,
+/// Joins a second replica into a first. Answers how many entries that has then. They are what they
+/// were where a growth was refused.
+fn join_into<A: Allocator + Copy>(
+    first: &mut PartialReplica<A>,
+    alloc: A,
     second: PartialReplica<A>,
-) -> Result<PartialReplica<A>, OutOfMemory>
-    ensures { IfOk result (λ both. tray_of both ≡ joined_trays (tray_of first) (tray_of second)) }
+) -> Result<u64, OutOfMemory>
+    ensures joined { OnOk result
+        (tray_of first.new ≡ joined_trays (tray_of first.old) (tray_of second)) }
+    ensures answer { IfOk result (λ entries.
+        entries ≡ length (joined_trays (tray_of first.old) (tray_of second)).entries) }
+    ensures unchanged { OnErr result (tray_of first.new ≡ tray_of first.old) }
 {
-    // What the order of the entries is, from which the clause follows.
-    let _ = (first.len(), second.len());
-    match first.join(second) {
+    let whole = mem::replace(first, PartialReplica::empty(alloc, 0));
+    // What the order of the entries is, here and below, from which the clauses follow.
+    let _ = (whole.len(), second.len());
+    match whole.join(second) {
         Ok(both) => {
-            let _ = both.len();
-            Ok(both)
+            let entries = both.len() as u64;
+            *first = both;
+            Ok(entries)
         }
-        Err(_) => Err(OutOfMemory),
+        Err(unjoined) => {
+            let _ = unjoined.left.len();
+            *first = unjoined.left;
+            Err(OutOfMemory)
+        }
     }
 }
 

@@ -18,7 +18,7 @@ ghost use Rattle.rh_trace.specs.declared.trays.JoinRefusal.{JoinRefusal};
 ghost use Rattle.rh_core.specs.declared.outcomes.Given.{Given as GivenOf};
 ghost use Rattle.rh_trace.specs.TrayName.{tray_name_of, IsTrayName};
 ghost use Rattle.rh_trace.specs.Trays.{Trays as TraysOf, Tray, tray_named, trays_with};
-ghost use Rattle.rh_trace.specs.Trays.{entries_with_all, IsJoinedInto};
+ghost use Rattle.rh_trace.specs.Trays.{entries_with_all, replica_of, tray_of, IsJoinedInto};
 ghost use Rattle.rh_trace.specs.Engine.{EngineState, deal_line_step, refusals_of_deal};
 ghost use Rattle.rh_trace.specs.Engine.{join_line_step, refusals_of_join, give_line_step};
 ghost use Rattle.rh_trace.specs.Engine.{refusals_of_give, IsDealtInto};
@@ -41,7 +41,7 @@ pub fn joined_items_are_the_newest()
 {}
 
 /// A tray that takes a name is the one of that name, and the trays of all other names stay. A name
-/// that is there keeps its place, and a new one goes last.
+/// that is there keeps its position, and a new one goes last.
 pub fn a_tray_takes_its_name_alone()
     ensures there { (trays : TraysOf) (name : List ℕ) (t : Tray)
         → tray_named (trays_with trays name t) name ≡ Some t }
@@ -67,7 +67,9 @@ pub fn deals_into_trays_are_refused_in_order()
 
 /// Where a deal into a tray is accepted, the heap dealt a piece, and the answer counts its items
 /// and the entries that were passed over. The tray of the name is of the piece's epoch, and has at
-/// each place what it had before, joined with the newest of the piece's items, in order of place.
+/// each place what it had before, joined with the newest of the piece's items; its entries stand in
+/// order of place where those of the trays before did, as in every trace they do
+/// ([`the_trays_of_a_trace_stand_in_order`](crate::laws::runs::the_trays_of_a_trace_stand_in_order)).
 /// All other trays stay, and the names keep their order; a new one goes last.
 pub fn what_is_dealt_is_in_its_tray()
     ensures { (e : EngineState) (kind : KindOf) (most : ℕ) (name : List ℕ) (done : Counted)
@@ -88,10 +90,10 @@ pub fn joins_of_trays_are_refused_in_order()
 {}
 
 /// Where a join of trays is accepted, the tray of the first name is a copy of the second where
-/// there was none. Else it is, of trays of two epochs, the later one; of one epoch it has at each
-/// place what one had alone, or the newer of what both had, in order of place. The answer is how
-/// many entries it has. All other trays stay, and the names keep their order; a new one goes last.
-/// A join never changes the heap.
+/// there was none. Else it is, of trays of two epochs, the later one; of one epoch, where the
+/// entries of both stand in order of place, it has at each place what one had alone, or the newer of
+/// what both had, in order of place. The answer is how many entries it has. All other trays stay,
+/// and the names keep their order; a new one goes last. A join never changes the heap.
 pub fn what_is_joined_is_in_the_first_tray()
     ensures joined { (e : EngineState) (into other : List ℕ) (entries : ℕ)
         → (join_line_step e into other).1 ≡ Ok entries
@@ -101,7 +103,8 @@ pub fn what_is_joined_is_in_the_first_tray()
 {}
 
 /// A give of a tray is refused by the first of its refusals that holds; where there is no such tray
-/// nothing changes, and the trays never do. Where something is given none of them holds.
+/// nothing changes, and the trays never do. Where something is given none of them holds. The
+/// replica that is given has the tray's epoch and all of its entries.
 pub fn gives_of_trays_are_refused_in_order()
     ensures refused { (e : EngineState) (name : List ℕ) (why : GiveRefusal)
         → (give_line_step e name).1 ≡ Err why → IsLeast (refusals_of_give e name) why }
@@ -111,4 +114,5 @@ pub fn gives_of_trays_are_refused_in_order()
         → (give_line_step e name).0 ≡ e }
     ensures trays { (e : EngineState) (name : List ℕ)
         → (give_line_step e name).0.trays ≡ e.trays }
+    ensures whole { (t : Tray) → tray_of (replica_of t) ≡ t }
 {}

@@ -10,7 +10,7 @@ use Rattle.rh_trace.specs.declared.summary.Summary.{Summary}
 use Rattle.rh_text.specs.Output.{AppendsLess}
 use Rattle.rh_text.specs.lemmas.Appends.{sent_next, Appends-less, Appends-then, Appends-at}
 use Rattle.rh_trace.proofs.AnswersInTurn.{length-answers_to, answers_next, summary_more, bit_le}
-use Rattle.rh_trace.proofs.WrittenInTurn.{stopped_within, around, ok_no_error}
+use Rattle.rh_trace.proofs.WrittenInTurn.{stopped_within, stopped_at, around, ok_no_error}
 use Rattle.rh_trace.proofs.playing.play.Goals as goal
 
 pub loop-line-preserved : goal.loop-line-preserved
@@ -56,7 +56,7 @@ returns-in_err-play_line-clause-written g c =
     let next = answers_next all c.loop-line.engine lines i c.line-item.result d c.line-item.is c.loop-line-test.true len c.loop-line.invariant.rest in
     let stop = c.in_err-play_line.field-0.0 in
     let written = subst (λ a. Writes {X = Unit {0}} (answered_text a) (Err stop) (known c.loop-line.writer) (known c.play_line.new.writer)) (sym next.answer) c.in_err-play_line.ensures.written in
-    rw (p.1, p.2) (stopped_within (Unit {0}) Summary stop (known c.args.writer.now) (known c.loop-line.writer) (known c.play_line.new.writer) (flat_map answered_text (take i all)) (answered_text (get_or all i d)) (flat_map answered_text (drop (i + 1) all) ++ total_line (summary_of all)) (output_of all) (around answered_text all i d (total_line (summary_of all)) lt) c.loop-line.invariant.sent written)
+    rw p.1 (stopped_within (Unit {0}) Summary stop (known c.args.writer.now) (known c.loop-line.writer) (known c.play_line.new.writer) (flat_map answered_text (take i all)) (answered_text (get_or all i d)) (flat_map answered_text (drop (i + 1) all) ++ total_line (summary_of all)) (output_of all) (around answered_text all i d (total_line (summary_of all)) lt) c.loop-line.invariant.sent written)
 
 pub returns-in_err-send-clause-written : goal.returns-in_err-send-clause-written
 returns-in_err-send-clause-written g c =
@@ -70,7 +70,7 @@ returns-in_err-send-clause-written g c =
     let total : c.as_bytes.result.now ≡ total_line (summary_of all) = c.as_bytes.ensures ∙ c.put_total.ensures ∙ ap total_line (c.loop-line.invariant.summary ∙ ap summary_of whole) in
     let sent : Appends (known c.args.writer.now) (known c.loop-line.writer) (flat_map answered_text all) = Appends-at (known c.args.writer.now) (known c.loop-line.writer) (flat_map answered_text (take i all)) (flat_map answered_text all) (ap (flat_map answered_text) whole) c.loop-line.invariant.sent in
     let less : AppendsLess (known c.loop-line.writer) (known c.send.new.writer) (total_line (summary_of all)) = subst (AppendsLess (known c.loop-line.writer) (known c.send.new.writer)) total c.in_err-send.ensures.err in
-    rw (p.1, p.2) (Appends-less (known c.args.writer.now) (known c.loop-line.writer) (known c.send.new.writer) (flat_map answered_text all) (total_line (summary_of all)) sent less)
+    rw p.1 (Appends-less (known c.args.writer.now) (known c.loop-line.writer) (known c.send.new.writer) (flat_map answered_text all) (total_line (summary_of all)) sent less)
 
 pub returns-clause-written : goal.returns-clause-written
 returns-clause-written g c =
@@ -84,3 +84,17 @@ returns-clause-written g c =
     let sent : Appends (known c.args.writer.now) (known c.loop-line.writer) (flat_map answered_text all) = Appends-at (known c.args.writer.now) (known c.loop-line.writer) (flat_map answered_text (take i all)) (flat_map answered_text all) (ap (flat_map answered_text) whole) c.loop-line.invariant.sent in
     let last : Appends (known c.loop-line.writer) (known c.send.new.writer) (total_line (summary_of all)) = Appends-at (known c.loop-line.writer) (known c.send.new.writer) c.as_bytes.result.now (total_line (summary_of all)) total c.in_ok-send.ensures.ok in
     Appends-then (known c.args.writer.now) (known c.loop-line.writer) (known c.send.new.writer) (flat_map answered_text all) (total_line (summary_of all)) sent last
+
+pub returns-in_err-play_line-clause-before_total : goal.returns-in_err-play_line-clause-before_total
+returns-in_err-play_line-clause-before_total g c = λ refused.
+    let known = g.W.Write.contents in
+    let lines = c.args.lines.now in
+    let all = answers_to c.args.engine.now lines in
+    let i = c.loop-line.line-index in
+    let d = Answer (Ok replies.Done) in
+    let len = length-answers_to c.args.engine.now lines in
+    let lt : i < length all = omega (arith, len, c.loop-line-test.true) in
+    let next = answers_next all c.loop-line.engine lines i c.line-item.result d c.line-item.is c.loop-line-test.true len c.loop-line.invariant.rest in
+    let stop = c.in_err-play_line.field-0.0 in
+    let written = subst (λ a. Writes {X = Unit {0}} (answered_text a) (Err stop) (known c.loop-line.writer) (known c.play_line.new.writer)) (sym next.answer) c.in_err-play_line.ensures.written in
+    stopped_at (Unit {0}) Summary stop (known c.args.writer.now) (known c.loop-line.writer) (known c.play_line.new.writer) answered_text all i d lt c.loop-line.invariant.sent written

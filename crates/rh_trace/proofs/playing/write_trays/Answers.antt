@@ -25,7 +25,7 @@ returns-in_err-write_line-clause-written g c =
     let here : with_line_end c.put_tray.new.text ≡ line_of t = ap with_line_end c.put_tray.ensures.value in
     let line : with_line_end c.put_tray.new.text ≡ line_of (get_or c.args.trays.now i t) = here ∙ ap line_of (sym (get_or_from_slice_get c.args.trays.now i t t there)) in
     let stop = c.in_err-write_line.field-0.0 in
-    rw (p.1, p.2) (stopped_at (Unit {0}) (Unit {0}) stop (known c.args.writer.now) (known c.loop-i.writer) (known c.write_line.new.writer) line_of c.args.trays.now i t (slice_get_within c.args.trays.now i t there) c.loop-i.invariant.sent (subst (λ text. Writes {X = Unit {0}} text (Err stop) (known c.loop-i.writer) (known c.write_line.new.writer)) line c.in_err-write_line.ensures.written))
+    rw p.1 (stopped_at (Unit {0}) (Unit {0}) stop (known c.args.writer.now) (known c.loop-i.writer) (known c.write_line.new.writer) line_of c.args.trays.now i t (slice_get_within c.args.trays.now i t there) c.loop-i.invariant.sent (subst (λ text. Writes {X = Unit {0}} text (Err stop) (known c.loop-i.writer) (known c.write_line.new.writer)) line c.in_err-write_line.ensures.written))
 
 pub loop-i-preserved : goal.loop-i-preserved
 loop-i-preserved g c = elim c.match-tray.branch [
