@@ -4,7 +4,8 @@ use Rattle.std.specs.Io.KnownBytes.{Keeps, Appends}
 use Rattle.rh_trace.specs.declared.summary.Summary.{Summary}
 use Rattle.rh_trace.specs.declared.run_fault.RunFault.{RunFault}
 use Rattle.rh_trace.specs.declared.run_fault.RunFault.TheVariants as faults
-use Rattle.rh_trace.specs.Run.{Ends, text_of, run_of}
+use Rattle.rh_text.specs.Output.{AppendsLess}
+use Rattle.rh_trace.specs.Run.{StopsBeforeTotal, Ends, text_of, run_of}
 use Rattle.rh_cli.specs.Drive.{ConcludesRun, IsRunStatus}
 
 Keeps-kept : (old mid new : Option (List ℕ)) → Keeps old mid → Keeps mid new → Keeps old new
@@ -19,6 +20,14 @@ Appends-kept (Some xs) None new bytes a l = absurd a
 Appends-kept (Some xs) (Some ys) None bytes a l = absurd l
 Appends-kept (Some xs) (Some ys) (Some zs) bytes a l = l ∙ a
 
+-- so does what was written of a text, and not all
+AppendsLess-kept : (old mid new : Option (List ℕ)) (text : List ℕ) → AppendsLess old mid text → Keeps mid new → AppendsLess old new text
+AppendsLess-kept old mid new text e k = (e.0, e.1, e.2, e.3, Appends-kept old mid new e.0 e.4 k)
+
+StopsBeforeTotal-kept : (due : Result (List ℕ × Summary) RunFault) (old mid new : Option (List ℕ)) → StopsBeforeTotal due old mid → Keeps mid new → StopsBeforeTotal due old new
+StopsBeforeTotal-kept (Ok run) old mid new e k = (e.0, e.1, (e.2.0, e.2.1, e.2.2, Appends-kept old mid new e.2.0 e.2.3 k))
+StopsBeforeTotal-kept (Err fault) old mid new e k = Keeps-kept old mid new e k
+
 -- a run that ended in some way has ended so after a flush too
 pub Ends-flushed : (due : Result (List ℕ × Summary) RunFault) (r : Result Summary RunFault) (old mid new : Option (List ℕ)) → Ends due r old mid → Keeps mid new → Ends due r old new
 Ends-flushed due (Ok summary) old mid new e k = (e.0, Appends-kept old mid new (text_of due) e.1 k)
@@ -26,8 +35,8 @@ Ends-flushed due (Err faults.Long) old mid new e k = (e.0, Keeps-kept old mid ne
 Ends-flushed due (Err (faults.Trace fault)) old mid new e k = (e.0, Keeps-kept old mid new e.1 k)
 Ends-flushed due (Err (faults.New fault)) old mid new e k = (e.0, Keeps-kept old mid new e.1 k)
 Ends-flushed due (Err faults.Read) old mid new e k = Keeps-kept old mid new e k
-Ends-flushed due (Err faults.Write) old mid new e k = (e.0, e.1, e.2, e.3, Appends-kept old mid new e.0 e.4 k)
-Ends-flushed due (Err faults.OutOfMemory) old mid new e k = (e.0, e.1, e.2, Appends-kept old mid new e.0 e.3 k)
+Ends-flushed due (Err faults.Write) old mid new e k = AppendsLess-kept old mid new (text_of due) e k
+Ends-flushed due (Err faults.OutOfMemory) old mid new e k = StopsBeforeTotal-kept due old mid new e k
 
 -- how a run ended, for a reader that tells its bytes, is how it concludes after a flush
 pub ConcludesRun-told : (known : Option (List ℕ)) (r : Result Summary RunFault) (status : ℕ) (old mid new : Option (List ℕ)) → IfSome known (λ input. Ends (run_of input) r old mid) → Keeps mid new → IsRunStatus r status → IfSome known (λ input. ConcludesRun (run_of input) status old new)

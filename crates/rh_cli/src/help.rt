@@ -76,7 +76,8 @@ right:
   Number    a part isn't the number, the root or the value that it should be
   Order     a root isn't above the one before, an object's number isn't the next, or a reference is
             more than one above all before it
-  Count     objects are missing, or an object wasn't met before its line
+  Count     N is below the number of objects that the roots refer to, an object wasn't met before
+            its line, or a reference is to a number that isn't below N
 
 Statuses:
   0  done
