@@ -1,24 +1,21 @@
 -- The fault that reading finds comes first in the order of the format.
-use Rattle.std.proofs.Common.{◌≡◌, ℕ, ℤ, pos, negsuc, suc, ◌+◌, ◌^◌, ◌<◌, ◌≤◌, ◌⊎◌, Bool, true, false, cond, ltb, eqb, not, ◌||◌, ◌&&◌, List, [], ◌∷◌, ◌++◌, length, Option, Some, None, Result, Ok, Err, refl, sym, ap, subst, ◌∙◌, arith, inl, inr}
+use Rattle.std.proofs.Common.{◌≡◌, ℕ, ℤ, ◌+◌, ◌^◌, ◌<◌, ◌≤◌, Bool, true, false, cond, ltb, eqb, not, List, [], ◌∷◌, length, Option, Some, None, Result, Ok, Err, refl, sym, ap, subst, ◌∙◌, arith, inl, inr}
 use Rattle.std.specs.Bool.{Decides}
 use Rattle.std.specs.Prelude.{codes, decimal, map, ⊤}
 use Rattle.std.specs.Fmt.{signed_decimal}
-use Rattle.std.specs.List.{AllByRecursion, join_with_byte}
+use Rattle.std.specs.List.{AllByRecursion}
 use Rattle.std.specs.Str.{bytes_eq}
 use Rattle.std.proofs.lemmas.Fmt.{decimal_injective}
-use Rattle.std.proofs.lemmas.Bool.{false≢true, ltb-true, ltb-false, lt-ltb, eqb-true, eq-eqb}
-use Rattle.std.proofs.lemmas.Bool.Decides.{Decides-or, Decides-ltb, Decides-not, Decides-eqb}
+use Rattle.std.proofs.lemmas.Bool.{false≢true, ltb-true, ltb-false, eqb-true, eq-eqb}
+use Rattle.std.proofs.lemmas.Bool.Decides.{Decides-ltb}
 use Rattle.std.proofs.lemmas.Slice.Eq.{bytes_eq-Decides}
 use Rattle.rh_layout.specs.declared.value.Value.{Value}
 use Rattle.rh_layout.specs.declared.value.Value.TheVariants.{Nil, Int, Ref}
 use Rattle.rh_layout.specs.declared.command.RootId.{RootId}
-use Rattle.rh_layout.specs.Word.{IsWhole}
-use Rattle.rh_text.specs.Number.{number_of}
 use Rattle.rh_text.specs.Parts.{parts_of, is_formed, two_parts, IsFormedLine}
 use Rattle.rh_text.specs.RawLine.{RawLine, lines_of, raw_text}
-use Rattle.rh_text.specs.Root.{root_of, root_text}
-use Rattle.rh_text.specs.Stages.{◌when◌, no_fault, ◌▸◌, IsFirst, IsLeast}
-use Rattle.rh_text.specs.Steps.{◌>>=◌, or_fault, with_fault}
+use Rattle.rh_text.specs.Stages.{◌when◌, no_fault, ◌▸◌, IsFirst}
+use Rattle.rh_text.specs.Steps.{◌>>=◌, or_fault}
 use Rattle.rh_text.specs.lemmas.Cuts.{some_is}
 use Rattle.rh_text.specs.lemmas.Formed.{is_formed-Decides, not_ended}
 use Rattle.rh_text.specs.lemmas.Numbers.{number_of-decimal}
@@ -30,11 +27,11 @@ use Rattle.rh_dump.specs.declared.due.Due.TheVariants as dues
 use Rattle.rh_dump.specs.declared.fault.DumpKind.{DumpKind}
 use Rattle.rh_dump.specs.declared.fault.DumpKind.TheVariants.{Long, End, Header, Trailing, Form, Number, Order, Count}
 use Rattle.rh_dump.specs.declared.fault.DumpFault.{DumpFault}
-use Rattle.rh_dump.specs.Dump.{GraphState, met_with, met_after, IsTold, IsRootBefore, IsRootAfter, IsGraph}
+use Rattle.rh_dump.specs.Dump.{GraphState, met_with, met_after, IsTold, IsRootAfter, IsGraph}
 use Rattle.rh_dump.specs.Faults.{met_with_reference, number_or_none, met_with_part, met_with_parts, due_after_parts, IsNumberUpTo, IsWholePart, IsRootPart, RefersTo, BeginsWithAt, value_faults, values_faults, count_faults, root_faults, object_faults, due_faults, line_faults, end_faults, faults_from, dump_faults}
 use Rattle.rh_dump.specs.Line.{DumpLine, header_line, roots_line, root_line, objects_line, object_line, end_line, value_text, dump_line_parts, root_due, object_due, due_after, dump_text}
-use Rattle.rh_dump.specs.Part.{number_up_to, whole_of, small_root_of, after_at, object_head, reference_of}
-use Rattle.rh_dump.specs.Reading.{formed_parts, part_after, number_or_fault, roots_of_parts, objects_of_parts, reference_or_fault, whole_or_fault, reference_or_whole, value_or_fault, values_or_fault, is_root_before, is_root_after, root_or_fault, root_of_parts, own_number, fields_or_fault, object_of_parts, line_due, line_or_kind, fault_at, end_or_fault, lines_from, graph_of, graph_within, graph_of_text}
+use Rattle.rh_dump.specs.Part.{number_up_to, whole_of, small_root_of, after_at, object_head}
+use Rattle.rh_dump.specs.Reading.{formed_parts, part_after, number_or_fault, roots_of_parts, objects_of_parts, reference_or_fault, whole_or_fault, reference_or_whole, value_or_fault, values_or_fault, is_root_after, root_or_fault, root_of_parts, own_number, fields_or_fault, object_of_parts, line_due, line_or_kind, fault_at, end_or_fault, lines_from, graph_of, graph_within, graph_of_text}
 use Rattle.rh_dump.proofs.PartMeans.{number_up_to-means, whole_of-means, small_root_of-means, after_at-means, reference_of-plain, reference_of-at, object_head-at, object_head-plain, object_head-one}
 use Rattle.rh_dump.proofs.SpelledIsRead.{number_up_to-decimal, whole_of-decimal, small_root_of-text, plain_integer, is_after_true, met_there, met_after_grows}
 use Rattle.rh_dump.specs.Putting.{IsDue}

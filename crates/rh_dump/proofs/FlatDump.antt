@@ -1,28 +1,25 @@
 -- What is stored once all objects were looked at is the dump, and every dump of a heap is a graph.
-use Rattle.std.specs.Prelude.{◌≡◌, ◌≢◌, ◌⊎◌, ◌<◌, ◌≤◌, ◌+◌, ◌-◌, ◌*◌, ℕ, zero, suc, ⊤, IsTrue, IsSome, Bool, true, false, nat_lt, if◌then◌else◌, List, [], ◌∷◌, ◌++◌, map, length, take, drop, slice_get, Option, Some, None}
+use Rattle.std.specs.Prelude.{◌≡◌, ◌≢◌, ◌⊎◌, ◌<◌, ◌≤◌, ◌+◌, ◌-◌, ℕ, zero, suc, IsSome, List, [], ◌∷◌, ◌++◌, map, length, take, drop, slice_get, Option, Some, None}
 use Rattle.std.specs.List.{flat_map, AllByRecursion}
 use Rattle.std.proofs.Common.{refl, sym, ap, subst, ◌∙◌, arith, inl, inr, append_assoc}
-use Rattle.std.proofs.lemmas.Option.{none-some, same_Some, slice_get_within, slice_get_past, slice_get-get_or}
+use Rattle.std.proofs.lemmas.Option.{none-some, same_Some, slice_get-get_or}
 use Rattle.std.proofs.Math.ListN.{get_or, length-map}
-use Rattle.std.proofs.lemmas.Grind.{flat_map-append}
 use Rattle.std.proofs.lemmas.List.{append-nil, length-append, length_push, take-append-drop, map-append}
-use Rattle.std.proofs.lemmas.Bool.{cases_eq, cases_lt}
-use Rattle.rh_layout.specs.Word.{IsWhole}
+use Rattle.std.proofs.lemmas.Bool.{cases_lt}
 use Rattle.rh_layout.specs.declared.value.Value.{Value}
 use Rattle.rh_layout.specs.declared.value.Value.TheVariants.{Nil, Int, Ref}
 use Rattle.rh_layout.specs.declared.command.RootId.{RootId}
-use Rattle.rh_layout.specs.Root.{has_root}
 use Rattle.rh_model.specs.Graph.{Graph, root_value}
 use Rattle.rh_model.specs.Effects.{IsObject}
 use Rattle.rh_model.specs.Reach.{Reached, from_root, from_field}
-use Rattle.rh_dump.specs.Dump.{GraphState, values_of, root_values, met_with, met_after, IsNumberedAfter, AreNumbered, AreMetBefore, IsTold, IsRootTold, IsRootBefore, IsRootAfter, RootsRise, IsObjectTold, IsGraph}
-use Rattle.rh_dump.specs.Graph.{FlatGraph, objects_in, graph_in, IsFilled, total}
+use Rattle.rh_dump.specs.Dump.{GraphState, values_of, root_values, met_after, AreNumbered, AreMetBefore, IsTold, IsRootTold, IsRootBefore, IsRootAfter, RootsRise, IsObjectTold, IsGraph}
+use Rattle.rh_dump.specs.Graph.{objects_in, graph_in, total}
 use Rattle.rh_dump.proofs.ObjectsIn.{length-objects_in}
-use Rattle.rh_dump.specs.Numbering.{filled_root, filled_slots, filled_roots, roots_of, with_value, with_values, values_in, values_at, names_after, number_in, numbered_value, numbered_root, dump_by, dump_below, ReachesObjectsBelow}
+use Rattle.rh_dump.specs.Numbering.{filled_root, filled_slots, filled_roots, roots_of, with_value, values_in, values_at, names_after, numbered_value, numbered_root, dump_by, dump_below, ReachesObjectsBelow}
 use Rattle.rh_dump.specs.Meeting.{met_values, met_roots, counts_after, values_after, flat_after, IsTellable, IsDumpable}
-use Rattle.rh_dump.proofs.Names.{Member, Member-at, place_of_Member, Member-either, IsOnce, HasName, with_values-keeps}
+use Rattle.rh_dump.proofs.Names.{Member, place_of_Member, Member-either, with_values-keeps}
 use Rattle.rh_dump.proofs.RootLists.{root_named, Member-filled_root, entry_of_roots}
-use Rattle.rh_dump.proofs.Numbered.{held_values, Member-map, Member-map_back, IsOnce-names_after, names_after-reached, names_after-more, names_after-few, names_after-held}
+use Rattle.rh_dump.proofs.Numbered.{held_values, Member-map_back, IsOnce-names_after, names_after-more}
 use Rattle.rh_dump.proofs.MetValues.{IsBeginning, met_values-all, met_roots-all, length-met_values, met_after-values, AreNumbered-values, met_after-append, AreNumbered-append}
 
 -- one more count, with so many more values

@@ -1,5 +1,5 @@
 -- Heaps can be dumped, and a heap as the plain heap that it stands for.
-use Rattle.std.specs.Prelude.{◌≡◌, ◌↔◌, ℕ, ◌+◌, ◌^◌, ◌<◌, ◌≤◌, Bool, true, false, IsTrue, IsSome, not, nat_le, ◌&&◌, if◌then◌else◌, List, [], map, length, slice_get, slice_index_or, Option, Some, None}
+use Rattle.std.specs.Prelude.{◌≡◌, ℕ, ◌^◌, ◌<◌, ◌≤◌, Bool, true, false, IsSome, not, nat_le, ◌&&◌, if◌then◌else◌, List, map, length, slice_get, slice_index_or, Option, Some, None}
 use Rattle.std.specs.Option.{option_map}
 use Rattle.std.proofs.Common.{refl, sym, ap, subst, ◌∙◌, arith}
 use Rattle.std.proofs.Math.ListN.{length-map}
@@ -10,15 +10,13 @@ use Rattle.rh_layout.specs.Root.{has_root, root_position}
 use Rattle.rh_layout.specs.declared.value.Value.{Value}
 use Rattle.rh_layout.specs.declared.value.Value.TheVariants.{Nil, Int, Ref}
 use Rattle.rh_layout.specs.declared.command.RootId.{RootId}
-use Rattle.rh_space.specs.Space.{Object, IsSpace, object_at, fields_at, used_words}
+use Rattle.rh_space.specs.Space.{Object, IsSpace, object_at, used_words}
 use Rattle.rh_space.specs.lemmas.Objects.{used_words-object_at, IsObject-object_at, fields_at-is}
 use Rattle.rh_model.specs.Graph.{Graph, root_value}
-use Rattle.rh_model.specs.Effects.{IsObject}
 use Rattle.rh_model.specs.Reach.{Reached}
-use Rattle.rh_model.specs.SameGraph.{AreFieldsRenamed, IsPairing, SameGraph}
+use Rattle.rh_model.specs.SameGraph.{AreFieldsRenamed, IsPairing}
 use Rattle.rh_model.specs.Plain as plain
 use Rattle.rh_model.specs.Plain.{PlainHeap}
-use Rattle.rh_core.specs.declared.config.ConfigFault.{ConfigFault}
 use Rattle.rh_core.specs.declared.config.ConfigFault.TheVariants.{BadSpace, BadRatio, BadRoots, BadLog, BadNumbers}
 use Rattle.rh_core.specs.declared.config.Config.{Config}
 use Rattle.rh_core.specs.Config.{is_within, fault_of}

@@ -1,17 +1,14 @@
 -- An index of names: at each name its number.
-use Rattle.std.specs.Prelude.{◌≡◌, ◌≢◌, ◌⊎◌, ◌<◌, ◌≤◌, ◌+◌, ℕ, zero, suc, List, [], ◌∷◌, ◌++◌, map, length, slice_get, slice_set, Option, Some, None}
-use Rattle.std.proofs.Common.{refl, sym, ap, subst, ◌∙◌, arith, inl, inr}
-use Rattle.std.proofs.Math.ListN.{get_or}
-use Rattle.std.proofs.lemmas.Option.{none-some, same_Some, slice_get_within, slice_get_past, slice_get-get_or}
-use Rattle.std.proofs.lemmas.Bool.{cases_eq, cases_lt}
-use Rattle.rh_layout.specs.declared.value.Value.{Value}
-use Rattle.rh_layout.specs.declared.value.Value.TheVariants.{Nil, Int, Ref}
+use Rattle.std.specs.Prelude.{◌≡◌, ◌≢◌, ◌<◌, ◌≤◌, ℕ, List, [], ◌∷◌, ◌++◌, length, slice_get, slice_set, Some}
+use Rattle.std.proofs.Common.{sym, ap, ◌∙◌, arith, inl, inr}
+use Rattle.std.proofs.lemmas.Option.{same_Some, slice_get_within}
+use Rattle.std.proofs.lemmas.Bool.{cases_eq}
 use Rattle.rh_layout.specs.lemmas.Elements.{slice_get-pushed, slice_get-pushed_other, slice_get-set_same, slice_get-set_other}
 use Rattle.rh_dump.specs.Numbering.{with_name, number_in}
 use Rattle.rh_dump.specs.Graph.{FlatGraph}
 use Rattle.rh_dump.specs.Meeting.{IsIndexOf, NumberingState}
 use Rattle.std.proofs.lemmas.List.{length-set}
-use Rattle.rh_dump.proofs.Names.{IsOnce, HasName, HasName-at, name_cases, with_name-known, with_name-new}
+use Rattle.rh_dump.proofs.Names.{IsOnce, HasName-at, name_cases, with_name-known, with_name-new}
 use Rattle.rh_dump.proofs.Numbered.{length-below}
 use Rattle.rh_dump.proofs.MetValues.{number_in-pushed}
 

@@ -1,10 +1,8 @@
 -- Values numbered as they are met: in the end each reference has its object's number, and all are numbered breadth first.
-use Rattle.std.specs.Prelude.{◌≡◌, ◌≢◌, ◌⊎◌, ◌<◌, ◌≤◌, ◌+◌, ℕ, zero, suc, ⊤, Bool, true, false, nat_lt, if◌then◌else◌, List, [], ◌∷◌, ◌++◌, map, length, take, drop, sum, slice_get, Option, Some, None}
-use Rattle.std.specs.List.{flat_map, AllByRecursion}
-use Rattle.std.proofs.Common.{refl, sym, ap, subst, ◌∙◌, arith, inl, inr}
-use Rattle.std.proofs.lemmas.Option.{none-some, same_Some, slice_get_within, slice_get_past, slice_get-get_or}
-use Rattle.std.proofs.Math.ListN.{get_or, length-map}
-use Rattle.std.proofs.lemmas.Bool.{cases_eq, cases_lt, lt-ltb, le-ltb}
+use Rattle.std.specs.Prelude.{◌≡◌, ◌<◌, ◌≤◌, ◌+◌, ℕ, suc, nat_lt, if◌then◌else◌, List, [], ◌∷◌, ◌++◌, map, length, slice_get, Some}
+use Rattle.std.proofs.Common.{refl, sym, ap, subst, ◌∙◌, arith}
+use Rattle.std.proofs.lemmas.Option.{slice_get_within}
+use Rattle.std.proofs.lemmas.Bool.{lt-ltb, le-ltb}
 use Rattle.std.proofs.lemmas.List.{length_push}
 use Rattle.rh_layout.specs.declared.value.Value.{Value}
 use Rattle.rh_layout.specs.declared.value.Value.TheVariants.{Nil, Int, Ref}
@@ -12,7 +10,7 @@ use Rattle.rh_layout.specs.declared.command.RootId.{RootId}
 use Rattle.rh_dump.specs.Dump.{met_with, met_after, IsNumberedAfter, AreNumbered}
 use Rattle.rh_dump.specs.Numbering.{with_name, with_value, with_values, number_in, numbered_value, numbered_root}
 use Rattle.rh_dump.specs.Meeting.{met_values, met_roots}
-use Rattle.rh_dump.proofs.Names.{by_names, Member, IsOnce, HasName, HasName-at, name_cases, HasName-past, with_name-known, with_name-new, with_name-cases, with_name-has, with_value-keeps, with_values-keeps}
+use Rattle.rh_dump.proofs.Names.{by_names, IsOnce, HasName, HasName-at, with_name-cases, with_name-has, with_values-keeps}
 
 -- the names of the one list stand where they stand in the other
 abbrev pub IsBeginning : List ℕ → List ℕ → Type 0

@@ -1,26 +1,24 @@
 -- The objects that have numbers are those that are reached, each once, and finitely many looks find them all.
-use Rattle.std.specs.Prelude.{◌≡◌, ◌≢◌, ◌⊎◌, ◌<◌, ◌≤◌, ◌+◌, ℕ, zero, suc, IsTrue, IsSome, Bool, true, false, ◌==◌, ◌&&◌, ◌||◌, ◌↔◌, nat_eq, nat_lt, if◌then◌else◌, List, [], ◌∷◌, map, length, slice_get, Option, Some, None}
+use Rattle.std.specs.Prelude.{◌≡◌, ◌≢◌, ◌<◌, ◌≤◌, ◌+◌, ℕ, zero, suc, IsTrue, Bool, true, false, ◌||◌, ◌↔◌, List, [], ◌∷◌, map, length, slice_get, Option, Some, None}
 use Rattle.std.specs.List.{IsDistinct, list_any}
-use Rattle.std.specs.Option.{option_map}
 use Rattle.std.proofs.Common.{refl, sym, ap, subst, ◌∙◌, arith, inl, inr}
 use Rattle.std.proofs.Math.Dec.{eqb}
-use Rattle.std.proofs.lemmas.Option.{none-some, same_Some, slice_get_within, slice_get_past, slice_get-map, slice_get-get_or}
-use Rattle.std.proofs.lemmas.Bool.{eqb-true, eqb-false, cases_eq, cases_lt, ltb-true, and_parts, ne_eqb}
+use Rattle.std.proofs.lemmas.Option.{none-some, same_Some, slice_get_within, slice_get_past, slice_get-get_or}
+use Rattle.std.proofs.lemmas.Bool.{cases_eq, ne_eqb}
 use Rattle.std.proofs.lemmas.Map.Keys.{IsDistinct-from_apart}
 use Rattle.std.proofs.Math.ListN.{get_or}
 use Rattle.std.proofs.lemmas.Map.Steps.{length-le_from_distinct_below}
 use Rattle.rh_layout.specs.declared.value.Value.{Value}
-use Rattle.rh_layout.specs.declared.value.Value.TheVariants.{Nil, Int, Ref}
+use Rattle.rh_layout.specs.declared.value.Value.TheVariants.{Nil, Ref}
 use Rattle.rh_layout.specs.declared.command.RootId.{RootId}
 use Rattle.rh_layout.specs.Root.{has_root}
 use Rattle.rh_model.specs.Graph.{Graph, root_value}
-use Rattle.rh_model.specs.Effects.{IsObject}
 use Rattle.rh_model.specs.Reach.{Reached, from_root, from_field}
 use Rattle.rh_layout.specs.lemmas.Root.{has_root-slot, has_root-owner}
 use Rattle.rh_model.specs.lemmas.RootValue.{root_value-missing}
-use Rattle.rh_dump.specs.Numbering.{filled_roots, roots_of, with_values, values_in, values_at, number_in, names_after, ReachesObjectsBelow}
+use Rattle.rh_dump.specs.Numbering.{roots_of, with_values, values_in, values_at, number_in, names_after, ReachesObjectsBelow}
 use Rattle.rh_dump.proofs.Names.{by_names, Member, Member-at, place_of_Member, IsOnce, HasName, HasName-at, with_values-keeps, with_values-has, with_values-back, IsOnce-with_values}
-use Rattle.rh_dump.proofs.RootLists.{root_named, entry_of_roots, roots_have_entry}
+use Rattle.rh_dump.proofs.RootLists.{entry_of_roots, roots_have_entry}
 
 -- what an element is changed to stands in the changed list
 pub Member-map : {X Y : Type 0} (f : X → Y) (x : X) (xs : List X) → Member x xs → Member (f x) (map f xs)

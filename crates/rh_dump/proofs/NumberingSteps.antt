@@ -1,5 +1,5 @@
 -- A numbering on its way: what each call makes of it.
-use Rattle.std.specs.Prelude.{◌≡◌, ◌≢◌, ◌⊎◌, ◌<◌, ◌≤◌, ◌+◌, ◌-◌, ℕ, zero, suc, IsSome, List, [], ◌∷◌, ◌++◌, map, take, length, slice_get, slice_index_or, Option, Some, None}
+use Rattle.std.specs.Prelude.{◌≡◌, ◌≢◌, ◌<◌, ◌≤◌, ◌+◌, ◌-◌, ℕ, suc, IsSome, List, [], ◌∷◌, ◌++◌, map, take, length, slice_get, slice_index_or, Option, Some, None}
 use Rattle.std.proofs.Common.{refl, sym, ap, subst, ◌∙◌, arith, inl, inr, append_assoc}
 use Rattle.std.proofs.lemmas.List.{append-nil, map-append}
 use Rattle.std.proofs.lemmas.Option.{none-some, slice_get-get_or, slice_get_within}
@@ -8,10 +8,9 @@ use Rattle.rh_layout.specs.declared.value.Value.{Value}
 use Rattle.rh_layout.specs.declared.value.Value.TheVariants.{Nil, Int, Ref}
 use Rattle.rh_layout.specs.declared.command.RootId.{RootId}
 use Rattle.rh_model.specs.Graph.{Graph, root_value}
-use Rattle.rh_model.specs.Effects.{IsObject}
 use Rattle.rh_dump.specs.Graph.{FlatGraph, graph_in, IsFilled}
 use Rattle.rh_dump.specs.Numbering.{filled_root, filled_slots, filled_roots, roots_of, with_value, with_values, values_in, values_at, names_after, numbered_value, numbered_root, dump_below}
-use Rattle.rh_dump.specs.Meeting.{met_values, met_roots, counts_after, values_after, NumberingState, empty_numbering, with_roots, with_count, with_fields, numbering_after, IsTellable, IsDumpable, IsBelow}
+use Rattle.rh_dump.specs.Meeting.{met_values, met_roots, NumberingState, empty_numbering, with_roots, with_count, with_fields, numbering_after, IsTellable, IsDumpable, IsBelow}
 use Rattle.rh_dump.proofs.Names.{with_values-keeps}
 use Rattle.rh_dump.proofs.RootLists.{root_named}
 use Rattle.rh_dump.proofs.Numbered.{length-below, IsOnce-names_after, names_after-reached}

@@ -1,5 +1,5 @@
 -- Plain heaps can be dumped.
-use Rattle.std.specs.Prelude.{◌≡◌, ℕ, ◌+◌, ◌^◌, ◌<◌, ◌≤◌, Bool, IsTrue, true, false, IsSome, if◌then◌else◌, List, [], length, slice_get, slice_index_or, unwrap_or, Option, Some, None}
+use Rattle.std.specs.Prelude.{◌≡◌, ℕ, ◌^◌, ◌≤◌, Bool, true, false, IsSome, if◌then◌else◌, List, [], length, slice_get, slice_index_or, unwrap_or, Option, Some, None}
 use Rattle.std.proofs.Common.{refl, sym, ap, subst, ◌∙◌, arith}
 use Rattle.std.proofs.lemmas.List.Elements.{All-get_or}
 use Rattle.std.proofs.lemmas.Option.{none-some, same_Some, slice_get_within, slice_get-get_or, get_or_from_slice_get}
@@ -7,7 +7,7 @@ use Rattle.rh_layout.specs.Root.{has_root, root_position}
 use Rattle.rh_layout.specs.declared.value.Value.{Value}
 use Rattle.rh_layout.specs.declared.value.Value.TheVariants.{Nil, Int, Ref}
 use Rattle.rh_layout.specs.declared.command.RootId.{RootId}
-use Rattle.rh_model.specs.Graph.{Graph, root_value, field_value}
+use Rattle.rh_model.specs.Graph.{root_value, field_value}
 use Rattle.rh_model.specs.lemmas.RootValue.{root_value-there}
 use Rattle.rh_model.specs.Plain.{PlainHeap, IsPlain, IsStorable, graph_of}
 use Rattle.rh_dump.specs.Numbering.{ReachesObjectsBelow}

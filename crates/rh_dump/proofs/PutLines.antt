@@ -1,5 +1,5 @@
 -- Lines read one after the other and put into a graph, as a loop does.
-use Rattle.std.proofs.Common.{◌≡◌, ℕ, ◌+◌, ◌<◌, ◌≤◌, Bool, true, false, List, [], ◌∷◌, ◌++◌, length, Result, Ok, Err, refl, sym, ap, subst, ◌∙◌, arith}
+use Rattle.std.proofs.Common.{◌≡◌, ℕ, ◌+◌, ◌≤◌, List, [], ◌∷◌, ◌++◌, length, Result, Ok, Err, refl, sym, ap, subst, ◌∙◌, arith}
 use Rattle.std.specs.Prelude.{fold}
 use Rattle.std.proofs.lemmas.List.{length-append}
 use Rattle.rh_text.specs.RawLine.{RawLine, lines_of, raw_text}
@@ -7,7 +7,7 @@ use Rattle.rh_text.specs.Steps.{◌>>=◌, with_fault}
 use Rattle.rh_text.specs.lemmas.RawLines.{lines_text}
 use Rattle.std.specs.List.{flat_map}
 use Rattle.rh_dump.specs.Dump.{GraphState, IsGraph}
-use Rattle.rh_dump.specs.Graph.{FlatGraph, graph_in, objects_in, empty_flat, IsFilled}
+use Rattle.rh_dump.specs.Graph.{FlatGraph, graph_in, empty_flat, IsFilled}
 use Rattle.rh_dump.specs.Line.{DumpLine, header_line, roots_line, root_line, objects_line, object_line, end_line, due_after}
 use Rattle.rh_dump.specs.Reading.{line_or_kind, fault_at, end_or_fault, lines_from, with_line, graph_of, graph_within}
 use Rattle.rh_dump.specs.Putting.{put_line, put_read, put_lines, error_in, IsDue, Tells, Gives}

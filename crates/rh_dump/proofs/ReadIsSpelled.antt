@@ -1,7 +1,6 @@
 -- What is read is spelled so, and is a graph.
-use Rattle.std.proofs.Common.{◌≡◌, ℕ, ℤ, suc, zero, ◌+◌, ◌<◌, ◌≤◌, ◌⊎◌, Bool, true, false, cond, ltb, leb, eqb, not, ◌&&◌, ◌||◌, List, [], ◌∷◌, ◌++◌, length, Option, Some, None, Result, Ok, Err, refl, sym, ap, subst, ◌∙◌, append_assoc, arith, inl, inr}
-use Rattle.std.specs.Prelude.{codes, decimal, map, fold, ⊤}
-use Rattle.std.specs.Fmt.{signed_decimal}
+use Rattle.std.proofs.Common.{◌≡◌, ℕ, ℤ, suc, zero, ◌+◌, ◌<◌, ◌≤◌, Bool, true, false, cond, ltb, eqb, not, ◌&&◌, ◌||◌, List, [], ◌∷◌, ◌++◌, length, Option, Some, None, Result, Ok, Err, refl, sym, ap, subst, ◌∙◌, arith, inl, inr}
+use Rattle.std.specs.Prelude.{codes, decimal, map, ⊤}
 use Rattle.std.specs.List.{flat_map, join_with_byte, AllByRecursion}
 use Rattle.std.specs.Str.{bytes_eq}
 use Rattle.std.proofs.lemmas.Bool.{false≢true, and_parts, ltb-true, ltb-false, eqb-true, not-false, le-ltb, lt-ltb}
@@ -11,7 +10,7 @@ use Rattle.std.proofs.lemmas.List.Splits.{join_with_byte-slice_split}
 use Rattle.rh_layout.specs.declared.value.Value.{Value}
 use Rattle.rh_layout.specs.declared.value.Value.TheVariants.{Nil, Int, Ref}
 use Rattle.rh_layout.specs.declared.command.RootId.{RootId}
-use Rattle.rh_text.specs.Parts.{parts_of, is_formed, spell_parts, two_parts}
+use Rattle.rh_text.specs.Parts.{parts_of, is_formed, two_parts}
 use Rattle.rh_text.specs.RawLine.{RawLine, lines_of, raw_text}
 use Rattle.rh_text.specs.Root.{root_text}
 use Rattle.rh_text.specs.Steps.{◌>>=◌, or_fault, with_fault}
@@ -21,12 +20,11 @@ use Rattle.rh_text.specs.lemmas.Steps.{bind_ok, chosen, refused, ok_is, or_fault
 use Rattle.rh_dump.specs.declared.due.Due.{Due}
 use Rattle.rh_dump.specs.declared.due.Due.TheVariants as dues
 use Rattle.rh_dump.specs.declared.fault.DumpKind.{DumpKind}
-use Rattle.rh_dump.specs.declared.fault.DumpKind.TheVariants.{Long, End, Header, Trailing, Form, Number, Order, Count}
-use Rattle.rh_dump.specs.declared.fault.DumpFault.{DumpFault}
+use Rattle.rh_dump.specs.declared.fault.DumpKind.TheVariants.{Long, End, Header, Form, Number, Order, Count}
 use Rattle.rh_dump.specs.Dump.{GraphState, root_values, met_with, met_after, IsNumberedAfter, AreNumbered, AreMetBefore, IsTold, IsRootTold, IsRootBefore, IsRootAfter, RootsRise, IsObjectTold, IsGraph}
 use Rattle.rh_dump.specs.Line.{DumpLine, header_line, roots_line, root_line, objects_line, object_line, end_line, value_text, dump_line_parts, spell_dump_line, root_lines, object_lines, lines_in, dump_text, root_due, object_due, due_after}
 use Rattle.rh_dump.specs.Part.{number_up_to, whole_of, small_root_of, after_at, object_head}
-use Rattle.rh_dump.specs.Reading.{formed_parts, part_after, number_or_fault, roots_of_parts, objects_of_parts, reference_or_fault, whole_or_fault, reference_or_whole, value_or_fault, values_or_fault, is_root_before, is_root_after, root_or_fault, root_of_parts, own_number, fields_or_fault, object_of_parts, line_due, line_or_kind, fault_at, end_or_fault, lines_from, with_line, graph_of, graph_within}
+use Rattle.rh_dump.specs.Reading.{formed_parts, part_after, number_or_fault, roots_of_parts, objects_of_parts, reference_or_fault, whole_or_fault, reference_or_whole, value_or_fault, values_or_fault, is_root_before, is_root_after, root_or_fault, root_of_parts, own_number, fields_or_fault, object_of_parts, line_due, line_or_kind, fault_at, end_or_fault, lines_from, graph_of, graph_within}
 use Rattle.rh_dump.specs.Putting.{IsDue}
 use Rattle.rh_dump.proofs.ObjectsIn.{joined}
 use Rattle.rh_dump.proofs.PartMeans.{number_up_to-means, whole_of-means, small_root_of-means, after_at-means, object_head-means}

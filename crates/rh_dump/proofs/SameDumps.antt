@@ -1,11 +1,11 @@
 -- Graphs that are the same have equal dumps: what is paired has one number.
-use Rattle.std.specs.Prelude.{◌≡◌, ◌≢◌, ◌⊎◌, ◌<◌, ◌≤◌, ◌+◌, ℕ, zero, suc, IsTrue, IsSome, Bool, true, false, ◌==◌, ◌&&◌, nat_lt, if◌then◌else◌, List, [], ◌∷◌, ◌++◌, map, drop, length, slice_get, slice_index_or, Option, Some, None}
+use Rattle.std.specs.Prelude.{◌≡◌, ◌<◌, ◌≤◌, ◌+◌, ℕ, zero, suc, Bool, true, false, ◌==◌, if◌then◌else◌, List, [], ◌∷◌, ◌++◌, map, drop, slice_get, slice_index_or, Option, Some, None}
 use Rattle.std.specs.Option.{option_map}
-use Rattle.std.proofs.Common.{refl, sym, ap, subst, ◌∙◌, arith, inl, inr}
-use Rattle.std.proofs.lemmas.Option.{none-some, same_Some, slice_get-map}
-use Rattle.std.proofs.lemmas.Bool.{eq-eqb, ne_eqb, ltb-false, ltb-true}
+use Rattle.std.proofs.Common.{refl, sym, ap, subst, ◌∙◌, arith}
+use Rattle.std.proofs.lemmas.Option.{same_Some, slice_get-map}
+use Rattle.std.proofs.lemmas.Bool.{eq-eqb, ne_eqb}
 use Rattle.rh_layout.specs.declared.value.Value.{Value}
-use Rattle.rh_layout.specs.declared.value.Value.TheVariants.{Nil, Int, Ref}
+use Rattle.rh_layout.specs.declared.value.Value.TheVariants.{Nil, Ref}
 use Rattle.rh_layout.specs.declared.command.RootId.{RootId}
 use Rattle.rh_layout.specs.Root.{has_root}
 use Rattle.rh_model.specs.Graph.{Graph, root_value}
@@ -15,7 +15,7 @@ use Rattle.rh_model.specs.lemmas.SameGraph.{renamed_cases}
 use Rattle.rh_layout.specs.lemmas.Root.{has_root-slot, has_root-owner}
 use Rattle.rh_model.specs.lemmas.RootValue.{root_value-missing}
 use Rattle.rh_dump.specs.Dump.{GraphState}
-use Rattle.rh_dump.specs.Numbering.{filled_root, filled_slots, filled_roots, roots_of, with_name, with_value, with_values, values_in, values_at, names_after, number_in, numbered_value, numbered_root, dump_by, dump_below, ReachesObjectsBelow}
+use Rattle.rh_dump.specs.Numbering.{filled_root, filled_slots, filled_roots, roots_of, with_name, with_value, with_values, values_in, values_at, names_after, number_in, numbered_value, numbered_root, dump_by, dump_below}
 use Rattle.rh_dump.proofs.Names.{by_names}
 use Rattle.rh_dump.proofs.RootLists.{root_named, filled_roots-more}
 use Rattle.rh_dump.proofs.Numbered.{held_values, names_after-enough}

@@ -1,19 +1,18 @@
 -- Graphs with equal dumps are the same: what has one number is paired.
-use Rattle.std.specs.Prelude.{◌≡◌, ◌≢◌, ◌↔◌, ◌⊎◌, ◌<◌, ◌≤◌, ◌+◌, ℕ, zero, suc, IsSome, List, [], ◌∷◌, map, drop, length, slice_get, slice_index_or, Option, Some, None}
+use Rattle.std.specs.Prelude.{◌≡◌, ◌≢◌, ◌↔◌, ◌⊎◌, ◌<◌, ℕ, IsSome, List, [], ◌∷◌, map, drop, length, slice_get, slice_index_or, Option, Some, None}
 use Rattle.std.specs.Option.{option_map}
 use Rattle.std.proofs.Common.{refl, sym, ap, subst, ◌∙◌, arith, inl, inr}
 use Rattle.std.proofs.Math.ListN.{length-map}
-use Rattle.std.proofs.lemmas.Option.{none-some, same_Some, slice_get-map, slice_get_within, slice_get_past}
+use Rattle.std.proofs.lemmas.Option.{same_Some, slice_get-map, slice_get_within}
 use Rattle.rh_layout.specs.declared.value.Value.{Value}
 use Rattle.rh_layout.specs.declared.value.Value.TheVariants.{Nil, Int, Ref}
 use Rattle.rh_layout.specs.declared.command.RootId.{RootId}
 use Rattle.rh_model.specs.Graph.{Graph, root_value}
-use Rattle.rh_model.specs.Effects.{IsObject}
 use Rattle.rh_model.specs.Reach.{Reached}
-use Rattle.rh_model.specs.SameGraph.{renamed_value, AreRenamed, AreFieldsRenamed, IsPairing, SameGraph}
+use Rattle.rh_model.specs.SameGraph.{renamed_value, AreRenamed, AreFieldsRenamed, SameGraph}
 use Rattle.rh_dump.specs.Dump.{GraphState}
 use Rattle.rh_dump.specs.Numbering.{roots_of, values_in, names_after, number_in, numbered_value, numbered_root, dump_by, dump_below, ReachesObjectsBelow}
-use Rattle.rh_dump.proofs.Names.{Member, IsOnce, HasName, HasName-at, name_cases}
+use Rattle.rh_dump.proofs.Names.{Member, IsOnce, HasName, name_cases}
 use Rattle.rh_dump.proofs.RootLists.{entry_of_roots}
 use Rattle.rh_dump.proofs.SameDumps.{dump_below-same}
 use Rattle.rh_dump.proofs.Numbered.{Member-map, Member-map_back, Member-roots_of, IsOnce-names_after, names_after-reached, names_after-closed, names_after-held}

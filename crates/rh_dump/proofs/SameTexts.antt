@@ -1,9 +1,9 @@
 -- Graphs are stored alike exactly where their texts are equal.
-use Rattle.std.proofs.Common.{◌≡◌, ℕ, List, length, refl, sym, ap, ◌∙◌}
+use Rattle.std.proofs.Common.{◌≡◌, ℕ, List, sym, ap, ◌∙◌}
 use Rattle.rh_layout.specs.declared.value.Value.{Value}
 use Rattle.rh_layout.specs.declared.command.RootId.{RootId}
 use Rattle.rh_dump.specs.Dump.{GraphState, IsGraph}
-use Rattle.rh_dump.specs.Graph.{FlatGraph, graph_in, objects_in, IsFilled}
+use Rattle.rh_dump.specs.Graph.{FlatGraph, graph_in, IsFilled}
 use Rattle.rh_dump.specs.Line.{dump_text}
 use Rattle.rh_dump.proofs.ObjectsIn.{joined, counts_of, counts_of-objects_in, joined-objects_in}
 use Rattle.rh_dump.proofs.SpelledIsRead.{dump_text-injective}

@@ -11,7 +11,7 @@ use Rattle.rh_text.specs.Output.{AppendsLess}
 use Rattle.rh_text.specs.lemmas.Appends.{Sent, Appends-then, Appends-none, Appends-at, Appends-less, less-more}
 use Rattle.rh_dump.specs.Dump.{GraphState}
 use Rattle.rh_dump.specs.Graph.{objects_in, total}
-use Rattle.rh_dump.specs.Line.{DumpLine, header_line, roots_line, root_line, objects_line, object_line, end_line, value_text, spell_dump_line, root_lines, object_lines, lines_in, dump_text}
+use Rattle.rh_dump.specs.Line.{header_line, roots_line, root_line, objects_line, object_line, end_line, value_text, spell_dump_line, root_lines, object_lines, dump_text}
 
 pub Sent-begin : (a : Option (List ℕ)) (text : List ℕ) → Sent a a text text
 Sent-begin a text = record { prefix = []; whole = refl; appended = Appends-none a }

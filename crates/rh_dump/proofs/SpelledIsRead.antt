@@ -1,12 +1,12 @@
 -- What a graph is spelled as is read as that graph.
-use Rattle.std.proofs.Common.{◌≡◌, ℕ, ℤ, pos, negsuc, suc, ◌+◌, ◌-◌, ◌*◌, ◌^◌, ◌<◌, ◌≤◌, ◌⊎◌, Bool, true, false, cond, ltb, leb, eqb, not, ◌&&◌, ◌||◌, List, [], ◌∷◌, ◌++◌, length, Option, Some, None, Result, Ok, Err, refl, sym, ap, subst, ◌∙◌, append_assoc, arith, inl, inr}
+use Rattle.std.proofs.Common.{◌≡◌, ℕ, ℤ, pos, negsuc, suc, ◌+◌, ◌-◌, ◌*◌, ◌^◌, ◌<◌, ◌≤◌, Bool, true, false, cond, ltb, eqb, ◌&&◌, ◌||◌, List, [], ◌∷◌, ◌++◌, length, Option, Some, None, Result, Ok, Err, refl, sym, ap, subst, ◌∙◌, append_assoc, arith, inl, inr}
 use Rattle.std.specs.Prelude.{codes, decimal, map, fold, T, ⊤}
 use Rattle.std.specs.Int.Signed.{le_z}
 use Rattle.std.proofs.lemmas.Int.{ints}
 use Rattle.std.specs.Fmt.{signed_decimal}
 use Rattle.std.specs.List.{flat_map, join_with_byte, AllByRecursion, list_all}
 use Rattle.std.specs.Str.{bytes_eq}
-use Rattle.std.proofs.lemmas.Bool.{false≢true, false_from_ne_true, and_parts, and_from, le-ltb, lt-ltb, le-leb, ltb-true, ltb-false, ne_eqb, eq-eqb, or_from}
+use Rattle.std.proofs.lemmas.Bool.{false_from_ne_true, and_parts, and_from, le-ltb, lt-ltb, le-leb, ltb-true, ltb-false, ne_eqb, eq-eqb}
 use Rattle.std.proofs.Math.Bool.{or-true}
 use Rattle.std.proofs.lemmas.Slice.Eq.{bytes_eq-Decides}
 use Rattle.std.proofs.lemmas.List.{append-nil, length-append}
@@ -14,25 +14,25 @@ use Rattle.rh_layout.specs.declared.value.Value.{Value}
 use Rattle.rh_layout.specs.declared.value.Value.TheVariants.{Nil, Int, Ref}
 use Rattle.rh_layout.specs.declared.command.RootId.{RootId}
 use Rattle.rh_layout.specs.Word.{IsWhole, is_whole}
-use Rattle.rh_text.specs.Number.{IsU32, IsI64, number_of, integer_of}
-use Rattle.rh_text.specs.Parts.{parts_of, is_formed, is_filled, spell_parts, two_parts}
-use Rattle.rh_text.specs.RawLine.{RawLine, lines_of, raw_text}
-use Rattle.rh_text.specs.Root.{root_of, root_text, RootFits}
+use Rattle.rh_text.specs.Number.{IsU32, IsI64}
+use Rattle.rh_text.specs.Parts.{parts_of, is_filled, spell_parts, two_parts}
+use Rattle.rh_text.specs.RawLine.{lines_of}
+use Rattle.rh_text.specs.Root.{root_text}
 use Rattle.rh_text.specs.Steps.{◌>>=◌, or_fault, with_fault}
 use Rattle.rh_text.specs.lemmas.Integers.{integer_of-decimal}
 use Rattle.rh_text.specs.lemmas.Numbers.{number_of-decimal}
 use Rattle.rh_text.specs.lemmas.Roots.{root_of-text, root_part}
-use Rattle.rh_text.specs.lemmas.Joins.{IsPart, is_decimal_digit, is_glyph, bounds, filled-decimal, decimal_digits, wide_digits, wide_filled, number_part, integer_part, length-decimal, parts_of-join, printable-join, is_formed-join, ended_line, lines_of-prefix}
+use Rattle.rh_text.specs.lemmas.Joins.{IsPart, is_decimal_digit, is_glyph, bounds, wide_digits, wide_filled, number_part, integer_part, length-decimal, parts_of-join, printable-join, is_formed-join, ended_line, lines_of-prefix}
 use Rattle.rh_dump.specs.declared.due.Due.{Due}
 use Rattle.rh_dump.specs.declared.due.Due.TheVariants as dues
 use Rattle.rh_dump.specs.declared.fault.DumpKind.{DumpKind}
-use Rattle.rh_dump.specs.declared.fault.DumpKind.TheVariants.{Long, End, Header, Trailing, Form, Number, Order, Count}
+use Rattle.rh_dump.specs.declared.fault.DumpKind.TheVariants.{Long, Form, Number}
 use Rattle.rh_dump.specs.declared.fault.DumpFault.{DumpFault}
-use Rattle.rh_dump.specs.Dump.{GraphState, root_values, values_of, met_with, met_after, IsNumberedAfter, AreNumbered, AreMetBefore, IsTold, IsRootTold, IsRootBefore, IsRootAfter, RootsRise, IsObjectTold, IsGraph}
+use Rattle.rh_dump.specs.Dump.{GraphState, root_values, met_with, met_after, IsNumberedAfter, AreNumbered, AreMetBefore, IsTold, IsRootTold, IsRootBefore, IsRootAfter, RootsRise, IsObjectTold, IsGraph}
 use Rattle.rh_dump.specs.Line.{DumpLine, header_line, roots_line, root_line, objects_line, object_line, end_line, value_text, dump_line_parts, spell_dump_line, root_lines, object_lines, lines_in, dump_text, root_due, object_due, due_after}
 use Rattle.rh_dump.specs.Part.{number_up_to, whole_of, small_root_of, after_at, object_head}
 use Rattle.rh_dump.proofs.ObjectsIn.{joined}
-use Rattle.rh_dump.specs.Reading.{formed_parts, part_after, number_or_fault, roots_of_parts, objects_of_parts, reference_or_fault, whole_or_fault, reference_or_whole, value_or_fault, values_or_fault, is_root_before, is_root_after, root_or_fault, root_of_parts, own_number, fields_or_fault, object_of_parts, line_due, line_or_kind, fault_at, end_or_fault, lines_from, with_line, graph_of, graph_within}
+use Rattle.rh_dump.specs.Reading.{formed_parts, part_after, number_or_fault, roots_of_parts, objects_of_parts, reference_or_fault, whole_or_fault, value_or_fault, values_or_fault, is_root_before, is_root_after, root_or_fault, root_of_parts, own_number, fields_or_fault, object_of_parts, line_due, line_or_kind, fault_at, lines_from, with_line, graph_of, graph_within}
 use Rattle.rh_dump.proofs.MetValues.{met_after-append}
 
 -- ---- parts

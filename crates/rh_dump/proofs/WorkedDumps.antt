@@ -4,15 +4,15 @@ use Rattle.std.specs.Prelude.{codes}
 use Rattle.std.specs.Fmt.{digits}
 use Rattle.std.specs.List.{flat_map}
 use Rattle.rh_layout.specs.declared.value.Value.TheVariants.{Nil, Ref}
-use Rattle.rh_text.specs.Number.{number_of, integer_of}
+use Rattle.rh_text.specs.Number.{number_of}
 use Rattle.rh_text.specs.Parts.{is_formed, two_parts}
 use Rattle.rh_text.specs.Root.{root_of}
 use Rattle.rh_dump.specs.declared.fault.DumpKind.{DumpKind}
-use Rattle.rh_dump.specs.declared.fault.DumpKind.TheVariants.{End, Header, Form, Number, Order, Count}
+use Rattle.rh_dump.specs.declared.fault.DumpKind.TheVariants.{End, Header, Order, Count}
 use Rattle.rh_dump.specs.declared.fault.DumpFault.{DumpFault}
 use Rattle.rh_dump.specs.Dump.{GraphState}
-use Rattle.rh_dump.specs.Part.{number_up_to, whole_of, small_root_of, object_head}
-use Rattle.rh_dump.specs.Reading.{formed_parts, part_after, roots_of_parts, objects_of_parts, reference_or_fault, whole_or_fault, value_or_fault, values_or_fault, root_or_fault, root_of_parts, own_number, fields_or_fault, object_of_parts, line_due, line_or_kind, lines_from, graph_within, graph_of_text}
+use Rattle.rh_dump.specs.Part.{number_up_to, small_root_of, object_head}
+use Rattle.rh_dump.specs.Reading.{formed_parts, part_after, roots_of_parts, objects_of_parts, reference_or_fault, value_or_fault, values_or_fault, root_or_fault, root_of_parts, own_number, fields_or_fault, object_of_parts, line_due, line_or_kind, lines_from, graph_within, graph_of_text}
 
 -- so many lines, each ended
 text : List (List ℕ) → List ℕ

@@ -1,7 +1,6 @@
 -- When each fault holds of a text, in the order of the format. No reader is named here.
 use Rattle.std.specs.Prelude.{◌≡◌, ◌≢◌, ℕ, ◌+◌, ◌<◌, ◌≤◌, ◌⊎◌, ⊤, false, List, [], ◌∷◌, length, Option, Some, None, codes, decimal, ℤ}
 use Rattle.std.specs.Fmt.{signed_decimal}
-use Rattle.rh_layout.specs.declared.value.Value.{Value}
 use Rattle.rh_layout.specs.declared.value.Value.TheVariants.{Ref}
 use Rattle.rh_layout.specs.declared.command.RootId.{RootId}
 use Rattle.rh_layout.specs.Word.{IsWhole}
@@ -20,11 +19,12 @@ use Rattle.rh_dump.specs.declared.fault.DumpKind.TheVariants.{Long, End, Header,
 
 -- ---- what is due, by the lines before
 
--- how many objects are met with a part, where so many were met before it
+-- how many objects are met with what a part refers to, where so many were met before it
 abbrev pub met_with_reference : ℕ → Option ℕ → ℕ
 met_with_reference met None = met
 met_with_reference met (Some k) = met_with met (Ref k)
 
+-- how many objects are met with a part that may be a reference, where so many were met before it
 abbrev pub met_with_part : ℕ → List ℕ → ℕ
 met_with_part met part = met_with_reference met (reference_of part)
 

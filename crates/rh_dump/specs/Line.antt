@@ -1,5 +1,5 @@
 -- The lines of a dump, what each is spelled as, and what is due after each.
-use Rattle.std.specs.Prelude.{◌≡◌, ℕ, ◌+◌, ◌-◌, Bool, true, false, nat_lt, ◌==◌, ◌&&◌, ◌||◌, if◌then◌else◌, List, [], ◌∷◌, ◌++◌, length, map, Option, Some, None, codes, decimal}
+use Rattle.std.specs.Prelude.{ℕ, ◌+◌, ◌-◌, nat_lt, ◌==◌, if◌then◌else◌, List, [], ◌∷◌, ◌++◌, length, map, Option, Some, None, codes, decimal}
 use Rattle.std.specs.Fmt.{signed_decimal}
 use Rattle.std.specs.List.{flat_map}
 use Rattle.rh_layout.specs.declared.value.Value.{Value}
@@ -9,7 +9,7 @@ use Rattle.rh_text.specs.Parts.{spell_parts}
 use Rattle.rh_text.specs.Root.{root_text}
 use Rattle.rh_dump.specs.Dump.{GraphState, met_with, met_after}
 use Rattle.rh_dump.specs.declared.due.Due.{Due}
-use Rattle.rh_dump.specs.declared.due.Due.TheVariants.{Header, Roots, Root, Objects, Object, End, Nothing}
+use Rattle.rh_dump.specs.declared.due.Due.TheVariants.{Roots, Root, Objects, Object, End, Nothing}
 
 -- a line of a dump, by what it says
 pub data DumpLine : Type 0 where

@@ -1,5 +1,5 @@
 -- A dump as it is put together: each value is numbered as it is met.
-use Rattle.std.specs.Prelude.{◌≡◌, ◌<◌, ◌≤◌, ℕ, zero, suc, List, [], ◌∷◌, ◌++◌, map, length, slice_get, Option, Some, None}
+use Rattle.std.specs.Prelude.{◌≡◌, ◌<◌, ◌≤◌, ℕ, zero, suc, List, [], ◌∷◌, ◌++◌, map, length, slice_get, Some}
 use Rattle.rh_layout.specs.declared.value.Value.{Value}
 use Rattle.rh_layout.specs.declared.value.Value.TheVariants.{Nil, Int, Ref}
 use Rattle.rh_layout.specs.declared.command.RootId.{RootId}
@@ -7,7 +7,7 @@ use Rattle.rh_layout.specs.Word.{IsWhole}
 use Rattle.rh_model.specs.Graph.{Graph, root_value}
 use Rattle.rh_model.specs.Effects.{IsObject}
 use Rattle.rh_dump.specs.Graph.{FlatGraph, empty_flat}
-use Rattle.rh_dump.specs.Numbering.{roots_of, with_value, with_values, values_in, values_at, names_after, numbered_value, numbered_root}
+use Rattle.rh_dump.specs.Numbering.{roots_of, with_value, with_values, values_at, names_after, numbered_value, numbered_root}
 
 -- values as they are numbered when they are met, after these names
 abbrev pub met_values : List ℕ → List Value → List Value

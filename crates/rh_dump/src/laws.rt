@@ -101,8 +101,8 @@ pub fn equal_texts_are_of_equal_graphs()
 {}
 
 /// The fault that reading names is the one that comes first in the order of the format: it holds on
-/// its line, and any other that holds is on a later line or at a later place of this line. What is
-/// read has no fault, and a text without a fault is the dump of a graph.
+/// its line, and any other that holds is on a later line or at a later position of this line. What
+/// is read has no fault, and a text without a fault is the dump of a graph.
 pub fn the_first_fault_is_named()
     ensures first { (text : List ℕ) (fault : FaultOf) → graph_of_text text ≡ Err fault
         → IsFirst (dump_faults (lines_of text)) fault.line fault.kind }

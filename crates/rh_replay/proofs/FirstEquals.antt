@@ -1,8 +1,8 @@
 -- A line has one cut at its first part that is `=`, which is the one that reading makes.
-use Rattle.std.specs.Prelude.{◌≢◌, ◌⊎◌, codes}
+use Rattle.std.specs.Prelude.{◌≢◌, codes}
 use Rattle.std.specs.List.{AllByRecursion}
 use Rattle.std.specs.Str.{bytes_eq}
-use Rattle.std.proofs.Common.{◌≡◌, ℕ, Bool, true, false, cond, List, [], ◌∷◌, ◌++◌, refl, sym, ap, ◌∙◌, inl, inr}
+use Rattle.std.proofs.Common.{◌≡◌, ℕ, Bool, true, false, cond, List, [], ◌∷◌, refl, sym, ap, ◌∙◌, inl, inr}
 use Rattle.std.proofs.lemmas.List.{append-nil}
 use Rattle.std.proofs.lemmas.Slice.Eq.{bytes_eq-Decides}
 use Rattle.rh_replay.specs.Reading.{before_equals, after_equals}

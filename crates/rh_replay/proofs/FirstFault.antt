@@ -1,25 +1,24 @@
 -- The fault that reading a history finds comes first in the order of the format.
-use Rattle.std.proofs.Common.{◌≡◌, ℕ, ◌+◌, ◌<◌, ◌≤◌, ◌⊎◌, Bool, true, false, cond, ltb, leb, eqb, not, ◌||◌, ◌&&◌, List, [], ◌∷◌, length, Option, Some, None, Result, Ok, Err, refl, sym, ap, subst, ◌∙◌, arith, inl, inr}
+use Rattle.std.proofs.Common.{◌≡◌, ℕ, ◌+◌, ◌<◌, ◌≤◌, ◌⊎◌, Bool, true, false, cond, ltb, eqb, not, ◌||◌, List, [], ◌∷◌, length, Option, Some, None, Result, Ok, Err, refl, sym, ap, subst, ◌∙◌, arith, inl, inr}
 use Rattle.std.specs.Bool.{Decides}
 use Rattle.std.specs.Prelude.{codes, decimal, ⊤}
 use Rattle.std.specs.Str.{bytes_eq}
-use Rattle.std.proofs.lemmas.Bool.{false≢true, and_from, le-leb}
+use Rattle.std.proofs.lemmas.Bool.{false≢true}
 use Rattle.std.proofs.lemmas.Bool.Decides.{Decides-or, Decides-ltb, Decides-not, not_from_Decides, Decides-eqb}
 use Rattle.std.proofs.lemmas.Slice.Eq.{bytes_eq-Decides}
-use Rattle.rh_layout.specs.declared.command.Command.{Command}
 use Rattle.rh_layout.specs.declared.command.Reply.{Reply}
 use Rattle.rh_layout.specs.declared.refusal.Refusal.{Refusal}
 use Rattle.rh_text.specs.Number.{IsU32, number_of}
 use Rattle.rh_text.specs.Parts.{parts_of, is_formed, one_part, three_parts, IsFormedLine}
 use Rattle.rh_text.specs.RawLine.{RawLine, lines_of}
-use Rattle.rh_text.specs.Stages.{◌when◌, ◌▸◌, no_fault, in_lines, IsFaultless, IsLeast, IsFirst}
+use Rattle.rh_text.specs.Stages.{◌when◌, ◌▸◌, no_fault, in_lines, IsLeast, IsFirst}
 use Rattle.rh_text.specs.Steps.{◌>>=◌, or_fault, with_fault}
 use Rattle.rh_text.specs.lemmas.Numbers.{number_means, number_of-decimal}
-use Rattle.rh_text.specs.lemmas.Stages.{Judges, JudgesLines, judges-end, judges-here, judges-later, judges-test, judges-found, judges-line, judges-no_lines, judges-made, judges-step, in_lines-from}
+use Rattle.rh_text.specs.lemmas.Stages.{Judges, JudgesLines, judges-end, judges-here, judges-later, judges-found, judges-line, judges-no_lines, judges-made, judges-step, in_lines-from}
 use Rattle.rh_trace.specs.declared.fault.Kind.{Kind}
 use Rattle.rh_trace.specs.declared.fault.Kind.TheVariants.{Empty, Long, Cut, Form, Header, Word, Number}
-use Rattle.rh_trace.specs.Faults.{IsNumber, IsFirstPart, command_part_faults, raw_line_faults}
-use Rattle.rh_trace.specs.Reading.{owned_command, checked_parts}
+use Rattle.rh_trace.specs.Faults.{IsNumber, IsFirstPart, raw_line_faults}
+use Rattle.rh_trace.specs.Reading.{checked_parts}
 use Rattle.rh_text.specs.lemmas.Cuts.{some_is}
 use Rattle.rh_text.specs.lemmas.Formed.{is_formed-Decides, not_ended}
 use Rattle.rh_text.specs.lemmas.Steps.{ok_is, err_is, ok_err, none_some, bind_ok, refused}
@@ -31,7 +30,7 @@ use Rattle.rh_replay.specs.declared.fault.HistoryFault.{HistoryFault}
 use Rattle.rh_replay.specs.History.{HistoryState}
 use Rattle.rh_replay.specs.Faults.{◌▹◌, chosen_faults, of_line, IsUpTo, size_faults, header_part_faults, header_faults, IsAnswer, command_before_faults, cut_call_faults, call_faults, IsCount, end_faults, line_part_faults, line_faults, trailing_faults, begins_with_end, later_faults, text_faults}
 use Rattle.rh_replay.proofs.FirstEquals.{cut_is, cut_once}
-use Rattle.rh_replay.specs.Reading.{answer_of, before_equals, after_equals, command_before, call_of_parts, end_of_parts, line_of_parts, line_or_kind, size_up_to, sizes_of, header_of_parts, header_of_line, header_or_kind, fault_at, kind_after_end, end_from, line_or_fault, next_calls, calls_from, header_or_fault, history_or_fault, history_of}
+use Rattle.rh_replay.specs.Reading.{answer_of, before_equals, after_equals, command_before, call_of_parts, end_of_parts, line_of_parts, line_or_kind, size_up_to, sizes_of, header_of_parts, header_of_line, header_or_kind, fault_at, kind_after_end, end_from, next_calls, calls_from, history_or_fault, history_of}
 use Rattle.rh_replay.proofs.ReadIsSpelled.{answer_of-means, size_up_to-means, with_ok}
 use Rattle.rh_replay.proofs.SpelledIsRead.{answer_read, size_up_to-decimal}
 

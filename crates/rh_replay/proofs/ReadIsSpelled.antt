@@ -1,5 +1,5 @@
 -- What is read of a history's text is spelled so, and fits.
-use Rattle.std.proofs.Common.{◌≡◌, ℕ, ℤ, ◌+◌, ◌≤◌, Bool, true, false, cond, ltb, leb, eqb, not, ◌||◌, ◌&&◌, List, [], ◌∷◌, ◌++◌, length, Option, Some, None, Result, Ok, Err, refl, sym, ap, subst, ◌∙◌, arith, append_assoc}
+use Rattle.std.proofs.Common.{◌≡◌, ℕ, ◌+◌, ◌≤◌, Bool, true, false, cond, ltb, leb, eqb, not, ◌||◌, ◌&&◌, List, [], ◌∷◌, ◌++◌, length, Option, Some, None, Result, Ok, Err, refl, sym, ap, subst, ◌∙◌, arith, append_assoc}
 use Rattle.std.specs.Prelude.{codes, decimal, IfOk}
 use Rattle.std.specs.Option.{option_map}
 use Rattle.std.specs.List.{flat_map, join_with_byte, AllByRecursion}
@@ -13,7 +13,7 @@ use Rattle.rh_layout.specs.declared.command.Reply.{Reply}
 use Rattle.rh_layout.specs.declared.command.Reply.TheVariants.{Done, Nil, Int, Object, Same}
 use Rattle.rh_layout.specs.declared.refusal.Refusal.{Refusal}
 use Rattle.rh_layout.specs.declared.refusal.Refusal.TheVariants.{NoRoot, NotYours, NotObject, NoField, IntRange, FieldsRange, SpaceFull, LogFull, NumbersSpent}
-use Rattle.rh_text.specs.Number.{IsU32, number_of, integer_of}
+use Rattle.rh_text.specs.Number.{number_of, integer_of}
 use Rattle.rh_text.specs.Parts.{parts_of, is_formed, spell_parts, one_part, two_parts, three_parts, ◌>>=◌ as ◌>>=?◌}
 use Rattle.rh_text.specs.RawLine.{RawLine, lines_of, raw_text}
 use Rattle.rh_text.specs.Steps.{◌>>=◌, or_fault, with_fault}
@@ -24,19 +24,19 @@ use Rattle.rh_text.specs.lemmas.Numbers.{number_means}
 use Rattle.rh_text.specs.lemmas.RawLines.{lines_text}
 use Rattle.rh_text.specs.lemmas.Steps.{bind_ok, chosen, refused, ok_is, or_fault_ok}
 use Rattle.rh_trace.specs.Answers.{answer_text}
-use Rattle.rh_trace.specs.Reading.{owned_command, checked_parts}
-use Rattle.rh_trace.specs.Spelling.{command_parts, command_text, CommandFits}
+use Rattle.rh_trace.specs.Reading.{checked_parts}
+use Rattle.rh_trace.specs.Spelling.{command_parts, command_text}
 use Rattle.rh_trace.specs.declared.fault.Kind.{Kind}
 use Rattle.rh_trace.specs.declared.fault.Kind.TheVariants as kinds
 use Rattle.rh_trace.specs.lemmas.ReadIsSpelled.{owned_command-means, checked_parts-means, Reads}
 use Rattle.rh_replay.specs.declared.call.Call.{Call}
 use Rattle.rh_replay.specs.declared.fault.HistoryKind.{HistoryKind}
-use Rattle.rh_replay.specs.declared.fault.HistoryKind.TheVariants.{Line, Trailing, Answer, Count, End}
+use Rattle.rh_replay.specs.declared.fault.HistoryKind.TheVariants.{Line, Answer, Count}
 use Rattle.rh_replay.specs.declared.fault.HistoryFault.{HistoryFault}
 use Rattle.rh_replay.specs.declared.fault.HistoryError.{HistoryError}
-use Rattle.rh_replay.specs.History.{HistoryState, IsHistory, AnswerFits, CallFits}
+use Rattle.rh_replay.specs.History.{HistoryState, AnswerFits, CallFits}
 use Rattle.rh_replay.specs.Spelling.{header_parts, header_line, call_line, end_parts, end_line, spelling, answer_parts, IsReadable}
-use Rattle.rh_replay.specs.Reading.{bare_answer, sameness_of, refusal_named, answer_with, answer_or, answer_of, before_equals, after_equals, command_before, call_of_parts, end_of_parts, line_of_parts, line_or_kind, size_up_to, sizes_of, header_of_parts, header_of_line, header_or_kind, fault_at, end_from, line_or_fault, next_calls, calls_from, header_or_fault, history_or_fault, history_of, Gives}
+use Rattle.rh_replay.specs.Reading.{bare_answer, sameness_of, refusal_named, answer_with, answer_of, before_equals, after_equals, command_before, call_of_parts, end_of_parts, line_of_parts, line_or_kind, size_up_to, sizes_of, header_of_parts, header_of_line, fault_at, end_from, line_or_fault, next_calls, calls_from, header_or_fault, history_or_fault, history_of, Gives}
 
 -- ---- answers
 

@@ -1,5 +1,5 @@
 -- What a history is spelled as is read as that history.
-use Rattle.std.proofs.Common.{◌≡◌, ℕ, ℤ, pos, negsuc, ◌+◌, ◌^◌, ◌<◌, ◌≤◌, Bool, true, false, cond, leb, eqb, ◌&&◌, List, [], ◌∷◌, ◌++◌, length, Option, Some, None, Result, Ok, Err, refl, sym, ap, subst, ◌∙◌, append_assoc, arith, eq-eqb}
+use Rattle.std.proofs.Common.{◌≡◌, ℕ, pos, negsuc, ◌+◌, ◌^◌, ◌<◌, ◌≤◌, Bool, true, false, cond, leb, eqb, ◌&&◌, List, [], ◌∷◌, ◌++◌, length, Option, Some, None, Result, Ok, Err, refl, sym, ap, subst, ◌∙◌, append_assoc, arith, eq-eqb}
 use Rattle.std.specs.Prelude.{codes, decimal}
 use Rattle.std.specs.Fmt.{signed_decimal}
 use Rattle.std.specs.Option.{option_map}
@@ -18,7 +18,7 @@ use Rattle.rh_layout.specs.declared.command.Reply.TheVariants.{Done, Nil, Int, O
 use Rattle.rh_layout.specs.declared.command.RootId.{RootId}
 use Rattle.rh_layout.specs.declared.refusal.Refusal.{Refusal}
 use Rattle.rh_layout.specs.declared.refusal.Refusal.TheVariants.{NoRoot, NotYours, NotObject, NoField, IntRange, FieldsRange, SpaceFull, LogFull, NumbersSpent}
-use Rattle.rh_text.specs.Number.{IsU32, number_of, integer_of}
+use Rattle.rh_text.specs.Number.{IsU32}
 use Rattle.rh_text.specs.Parts.{begins_with_digit, spell_parts, one_part, two_parts, three_parts, ◌>>=◌ as ◌>>=?◌}
 use Rattle.rh_text.specs.RawLine.{RawLine, lines_of}
 use Rattle.rh_text.specs.Root.{root_text, RootFits}
@@ -27,17 +27,16 @@ use Rattle.rh_text.specs.lemmas.Integers.{i64_size, integer_of-decimal}
 use Rattle.rh_text.specs.lemmas.Numbers.{number_of-decimal}
 use Rattle.rh_text.specs.lemmas.Joins.{IsPart, filled-decimal, decimal_digits, wide_digits, wide_filled, number_part, integer_part, ended_line}
 use Rattle.rh_trace.specs.Spelling.{operand_text, command_parts, OperandFits, CommandFits}
-use Rattle.rh_trace.specs.Reading.{owned_command, checked_parts}
 use Rattle.rh_trace.specs.declared.fault.Kind.{Kind}
 use Rattle.rh_trace.specs.declared.fault.Kind.TheVariants as kinds
-use Rattle.rh_trace.specs.lemmas.SpelledIsRead.{AreParts, IsReadFrom, command-read, checked_parts-join, lines_of-parts, starts_with_digit, begins_with_digit-append}
+use Rattle.rh_trace.specs.lemmas.SpelledIsRead.{AreParts, command-read, checked_parts-join, lines_of-parts, starts_with_digit, begins_with_digit-append}
 use Rattle.rh_replay.specs.declared.call.Call.{Call}
 use Rattle.rh_replay.specs.declared.fault.HistoryKind.{HistoryKind}
 use Rattle.rh_replay.specs.declared.fault.HistoryKind.TheVariants.{Line, Answer, Count}
 use Rattle.rh_replay.specs.declared.fault.HistoryFault.{HistoryFault}
 use Rattle.rh_replay.specs.History.{HistoryState, IsHistory, AnswerFits, CallFits}
-use Rattle.rh_replay.specs.Spelling.{header_parts, header_line, call_line, end_parts, end_line, spelling, answer_parts, IsReadable}
-use Rattle.rh_replay.specs.Reading.{bare_answer, sameness_of, refusal_named, answer_with, answer_or, answer_of, before_equals, after_equals, command_before, call_of_parts, end_of_parts, line_of_parts, line_or_kind, size_up_to, sizes_of, header_of_parts, header_of_line, fault_at, end_from, line_or_fault, next_calls, calls_from, header_or_fault, history_or_fault, history_of}
+use Rattle.rh_replay.specs.Spelling.{header_parts, call_line, end_parts, end_line, spelling, answer_parts, IsReadable}
+use Rattle.rh_replay.specs.Reading.{bare_answer, sameness_of, refusal_named, answer_with, answer_of, before_equals, after_equals, command_before, call_of_parts, end_of_parts, line_of_parts, line_or_kind, size_up_to, sizes_of, header_of_parts, header_of_line, fault_at, end_from, line_or_fault, next_calls, calls_from, header_or_fault, history_or_fault, history_of}
 use Rattle.rh_replay.proofs.Equals.{before_equals-append, after_equals-append}
 use Rattle.rh_replay.proofs.ReadIsSpelled.{call_parts, call_text, some_command}
 

@@ -37,8 +37,8 @@ pub fn what_is_spelled_is_read()
 {}
 
 /// The fault that reading names is the one that comes first in the order of the format: it holds on
-/// its line, and any other that holds is on a later line or at a later place of this line. What is
-/// read has no fault.
+/// its line, and any other that holds is on a later line or at a later position of this line. What
+/// is read has no fault.
 pub fn the_first_fault_is_named()
     ensures first { (bytes : List ℕ) (fault : FaultOf) → history_of bytes ≡ Err fault
         → IsFirst (text_faults (lines_of bytes)) fault.line fault.kind }

@@ -17,8 +17,8 @@ use rh_layout::{Command, MAX_OWNERS, MAX_SLOTS};
 use rh_text::{cut, next_part, one_part, read_number, three_parts};
 use rh_trace::{Kind, checked_parts, owned_command};
 
-/// What stands in a line before its last bytes, so many of them, and before the space in front of
-/// these: `None` where they are all of the line.
+/// What stands in a line before its last bytes, so many of them, and before the space before these:
+/// `None` where they are all of the line.
 fn before_last(line: &[u8], count: usize) -> Option<&[u8]>
     requires { count ≤ length line.now }
     ensures none { count ≡ length line.now → result ≡ None }

@@ -1,4 +1,4 @@
-use Rattle.std.proofs.Common.{◌≡◌, ℕ, ◌≤◌, true, false, Result, sym, ap, subst, ◌∙◌, arith}
+use Rattle.std.proofs.Common.{◌≤◌, Result, sym, subst, arith}
 use Rattle.rh_text.specs.RawLine.{RawLine}
 use Rattle.rh_dump.specs.Line.{DumpLine}
 use Rattle.rh_dump.specs.Putting.{put_read, Tells}

@@ -1,4 +1,4 @@
-use Rattle.std.proofs.Common.{◌≡◌, refl, sym, ap, subst, ◌∙◌, arith}
+use Rattle.std.proofs.Common.{sym, ap, subst, ◌∙◌, arith}
 use Rattle.rh_dump.specs.Meeting.{NumberingState, IsDumpable, numbering_after}
 use Rattle.rh_dump.proofs.NumberingSteps.{rooted, IsDumpOf-last}
 use Rattle.rh_dump.proofs.numbering.dump_of_source.Goals as goal

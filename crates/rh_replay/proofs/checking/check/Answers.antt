@@ -1,5 +1,5 @@
-use Rattle.std.proofs.Common.{◌≡◌, ◌+◌, ◌<◌, length, refl, ap, arith}
-use Rattle.rh_replay.proofs.Replays.{played_more, right_more, first_wrong, all_right}
+use Rattle.std.proofs.Common.{◌+◌, length, refl, ap, arith}
+use Rattle.rh_replay.proofs.Replays.{played_more, right_more}
 use Rattle.rh_replay.proofs.checking.check.Goals as goal
 
 pub overflow_add-count : goal.overflow_add-count

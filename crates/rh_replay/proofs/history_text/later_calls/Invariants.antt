@@ -1,4 +1,4 @@
-use Rattle.std.proofs.Common.{◌≡◌, ◌+◌, ◌≤◌, length}
+use Rattle.std.proofs.Common.{◌≡◌, ◌≤◌, length}
 use Rattle.rh_text.specs.RawLine.{lines_of}
 use Rattle.rh_replay.specs.Reading.{calls_from}
 use Rattle.rh_replay.proofs.CallsInTurn.{after_prefix}

@@ -1,4 +1,3 @@
-use Rattle.std.proofs.Common.{◌≡◌, true, false, sym, ap, ◌∙◌}
 use Rattle.rh_text.specs.lemmas.Cuts.{cut_shorter}
 use Rattle.rh_replay.proofs.reading.after_equals.Goals as goal
 
