@@ -3,8 +3,9 @@
 use crate::devices::{SlowReader, SlowWriter};
 use crate::expectations::{expect_equal, expect_prefix, expect_refusals};
 use crate::texts::{
-    FOUR_CYCLES, FOUR_CYCLES_ANSWERS, JOINED, JOINED_ANSWERS, TOO_MANY, TOO_MANY_ANSWERS,
-    TWO_EPOCHS, TWO_EPOCHS_ANSWERS, WHOLE_CYCLE, WHOLE_CYCLE_ANSWERS, repeated,
+    FOUR_CYCLES, FOUR_CYCLES_ANSWERS, JOINED, JOINED_ANSWERS, LARGE_TRAYS, LARGE_TRAYS_ANSWERS,
+    TOO_MANY, TOO_MANY_ANSWERS, TWO_EPOCHS, TWO_EPOCHS_ANSWERS, WHOLE_CYCLE, WHOLE_CYCLE_ANSWERS,
+    repeated,
 };
 use refusing::refused_in_turn;
 use rh_trace::{RunFault, Summary, run_trace};
@@ -158,12 +159,16 @@ fn writes_before_refusal<A: Allocator + Copy>(
     Some(writer.writes)
 }
 
-#[test]
-fn refused_memory(rt: HostRuntime) {
-    // A bit for each number of writes before a refusal: none, or those before a deal or a join.
+/// Runs a trace, each of its allocations refused in turn, and expects so many or more. Answers a
+/// bit for each number of writes before a refusal.
+fn writes_before_refusals(
+    rt: &(impl AllocGlobal + Abort),
+    (input, answers): (&[u8], &[u8]),
+    least: u64,
+) -> u32 {
     let seen = Cell::new(0_u32);
     let refused = refused_in_turn(rt.alloc(), |memory| {
-        match writes_before_refusal(&rt, memory, JOINED, JOINED_ANSWERS) {
+        match writes_before_refusal(rt, memory, input, answers) {
             Some(writes) => {
                 seen.set(seen.get() | 1_u32.wrapping_shl(writes));
                 true
@@ -171,6 +176,20 @@ fn refused_memory(rt: HostRuntime) {
             None => false,
         }
     });
-    expect_refusals(&rt, refused, 20);
-    expect_equal(&rt, seen.get(), 0b1_1111_1010_0001);
+    expect_refusals(rt, refused, least);
+    seen.get()
+}
+
+#[test]
+fn refused_memory(rt: HostRuntime) {
+    // None, or those before a join, or before a deal for which the tray has no room.
+    let seen = writes_before_refusals(&rt, (JOINED, JOINED_ANSWERS), 20);
+    expect_equal(&rt, seen, 0b1_1110_1010_0001);
+}
+
+#[test]
+fn refused_memory_of_large_trays(rt: HostRuntime) {
+    // None, or those before a join, or before a deal for which the tray has no room.
+    let seen = writes_before_refusals(&rt, (LARGE_TRAYS, LARGE_TRAYS_ANSWERS), 25);
+    expect_equal(&rt, seen, 0b11_1100_1011_1101_1100_0001);
 }

@@ -81,6 +81,13 @@ pub const TOO_MANY: &[u8] =
 pub const TOO_MANY_ANSWERS: &[u8] =
     b"object 65\ncycle 1\nobject 5\nplaced\ndealt 64 passed 0\ndealt 1 passed 0\nrefused TooMany\nstat used 74 free 950 cycle on epoch 1 number 0 log 0 granted 392 spent 68 placed 1 missing 65\ntotal commands 2 refused 0 flips 0 rootwords 0\n";
 
+/// Trays that take 64 fields a deal, of two objects of 300, and are joined in both orders.
+pub const LARGE_TRAYS: &[u8] =
+    b"heap 1024 64 8 2 3\n1 alloc 1.0 300\n1 alloc 1.1 300\nbegin\n1 alloc 1.2 14\nshade 1.0\nshade 1.1\ndeal copies 4294967295 a\ndeal copies 4294967295 a\ndeal copies 4294967295 a\ndeal copies 4294967295 a\ndeal copies 4294967295 a\ndeal copies 4294967295 b\ndeal copies 4294967295 b\ndeal copies 4294967295 b\ndeal copies 4294967295 b\ndeal copies 4294967295 b\n1 store 1.0 0 9\ndeal entries 9 b\njoin c a\njoin c b\njoin d b\njoin d a\ntrays\n";
+
+pub const LARGE_TRAYS_ANSWERS: &[u8] =
+    b"object 300\nobject 300\ncycle 1\nobject 14\nplaced\nplaced\ndealt 64 passed 0\ndealt 64 passed 0\ndealt 64 passed 0\ndealt 64 passed 0\ndealt 64 passed 0\ndealt 64 passed 0\ndealt 64 passed 0\ndealt 64 passed 0\ndealt 64 passed 0\ndealt 24 passed 0\ndone\ndealt 1 passed 0\njoined 320\njoined 600\njoined 281\njoined 600\ntray a epoch 1 entries 320\ntray b epoch 1 entries 281\ntray c epoch 1 entries 600\ntray d epoch 1 entries 600\ntotal commands 4 refused 0 flips 0 rootwords 0\n";
+
 /// Trays of two epochs joined, listed in order of first use and given.
 pub const TWO_EPOCHS: &[u8] =
     b"heap 64 8 8 2 2\n1 alloc 1.0 2\nbegin\n1 alloc 1.1 3\n1 drop 1.1\nshade 1.0\ndeal copies 9 z\ngive z\nflip\nbegin\n1 alloc 1.1 3\n1 drop 1.1\nshade 1.0\ndeal copies 1 m\njoin a z\njoin m z\njoin z m\ntrays\ngive z\ngive m\ngive a\n";

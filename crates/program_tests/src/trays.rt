@@ -271,5 +271,5 @@ fn is_refused_trays<A: Allocator + Copy>(rt: &impl Abort, memory: A) -> bool {
 #[test]
 fn refused_memory(rt: HostRuntime) {
     let refused = refused_in_turn(rt.alloc(), |memory| is_refused_trays(&rt, memory));
-    expect_refusals(&rt, refused, 13);
+    expect_refusals(&rt, refused, 12);
 }
