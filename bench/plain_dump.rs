@@ -1,5 +1,5 @@
-// What `bench/dump` times beside the reader and writer of dumps: the same text read into vectors and
-// written to memory again by plain Rust, which looks at no limit and no order. Prints how many
+// What `bench/dump` times beside the reader and writer of dumps: the same text read into vectors
+// and written to memory again by plain Rust, which looks at no limit and no order. Prints how many
 // objects there are and how many bytes were written.
 
 use std::io::{Read, Write};
@@ -26,10 +26,11 @@ fn put(text: &mut Vec<u8>, value: &Value) -> std::io::Result<()> {
     }
 }
 
-fn copied(is_copied: bool) -> Option<(usize, usize)> {
-    let mut input = Vec::new();
-    std::io::stdin().read_to_end(&mut input).ok()?;
-    let mut lines = std::str::from_utf8(&input).ok()?.lines();
+type Root = (u32, u32, Value);
+
+// The roots, how many fields each object has, and all values in order.
+fn read(input: &[u8]) -> Option<(Vec<Root>, Vec<u32>, Vec<Value>)> {
+    let mut lines = std::str::from_utf8(input).ok()?.lines();
     let (mut roots, mut counts, mut values) = (Vec::new(), Vec::new(), Vec::new());
     lines.next()?;
     let many: usize = lines.next()?.strip_prefix("roots ")?.parse().ok()?;
@@ -46,26 +47,36 @@ fn copied(is_copied: bool) -> Option<(usize, usize)> {
             values.push(value_of(part)?);
         }
     }
+    Some((roots, counts, values))
+}
+
+fn write(roots: &[Root], counts: &[u32], values: &[Value]) -> std::io::Result<Vec<u8>> {
     let mut text = Vec::new();
-    if is_copied {
-        write!(text, "rheap 1\nroots {}\n", roots.len()).ok()?;
-        for (owner, slot, value) in &roots {
-            write!(text, "{owner}.{slot} ").ok()?;
-            put(&mut text, value).ok()?;
-            text.push(b'\n');
-        }
-        writeln!(text, "objects {}", counts.len()).ok()?;
-        let mut rest = values.iter();
-        for (number, count) in counts.iter().enumerate() {
-            write!(text, "@{number} {count}").ok()?;
-            for value in rest.by_ref().take(*count as usize) {
-                text.push(b' ');
-                put(&mut text, value).ok()?;
-            }
-            text.push(b'\n');
-        }
-        text.extend_from_slice(b"end\n");
+    write!(text, "rheap 1\nroots {}\n", roots.len())?;
+    for (owner, slot, value) in roots {
+        write!(text, "{owner}.{slot} ")?;
+        put(&mut text, value)?;
+        text.push(b'\n');
     }
+    writeln!(text, "objects {}", counts.len())?;
+    let mut rest = values.iter();
+    for (number, count) in counts.iter().enumerate() {
+        write!(text, "@{number} {count}")?;
+        for value in rest.by_ref().take(*count as usize) {
+            text.push(b' ');
+            put(&mut text, value)?;
+        }
+        text.push(b'\n');
+    }
+    text.extend_from_slice(b"end\n");
+    Ok(text)
+}
+
+fn copied(is_copied: bool) -> Option<(usize, usize)> {
+    let mut input = Vec::new();
+    std::io::stdin().read_to_end(&mut input).ok()?;
+    let (roots, counts, values) = read(&input)?;
+    let text = if is_copied { write(&roots, &counts, &values).ok()? } else { Vec::new() };
     Some((counts.len(), text.len()))
 }
 

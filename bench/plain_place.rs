@@ -1,6 +1,5 @@
 // What `bench/place` times beside the layer: the same copying by a loop over two plain vectors of
-// words, with no
-// header, number or forward word looked at. Prints how many fields were copied.
+// words, with no header, number or forward word looked at. Prints how many fields were copied.
 
 fn main() {
     let words: usize = std::env::args().nth(1).and_then(|text| text.parse().ok()).unwrap_or(64);
