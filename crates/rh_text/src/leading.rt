@@ -41,8 +41,8 @@ pub fn after_bytes<'a>(prefix: &[u8], text: &'a [u8]) -> Option<&'a [u8]>
 }
 
 /// The number with which the text begins, of at most eight digits, and what stands after it. It is
-/// found where a byte that is no digit stands after it; `0` is found whatever stands after it, and
-/// also where the text ends with it.
+/// found where a byte that is no digit stands after it; `0` may be found whatever stands after it,
+/// and also where the text ends with it.
 #[inline(always)]
 pub fn leading_number(text: &[u8]) -> Option<(u32, &[u8])>
     ensures { MatchOption result
@@ -50,7 +50,7 @@ pub fn leading_number(text: &[u8]) -> Option<(u32, &[u8])>
         → text.now ≢ decimal number ++ byte ∷ rest)
         (λ x. IsU32 x.0 × (text.now ≡ decimal x.0 ++ x.1.now)
         × (x.0 ≢ 0 → (byte : ℕ) × (after : List ℕ) × IsOutOfRange 48 57 byte
-        × (x.1.now ≡ byte ∷ after))) }
+        × (x.1.now ≡ byte ∷ after)) × (x.0 < 10 ^ 8)) }
 {
     let [first, rest @ ..] = text else {
         return None;

@@ -21,7 +21,7 @@ returns c = λ number byte rest small out is.
     omega (arith, (digits_end c.args.text.now rest number byte small is c.loop-i.i out i.within i.reads.digits).1, c.loop-i-test.false)
 
 pub returns-then-first-eq48 : goal.returns-then-first-eq48
-returns-then-first-eq48 c = (omega arith, zero_leads c.args.text.now c.if-first-eq48.true, λ some. absurd (some refl))
+returns-then-first-eq48 c = (omega arith, zero_leads c.args.text.now c.if-first-eq48.true, λ some. absurd (some refl), omega arith)
 
 pub returns-then-not-is_ascii_digit-2 : goal.returns-then-not-is_ascii_digit-2
 returns-then-not-is_ascii_digit-2 c =
@@ -30,6 +30,7 @@ returns-then-not-is_ascii_digit-2 c =
       omega (arith, below_power c.args.text.now c.loop-i.i c.loop-i.number 8 few i.reads),
       number_leads c.args.text.now c.loop-i.rest.now c.loop-i.i c.loop-i.number i.rest i.filled few i.within i.leading i.reads,
       λ some. (get_or c.loop-i.rest.now 0 0, drop 1 c.loop-i.rest.now, c.if-not-is_ascii_digit-2.ensures.cases, drop_more c.loop-i.rest.now 0 0 (omega (arith, c.in-len1-up-rest.len_at_least))),
+      below_power c.args.text.now c.loop-i.i c.loop-i.number 8 few i.reads,
     )
 
 pub overflow_mul-number : goal.overflow_mul-number
