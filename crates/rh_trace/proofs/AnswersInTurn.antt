@@ -83,7 +83,7 @@ pub no_fault : (o : Option ConfigFault) → ((f : ConfigFault) → o ≡ Some f 
 no_fault None h = refl
 no_fault (Some f) h = absurd (h f refl)
 
--- where nothing was written, nothing of the total line was, and all that is due where there is a fault
+-- where nothing was written, nothing of the total line was, whether or not there is a fault
 unwritten_script : (fault : Option ConfigFault) (script : Script) (a : Option (List ℕ)) → StopsBeforeTotal (run_of_script fault script) a a
 unwritten_script (Some fault) script a = Keeps-same a
 unwritten_script None script a =

@@ -1,9 +1,8 @@
 -- What a run writes are the answers of a plain heap.
 use Rattle.std.proofs.Common.{◌≡◌, ◌⊎◌, inl, inr, ℕ, ◌<◌, List, [], ◌∷◌, ◌++◌, length, Option, Some, None, Result, Ok, Err, refl, sym, ap, subst, ◌∙◌, arith}
 use Rattle.std.specs.Prelude.{IfOk, IsErrOf}
-use Rattle.std.specs.Io.KnownBytes as bytes
 use Rattle.std.specs.List.{flat_map}
-use Rattle.std.specs.Io.KnownBytes.{Appends, Consumes}
+use Rattle.std.specs.Io.KnownBytes.{Appends, Consumes, Keeps}
 use Rattle.std.proofs.lemmas.List.{length-append, append_cancel_right}
 use Rattle.rh_model.specs.Plain.{PlainHeap, empty_plain}
 use Rattle.rh_core.specs.declared.config.Config.{Config}
@@ -50,8 +49,8 @@ abbrev pub Dumps : Type 0
 Dumps = (h : HeapState) (p : PlainHeap) → StandsFor h.mutators p → dump_of h ≡ plain_dump_of p
 
 -- each event keeps a heap well formed
-abbrev pub Keeps : Type 0 → Type 0
-Keeps A = (h : HeapState) → IsWellFormed h → (event : Event A) → IsWellFormed (event_step h event).0
+abbrev pub StaysWellFormed : Type 0 → Type 0
+StaysWellFormed A = (h : HeapState) → IsWellFormed h → (event : Event A) → IsWellFormed (event_step h event).0
 
 -- a well-formed heap that stands for a plain heap answers an event as it does, and goes on to stand for it
 abbrev pub Steps : Type 0 → Type 0
@@ -72,7 +71,7 @@ heap-deal_done : (h : HeapState) (dealt : Result Dealt DealError) (trays : Trays
 heap-deal_done h (Ok dealt) trays name = refl
 heap-deal_done h (Err why) trays name = refl
 
-module _ {A : Type 0} (keeps : Keeps A) (steps : Steps A) where
+module _ {A : Type 0} (keeps : StaysWellFormed A) (steps : Steps A) where
   event-plain : (h : HeapState) (p : PlainHeap) → IsPlain h p → (event : Event A) → IsPlain (event_step h event).0 (events.plain_after p event (event_step h event).1)
   event-plain h p plain event = (keeps h plain.0 event, (steps h plain.0 p plain.1 event).1)
 
@@ -155,7 +154,7 @@ run_is_due (Err fault) prefix rest e some = absurd (omega (arith, ap length e, l
 
 -- the heap was made, unless memory for it was refused and nothing was written
 abbrev pub IsBegunOr : List ℕ → Result Summary RunFault → Option (List ℕ) → Option (List ℕ) → Type 0
-IsBegunOr input result old new = (IsErrOf result faults.OutOfMemory × bytes.Keeps old new) ⊎ IsBegun input
+IsBegunOr input result old new = (IsErrOf result faults.OutOfMemory × Keeps old new) ⊎ IsBegun input
 
 begun_unless : (input : List ℕ) (result : Result Summary RunFault) (old new : Option (List ℕ)) → IsBegunOr input result old new → ¬ IsErrOf result faults.OutOfMemory → IsBegun input
 begun_unless input result old new (inl refused) other = absurd (other refused.0)
@@ -166,7 +165,7 @@ abbrev IsStopped : Result (List ℕ × Summary) RunFault → Option (List ℕ) �
 IsStopped due old new = (run : List ℕ × Summary) × (due ≡ Ok run) × StopsBeforeTotal (Ok run) old new
 
 -- a text was to be written, or nothing was written
-stops : (due : Result (List ℕ × Summary) RunFault) (old new : Option (List ℕ)) → StopsBeforeTotal due old new → bytes.Keeps old new ⊎ IsStopped due old new
+stops : (due : Result (List ℕ × Summary) RunFault) (old new : Option (List ℕ)) → StopsBeforeTotal due old new → Keeps old new ⊎ IsStopped due old new
 stops (Ok run) old new ends = inr (run, refl, ends)
 stops (Err fault) old new kept = inl kept
 
@@ -178,7 +177,7 @@ IsPlainCut from to old new = (script : Script) × (answers : List Answered) × I
 abbrev pub IsPlainStop : Option (List ℕ) → Option (List ℕ) → Option (List ℕ) → Option (List ℕ) → Type 0
 IsPlainStop from to old new = (script : Script) × (answers : List Answered) × IsPlainRun script answers from to × AppendsPrefix old new (flat_map answered_text answers)
 
-module _ {A : Type 0} (keeps : Keeps A) (steps : Steps A) (begins : Begins) (dumps : Dumps) (input : List ℕ) (from to old new : Option (List ℕ)) (consumed : Consumes from to input) where
+module _ {A : Type 0} (keeps : StaysWellFormed A) (steps : Steps A) (begins : Begins) (dumps : Dumps) (input : List ℕ) (from to old new : Option (List ℕ)) (consumed : Consumes from to input) where
   pub plain : (result : Result Summary RunFault) → IsBegunOr input result old new → Ends (run_of_trace (trace_of input)) result old new
       → IfOk result (λ summary. (script : Script) × (answers : List Answered) × IsPlainRun script answers from to × (summary ≡ summary_of answers) × Appends old new (output_of answers))
   plain (Err fault) begun ends = tt
@@ -197,7 +196,7 @@ module _ {A : Type 0} (keeps : Keeps A) (steps : Steps A) (begins : Begins) (dum
       let fine = begun_unless input result old new begun (λ same. absurd cc) ran.script ran.is ran.faultless in
       (ran.script, answers_of ran.script, plain_run keeps steps begins dumps input ran.script from to consumed ran.is fine, subst (AppendsLess old new) (ap text_of some.1 ∙ ran.text) less)
 
-  stop_is_plain : IsBegun input → bytes.Keeps old new ⊎ IsStopped (run_of_trace (trace_of input)) old new → bytes.Keeps old new ⊎ IsPlainStop from to old new
+  stop_is_plain : IsBegun input → Keeps old new ⊎ IsStopped (run_of_trace (trace_of input)) old new → Keeps old new ⊎ IsPlainStop from to old new
   stop_is_plain begun (inl kept) = inl kept
   stop_is_plain begun (inr stopped) =
       let ran = run_ok (trace_of input) stopped.0 stopped.1 in
@@ -207,7 +206,7 @@ module _ {A : Type 0} (keeps : Keeps A) (steps : Steps A) (begins : Begins) (dum
       let same : stopped.2.0 ≡ text = append_cancel_right stopped.2.0 text (total_line (summary_of answers)) (ap (λ (s : Summary). stopped.2.0 ++ total_line s) (sym ran.summary) ∙ sym stopped.2.1 ∙ ran.text) in
       inr (ran.script, answers, plain_run keeps steps begins dumps input ran.script from to consumed ran.is fine, subst (AppendsPrefix old new) same stopped.2.2)
 
-  pub plain_memory : (result : Result Summary RunFault) → IsBegunOr input result old new → Ends (run_of_trace (trace_of input)) result old new → IsErrOf result faults.OutOfMemory → bytes.Keeps old new ⊎ IsPlainStop from to old new
+  pub plain_memory : (result : Result Summary RunFault) → IsBegunOr input result old new → Ends (run_of_trace (trace_of input)) result old new → IsErrOf result faults.OutOfMemory → Keeps old new ⊎ IsPlainStop from to old new
   plain_memory result (inl refused) ends failed = inl refused.1
   plain_memory result (inr begun) ends failed =
       let due = run_of_trace (trace_of input) in

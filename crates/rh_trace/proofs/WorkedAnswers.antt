@@ -1,4 +1,4 @@
--- The definitions at work: the texts of the answers to the lines of a cycle.
+-- The definitions at work: the texts of the answers to the lines of a cycle, and of all refusals.
 use Rattle.std.proofs.Common.{◌≡◌, [], ◌∷◌, Ok, Err, refl}
 use Rattle.std.specs.Prelude.{ℕ, List, map, ◌++◌, true, false, codes}
 use Rattle.std.specs.Fmt.{digits}
@@ -153,12 +153,12 @@ missing = refl
 no_epoch_to_flip : flip_text (Err flips.EpochsSpent) ≡ codes "refused EpochsSpent"
 no_epoch_to_flip = refl
 
--- a tray of the first epoch, with one entry
+-- a tray of the second epoch, with one entry
 one_entry : Tray
 one_entry =
-    record { epoch = 1; entries = record { object = 0; field = 0; number = 0; value = Nil } ∷ [] }
+    record { epoch = 2; entries = record { object = 0; field = 0; number = 0; value = Nil } ∷ [] }
 
-listed : tray_text (codes "a") one_entry ≡ codes "tray a epoch 1 entries 1"
+listed : tray_text (codes "a") one_entry ≡ codes "tray a epoch 2 entries 1"
 unfolding digits one_entry
 listed = refl
 

@@ -142,9 +142,9 @@ keyword_part_faults parts =
 -- the faults of the parts of a line after the first: those of a command line where it begins with
 -- an owner, and else those of a line that begins with its keyword
 abbrev pub line_part_faults : List (List ℕ) → ℕ → Kind → Type 0
-line_part_faults parts place kind =
-    (BeginsWithOwner parts × command_part_faults parts place kind)
-    ⊎ ((¬ BeginsWithOwner parts) × keyword_part_faults parts place kind)
+line_part_faults parts position kind =
+    (BeginsWithOwner parts × command_part_faults parts position kind)
+    ⊎ ((¬ BeginsWithOwner parts) × keyword_part_faults parts position kind)
 
 -- the first part is this word
 abbrev pub IsFirstPart : List ℕ → List (List ℕ) → Type 0
@@ -173,8 +173,8 @@ header_faults line = raw_line_faults header_part_faults 1 line
 abbrev pub line_faults : ℕ → RawLine → ℕ → Kind → Type 0
 line_faults n line = raw_line_faults line_part_faults n line
 
--- the faults of a text of these lines, each on its line and at its place there
+-- the faults of a text of these lines, each on its line and at its position there
 abbrev pub trace_faults : List RawLine → ℕ → ℕ → Kind → Type 0
-trace_faults [] line place kind = (line ≡ 1) × (place ≡ 0) × (kind ≡ Empty)
-trace_faults (first ∷ others) line place kind =
-    ((line ≡ 1) × header_faults first place kind) ⊎ in_lines line_faults 2 others line place kind
+trace_faults [] line position kind = (line ≡ 1) × (position ≡ 0) × (kind ≡ Empty)
+trace_faults (first ∷ others) line position kind =
+    ((line ≡ 1) × header_faults first position kind) ⊎ in_lines line_faults 2 others line position kind

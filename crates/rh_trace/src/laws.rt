@@ -1,5 +1,4 @@
-//! Laws of the definitions alone. Each function does nothing, or lends other laws to its own proof:
-//! its contract is the law.
+//! Laws of the definitions alone. Each function does nothing: its contract is the law.
 
 ghost use Rattle.std.specs.Prelude.{◌≡◌, ℕ, List, Ok, Err};
 ghost use Rattle.rh_text.specs.RawLine.{RawLine, lines_of, raw_text};

@@ -101,9 +101,8 @@ fn run_input<A: Allocator + Copy, W: io::Write>(
 /// Of the faults of an input the first is answered: `Long`, then `Trace`, then `New`. `Read` comes
 /// where a read failed or was one too many, `Write` where a write failed or 33,554,432 writes of
 /// one line didn't come to its end, `OutOfMemory` where the allocator refused memory, also at a
-/// deal, a join or a dump. After `Write` a prefix of the text may be written, and not all of it;
-/// after `OutOfMemory` a prefix of the answers, and nothing of the total line. `run_trace_told` says
-/// of Read and Write that they come nowhere else.
+/// deal, a join or a dump; what may be written then, `RunFault` says. `run_trace_told` says of Read
+/// and Write that they come nowhere else.
 pub fn run_trace<A: Allocator + Copy, R: io::Read, W: io::Write>(
     alloc: A,
     reader: &mut R,

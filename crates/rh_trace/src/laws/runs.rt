@@ -1,8 +1,9 @@
 //! Laws of the lines of a trace, run one after the other.
 
-ghost use Rattle.std.specs.Prelude.{◌≡◌, ℕ, List, Some};
+ghost use Rattle.std.specs.Prelude.{◌≡◌, ℕ, ◌^◌, List, [], Some};
 ghost use Rattle.rh_core.specs.declared.outcomes.Kind.{Kind as KindOf};
 ghost use Rattle.rh_core.specs.Giving.{HaveDistinctPlaces};
+ghost use Rattle.rh_core.specs.Heap.{new_heap};
 ghost use Rattle.rh_core.specs.Run.{answers_of, heap_after};
 ghost use Rattle.rh_core.specs.Stat.{stat_of};
 ghost use Rattle.rh_dump.specs.HeapDump.{dump_of};
@@ -10,9 +11,10 @@ ghost use Rattle.rh_trace.specs.Answers as answers;
 ghost use Rattle.rh_trace.specs.Engine.{EngineState, deal_line_step, give_line_step, join_line_step};
 ghost use Rattle.rh_trace.specs.Events.{events_asked, events_of, MayChangeTrays, TellsAnswer};
 ghost use Rattle.rh_trace.specs.Line.{asked_of};
-ghost use Rattle.rh_trace.specs.Run.{engine_after, line_step, new_run};
+ghost use Rattle.rh_trace.specs.Run.{config_of, engine_after, line_step, new_run};
 ghost use Rattle.rh_trace.specs.Spelling.{Script};
 ghost use Rattle.rh_trace.specs.Trays.{Tray, tray_named, AreFewInOrder};
+ghost use Rattle.rh_trace.specs.declared.line.Header.{Header as HeaderOf};
 ghost use Rattle.rh_trace.specs.declared.line.Line.{Line as LineOf};
 ghost use Rattle.rh_trace.specs.declared.line.Line.TheVariants as forms;
 
@@ -28,6 +30,21 @@ pub fn the_lines_of_a_trace_are_events<A: Allocator + Copy>()
     ensures answer { (e : EngineState) (line : LineOf)
         → TellsAnswer (answers_of {A = A} e.heap (events_asked {A = A} e (asked_of line)))
         (line_step e line).1 }
+{}
+
+/// A trace begins with a new heap of the sizes of its first line, 2^62 store numbers and 2^62
+/// epochs, and with no trays.
+pub fn a_trace_has_the_heap_of_its_first_line()
+    ensures words { (header : HeaderOf) → (config_of header).words ≡ header.words }
+    ensures ratio { (header : HeaderOf) → (config_of header).ratio ≡ header.ratio }
+    ensures owners { (header : HeaderOf) → (config_of header).owners ≡ header.owners }
+    ensures slots { (header : HeaderOf) → (config_of header).slots ≡ header.slots }
+    ensures log { (header : HeaderOf) → (config_of header).log_limit ≡ header.log }
+    ensures numbers { (header : HeaderOf) → (config_of header).last_number ≡ 2 ^ 62 }
+    ensures epochs { (header : HeaderOf) → (config_of header).last_epoch ≡ 2 ^ 62 }
+    ensures run { (script : Script)
+        → (new_run script).heap ≡ new_heap (config_of script.header) }
+    ensures trays { (script : Script) → (new_run script).trays ≡ [] }
 {}
 
 /// A deal, a give and a join are the steps of the engine on the trays that they name, of which the
