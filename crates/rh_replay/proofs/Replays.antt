@@ -50,12 +50,12 @@ module _ (h : HistoryState) (calls : List Call) (i : ℕ) (d : Call) (p q : Plai
       let same : get_or calls i d ≡ call = same_call (get_or calls i d) call (sym stands ∙ at) in
       subst (λ (c : Call). c.answer ≡ answer_after h i c) same (right ∙ expected_is)
 
-  pub right_more : (get_or calls i d).answer ≡ expected → ((place : ℕ) → place < i → IsRightAt h place) → (place : ℕ) → place < i + 1 → IsRightAt h place
-  right_more right before = below_more (λ place. IsRightAt h place) i before (right_here right)
+  pub right_more : (get_or calls i d).answer ≡ expected → ((position : ℕ) → position < i → IsRightAt h position) → (position : ℕ) → position < i + 1 → IsRightAt h position
+  right_more right before = below_more (λ position. IsRightAt h position) i before (right_here right)
 
-  pub first_wrong : ((get_or calls i d).answer ≡ expected → ⊥) → ((place : ℕ) → place < i → IsRightAt h place) → (at : ℕ) → at ≡ i + 1 → IsFirstWrong h at expected
+  pub first_wrong : ((get_or calls i d).answer ≡ expected → ⊥) → ((position : ℕ) → position < i → IsRightAt h position) → (at : ℕ) → at ≡ i + 1 → IsFirstWrong h at expected
   first_wrong wrong before at counted = record {
-    place = i;
+    position = i;
     call = get_or calls i d;
     counted = counted;
     stands = stands;
@@ -65,22 +65,22 @@ module _ (h : HistoryState) (calls : List Call) (i : ℕ) (d : Call) (p q : Plai
   }
 
 -- all calls were right
-pub all_right : (h : HistoryState) (calls : List Call) (i : ℕ) → calls ≡ h.calls → length calls ≤ i → ((place : ℕ) → place < i → IsRightAt h place) → IsLegal h
-all_right h calls i are over before place call at =
-    let within = slice_get_within h.calls place call at in
+pub all_right : (h : HistoryState) (calls : List Call) (i : ℕ) → calls ≡ h.calls → length calls ≤ i → ((position : ℕ) → position < i → IsRightAt h position) → IsLegal h
+all_right h calls i are over before position call at =
+    let within = slice_get_within h.calls position call at in
     let same : length calls ≡ length h.calls = ap length are in
-    before place (omega (arith, within, same, over)) call at
+    before position (omega (arith, within, same, over)) call at
 
 -- ---- there is one verdict
 
 legal_or_wrong : (h : HistoryState) (at : ℕ) (expected : Result Reply Refusal) → IsLegal h → IsFirstWrong h at expected → ⊥
-legal_or_wrong h at expected legal w = w.wrong (legal w.place w.call w.stands ∙ sym w.answered)
+legal_or_wrong h at expected legal w = w.wrong (legal w.position w.call w.stands ∙ sym w.answered)
 
-not_earlier : (h : HistoryState) (m n : ℕ) (x y : Result Reply Refusal) → (v : IsFirstWrong h m x) → (w : IsFirstWrong h n y) → v.place < w.place → ⊥
-not_earlier h m n x y v w lt = v.wrong (w.first v.place lt v.call v.stands ∙ sym v.answered)
+not_earlier : (h : HistoryState) (m n : ℕ) (x y : Result Reply Refusal) → (v : IsFirstWrong h m x) → (w : IsFirstWrong h n y) → v.position < w.position → ⊥
+not_earlier h m n x y v w lt = v.wrong (w.first v.position lt v.call v.stands ∙ sym v.answered)
 
-same_place : (h : HistoryState) (m n : ℕ) (x y : Result Reply Refusal) → (v : IsFirstWrong h m x) → (w : IsFirstWrong h n y) → v.place ≡ w.place
-same_place h m n x y v w = elim (cases_order v.place w.place) [
+same_position : (h : HistoryState) (m n : ℕ) (x y : Result Reply Refusal) → (v : IsFirstWrong h m x) → (w : IsFirstWrong h n y) → v.position ≡ w.position
+same_position h m n x y v w = elim (cases_order v.position w.position) [
   | inl same ↦ same
   | inr other ↦ elim other [ inl lt ↦ absurd (not_earlier h m n x y v w lt) | inr lt ↦ absurd (not_earlier h n m y x w v lt) ]
 ]
@@ -90,10 +90,10 @@ one_verdict h (Legal m) (Legal n) v w = ap (λ (k : ℕ). Legal k) (v.1 ∙ sym 
 one_verdict h (Legal m) (Wrong n y) v w = absurd (legal_or_wrong h n y v.0 w)
 one_verdict h (Wrong m x) (Legal n) v w = absurd (legal_or_wrong h m x w.0 v)
 one_verdict h (Wrong m x) (Wrong n y) v w =
-    let place = same_place h m n x y v w in
-    let call : v.call ≡ w.call = same_call v.call w.call (sym v.stands ∙ ap (λ (i : ℕ). slice_get h.calls i) place ∙ w.stands) in
-    let at : m ≡ n = v.counted ∙ ap (λ (i : ℕ). i + 1) place ∙ sym w.counted in
-    let answer : x ≡ y = v.answered ∙ ap (λ (i : ℕ). answer_after h i v.call) place ∙ ap (λ (c : Call). answer_after h w.place c) call ∙ sym w.answered in
+    let position = same_position h m n x y v w in
+    let call : v.call ≡ w.call = same_call v.call w.call (sym v.stands ∙ ap (λ (i : ℕ). slice_get h.calls i) position ∙ w.stands) in
+    let at : m ≡ n = v.counted ∙ ap (λ (i : ℕ). i + 1) position ∙ sym w.counted in
+    let answer : x ≡ y = v.answered ∙ ap (λ (i : ℕ). answer_after h i v.call) position ∙ ap (λ (c : Call). answer_after h w.position c) call ∙ sym w.answered in
     ap (λ (k : ℕ). Wrong k x) at ∙ ap (λ (e : Result Reply Refusal). Wrong n e) answer
 
 -- ---- a history grows

@@ -19,21 +19,21 @@ use Rattle.rh_replay.specs.Spelling.{answer_parts}
 -- the faults of a chain, and of another that is looked at only where none of these holds
 infixr 6 ◌▹◌
 abbrev pub ◌▹◌ : {K : Type 0} → (ℕ → K → Type 0) → (ℕ → K → Type 0) → ℕ → K → Type 0
-(faults ▹ later) place kind = faults place kind ⊎ (IsFaultless faults × later place kind)
+(faults ▹ later) position kind = faults position kind ⊎ (IsFaultless faults × later position kind)
 
 -- one of two chains of faults, by a test
 abbrev pub chosen_faults : {K : Type 0} → Bool → (ℕ → K → Type 0) → (ℕ → K → Type 0) → ℕ → K
     → Type 0
-chosen_faults true these those place kind = these place kind
-chosen_faults false these those place kind = those place kind
+chosen_faults true these those position kind = these position kind
+chosen_faults false these those position kind = those position kind
 
 -- faults that a trace's line has too
 abbrev pub of_line : (ℕ → Kind → Type 0) → ℕ → HistoryKind → Type 0
-of_line faults place (Line kind) = faults place kind
-of_line faults place Trailing = ⊥
-of_line faults place Answer = ⊥
-of_line faults place Count = ⊥
-of_line faults place End = ⊥
+of_line faults position (Line kind) = faults position kind
+of_line faults position Trailing = ⊥
+of_line faults position Answer = ⊥
+of_line faults position Count = ⊥
+of_line faults position End = ⊥
 
 -- the part is the decimal of a number from 1 to this one
 abbrev pub IsUpTo : ℕ → List ℕ → Type 0
@@ -77,9 +77,9 @@ cut_call_faults before after =
 
 -- the faults of the parts of a call's line
 abbrev pub call_faults : List (List ℕ) → ℕ → HistoryKind → Type 0
-call_faults parts place kind =
+call_faults parts position kind =
     (before : List (List ℕ)) × (after : List (List ℕ))
-    × AreCutAtEquals parts before after × cut_call_faults before after place kind
+    × AreCutAtEquals parts before after × cut_call_faults before after position kind
 
 -- the part is the decimal of the number of lines between the first line and the line of this number
 abbrev pub IsCount : ℕ → List ℕ → Type 0
@@ -119,18 +119,18 @@ abbrev pub begins_with_end : List (List ℕ) → Bool
 begins_with_end [] = false
 begins_with_end (word ∷ args) = bytes_eq word (codes "end")
 
--- the faults of the lines from this number on, each on its line and at its place there; where no
+-- the faults of the lines from this number on, each on its line and at its position there; where no
 -- line begins with `end`, that is the fault of the line after the last
 abbrev pub later_faults : ℕ → List RawLine → ℕ → ℕ → HistoryKind → Type 0
-later_faults number [] line place kind = (line ≡ number) × (place ≡ 0) × (kind ≡ End)
-later_faults number (l ∷ ls) line place kind =
-    ((line ≡ number) × line_faults number l place kind)
+later_faults number [] line position kind = (line ≡ number) × (position ≡ 0) × (kind ≡ End)
+later_faults number (l ∷ ls) line position kind =
+    ((line ≡ number) × line_faults number l position kind)
     ⊎ chosen_faults (begins_with_end (parts_of l.bytes))
     (in_lines trailing_faults (number + 1) ls line)
-    (later_faults (number + 1) ls line) place kind
+    (later_faults (number + 1) ls line) position kind
 
 -- the faults of a text of these lines
 abbrev pub text_faults : List RawLine → ℕ → ℕ → HistoryKind → Type 0
-text_faults [] line place kind = (line ≡ 1) × (place ≡ 0) × (kind ≡ Line Empty)
-text_faults (first ∷ others) line place kind =
-    ((line ≡ 1) × header_faults first place kind) ⊎ later_faults 2 others line place kind
+text_faults [] line position kind = (line ≡ 1) × (position ≡ 0) × (kind ≡ Line Empty)
+text_faults (first ∷ others) line position kind =
+    ((line ≡ 1) × header_faults first position kind) ⊎ later_faults 2 others line position kind

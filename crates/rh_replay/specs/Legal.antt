@@ -23,24 +23,24 @@ answer_after h count call =
     (step (heap_after (empty_plain h.owners h.slots) (take count h.calls))
     call.owner call.command).1
 
--- the call at this place, counted from 0, has the answer of the step at its place
+-- the call at this position, counted from 0, has the answer of the step at its position
 abbrev pub IsRightAt : HistoryState → ℕ → Type 0
-IsRightAt h place =
-    (call : Call) → slice_get h.calls place ≡ Some call → call.answer ≡ answer_after h place call
+IsRightAt h position =
+    (call : Call) → slice_get h.calls position ≡ Some call → call.answer ≡ answer_after h position call
 
--- each call has the answer of the step at its place
+-- each call has the answer of the step at its position
 abbrev pub IsLegal : HistoryState → Type 0
-IsLegal h = (place : ℕ) → IsRightAt h place
+IsLegal h = (position : ℕ) → IsRightAt h position
 
 -- the first call that hasn't: which it is, counted from 1, and the step's answer there
 pub record IsFirstWrong (h : HistoryState) (at : ℕ) (expected : Result Reply Refusal) : Type 0 where
-  pub place : ℕ
+  pub position : ℕ
   pub call : Call
-  pub counted : at ≡ place + 1
-  pub stands : slice_get h.calls place ≡ Some call
-  pub answered : expected ≡ answer_after h place call
+  pub counted : at ≡ position + 1
+  pub stands : slice_get h.calls position ≡ Some call
+  pub answered : expected ≡ answer_after h position call
   pub wrong : call.answer ≢ expected
-  pub first : (earlier : ℕ) → earlier < place → IsRightAt h earlier
+  pub first : (earlier : ℕ) → earlier < position → IsRightAt h earlier
 
 -- The verdict on a history: that it is legal, with so many calls, or its first wrong call and the
 -- answer that is expected there.

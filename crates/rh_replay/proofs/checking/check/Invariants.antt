@@ -7,5 +7,5 @@ abbrev pub invariant-loop-call : goal.invariant-loop-call
 invariant-loop-call g l = record {
   played : l.plain ≡ heap_after (empty_plain l.history.contents.owners l.history.contents.slots) (take l.call-index l.calls);
   count : l.count ≡ l.call-index;
-  right : (place : ℕ) → place < l.call-index → IsRightAt l.history.contents place;
+  right : (position : ℕ) → position < l.call-index → IsRightAt l.history.contents position;
 }
