@@ -159,8 +159,9 @@ fn writes_before_refusal<A: Allocator + Copy>(
     Some(writer.writes)
 }
 
-/// Runs a trace, each of its allocations refused in turn, and expects so many or more. Answers a
-/// bit for each number of writes before a refusal.
+/// Runs a trace, each of its allocations refused in turn, and expects so many refusals or more.
+/// Answers a bit for each number of writes that were made before one of them: the lowest bit for
+/// none, the next for one, and so on.
 fn writes_before_refusals(
     rt: &(impl AllocGlobal + Abort),
     (input, answers): (&[u8], &[u8]),

@@ -3,7 +3,7 @@
 use crate::devices::{InterruptedReader, SlowReader, SlowWriter};
 use crate::expectations::expect_equal;
 use crate::texts::WITHOUT_FIELDS;
-use rh_text::Calls;
+use rh_text::{Calls, send};
 use rh_trace::{RunFault, Write, parse, print_told, run_trace_told};
 use std::test::Fail;
 
@@ -60,4 +60,12 @@ fn prints_tell_a_failed_write(rt: HostRuntime) -> Result<(), Fail> {
         expect_equal(&rt, writes.has_failed(), outcome.is_err());
     }
     Ok(())
+}
+
+#[test]
+fn a_text_renews_the_writes(rt: HostRuntime) {
+    let mut writer = SlowWriter::new(&rt, 1000, 0);
+    let mut writes = Calls::limited(0);
+    expect_equal(&rt, send(&mut writer, &mut writes, WITHOUT_FIELDS), Ok(()));
+    expect_equal(&rt, (writes.left(), writer.writes), (33_554_431, 1));
 }

@@ -46,10 +46,9 @@ fn reads_the_header(rt: HostRuntime) -> Result<(), Fail> {
     Ok(())
 }
 
-#[test]
-fn reads_each_keyword(rt: HostRuntime) -> Result<(), Fail> {
-    let trace = parse(rt.alloc(), KEYWORDS).ok().ok_or("a trace")?;
-    let lines = [
+/// A command line of each keyword.
+fn command_lines() -> [Line; 6] {
+    [
         Line::Alloc {
             owner: 1,
             dst: A,
@@ -78,7 +77,13 @@ fn reads_each_keyword(rt: HostRuntime) -> Result<(), Fail> {
             b: B,
         },
         Line::Drop { owner: 1, root: A },
-    ];
+    ]
+}
+
+#[test]
+fn reads_each_keyword(rt: HostRuntime) -> Result<(), Fail> {
+    let trace = parse(rt.alloc(), KEYWORDS).ok().ok_or("a trace")?;
+    let lines = command_lines();
     expect_equal(
         &rt,
         trace.lines().split_at(6.min(trace.len())).0,
