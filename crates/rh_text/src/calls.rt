@@ -21,7 +21,7 @@ pub fn is_interrupted(error: &io::Error) -> bool
 /// A log of the calls of one reader or of one writer: whether a call failed, and how many may still
 /// be made. Only a call writes whether one failed, and after a failed call none is made; a new
 /// text to be sent renews how many are left.
-#[derive(Debug, Drop)]
+#[derive(Drop)]
 pub struct Calls {
     failed: bool,
     left: u32,

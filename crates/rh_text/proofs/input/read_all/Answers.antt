@@ -1,7 +1,7 @@
 use Rattle.std.proofs.Common.{◌++◌, ℕ, Vec, take, arith}
 use Rattle.std.proofs.lemmas.List.{length-append}
 use Rattle.std.proofs.lemmas.Result.{err_from_is_err_and}
-use Rattle.rh_text.proofs.Consumes.{Consumes-then, ends_with}
+use Rattle.rh_text.proofs.Consumes.{Consumes-then, Consumes-keeps, ends_with}
 use Rattle.rh_text.proofs.input.read_all.Goals as goal
 
 pub returns-in_err-keep-in-Ok-clause-bytes : goal.returns-in_err-keep-in-Ok-clause-bytes
@@ -14,3 +14,14 @@ returns-in_err-keep-in-Ok-clause-bytes g c =
       Consumes-then (known c.args.reader.now) (known c.loop-chunk.reader) (known c.read.new.reader) c.loop-chunk.text.items more c.loop-chunk.invariant.taken c.in-Ok.ensures.bytes.0,
       ends_with (λ (v : Vec ℕ g.row.A.Denot). v.items) c.in_err-keep-in-Ok.field-0.0 (c.loop-chunk.text.items ++ more) (known c.read.new.reader) (λ e. omega (arith, c.in_err-keep-in-Ok.ensures.long e, length-append c.loop-chunk.text.items more)),
     )
+
+pub returns-then-not-is_interrupted-clause-bytes : goal.returns-then-not-is_interrupted-clause-bytes
+returns-then-not-is_interrupted-clause-bytes g c =
+    let known = g.R.Read.remaining in (
+      c.loop-chunk.text.items,
+      Consumes-keeps (known c.args.reader.now) (known c.loop-chunk.reader) (known c.read.new.reader) c.loop-chunk.text.items c.loop-chunk.invariant.taken c.in-Err.ensures.bytes,
+      tt,
+    )
+
+pub returns-clause-bytes : goal.returns-clause-bytes
+returns-clause-bytes g c = (c.loop-chunk.text.items, c.loop-chunk.invariant.taken, tt)

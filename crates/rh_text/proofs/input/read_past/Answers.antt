@@ -1,5 +1,5 @@
 use Rattle.std.proofs.Common.{◌++◌, take}
-use Rattle.rh_text.proofs.Consumes.{Consumes-then}
+use Rattle.rh_text.proofs.Consumes.{Consumes-then, Consumes-keeps}
 use Rattle.rh_text.proofs.input.read_past.Goals as goal
 
 pub returns-then-is_err-clause-bytes : goal.returns-then-is_err-clause-bytes
@@ -10,3 +10,14 @@ returns-then-is_err-clause-bytes g c =
       Consumes-then (known c.args.reader.now) (known c.loop-chunk.reader) (known c.read.new.reader) c.loop-chunk.text.items more c.loop-chunk.invariant.taken c.in-Ok.ensures.bytes.0,
       tt,
     )
+
+pub returns-in-Err-clause-bytes : goal.returns-in-Err-clause-bytes
+returns-in-Err-clause-bytes g c =
+    let known = g.R.Read.remaining in (
+      c.loop-chunk.text.items,
+      Consumes-keeps (known c.args.reader.now) (known c.loop-chunk.reader) (known c.read.new.reader) c.loop-chunk.text.items c.loop-chunk.invariant.taken c.in-Err.ensures.bytes,
+      tt,
+    )
+
+pub returns-clause-bytes : goal.returns-clause-bytes
+returns-clause-bytes g c = (c.loop-chunk.text.items, c.loop-chunk.invariant.taken, tt)

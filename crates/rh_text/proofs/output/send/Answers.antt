@@ -9,3 +9,6 @@ loop-rest-preserved-in-Ok g c =
       sent = rw c.split_at.ensures.back (Sent-more (known c.args.writer.now) (known c.loop-rest.writer) (known c.write.new.writer) c.args.text.now c.loop-rest.rest.now c.in-Ok.n c.loop-rest.invariant.sent c.in-Ok.ensures.bytes);
       none_failed = false_from_ne_true c.write.new.self.failed (λ failed. c.in-Ok.n-test.1 (c.in-Ok.ensures.failed.0 failed).0);
     }
+
+pub returns-in-Ok-eq0-clause-ok : goal.returns-in-Ok-eq0-clause-ok
+returns-in-Ok-eq0-clause-ok g c = tt
