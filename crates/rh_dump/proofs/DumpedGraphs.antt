@@ -8,7 +8,7 @@ use Rattle.rh_model.specs.Graph.{Graph}
 use Rattle.rh_model.specs.SameGraph.{SameGraph}
 use Rattle.rh_dump.specs.Dump.{IsGraph}
 use Rattle.rh_dump.specs.Line.{dump_text}
-use Rattle.rh_dump.specs.Meeting.{IsDumpable}
+use Rattle.rh_dump.specs.Dumpable.{IsDumpable}
 use Rattle.rh_dump.specs.Numbering.{values_at, names_after, dump_below}
 use Rattle.rh_dump.proofs.Names.{with_values-keeps}
 use Rattle.rh_dump.proofs.Numbered.{names_after-few}

@@ -1,5 +1,5 @@
 -- What is stored once all objects were looked at is the dump, and every dump of a heap is a graph.
-use Rattle.std.specs.Prelude.{◌≡◌, ◌≢◌, ◌⊎◌, ◌<◌, ◌≤◌, ◌+◌, ◌-◌, ℕ, zero, suc, IsSome, List, [], ◌∷◌, ◌++◌, map, length, take, drop, slice_get, Option, Some, None}
+use Rattle.std.specs.Prelude.{◌≡◌, ◌≢◌, ◌⊎◌, ◌<◌, ◌≤◌, ◌+◌, ◌-◌, ℕ, zero, suc, List, [], ◌∷◌, ◌++◌, map, length, take, drop, slice_get, Option, Some, None}
 use Rattle.std.specs.List.{flat_map, AllByRecursion}
 use Rattle.std.proofs.Common.{refl, sym, ap, subst, ◌∙◌, arith, inl, inr, append_assoc}
 use Rattle.std.proofs.lemmas.Option.{none-some, same_Some, slice_get-get_or}
@@ -10,13 +10,13 @@ use Rattle.rh_layout.specs.declared.value.Value.{Value}
 use Rattle.rh_layout.specs.declared.value.Value.TheVariants.{Nil, Int, Ref}
 use Rattle.rh_layout.specs.declared.command.RootId.{RootId}
 use Rattle.rh_model.specs.Graph.{Graph, root_value}
-use Rattle.rh_model.specs.Effects.{IsObject}
-use Rattle.rh_model.specs.Reach.{Reached, from_root, from_field}
 use Rattle.rh_dump.specs.Dump.{GraphState, values_of, root_values, met_after, AreNumbered, AreMetBefore, IsTold, IsRootTold, IsRootBefore, IsRootAfter, RootsRise, IsObjectTold, IsGraph}
 use Rattle.rh_dump.specs.Graph.{objects_in, graph_in, total}
 use Rattle.rh_dump.proofs.ObjectsIn.{length-objects_in}
 use Rattle.rh_dump.specs.Numbering.{filled_root, filled_slots, filled_roots, roots_of, with_value, values_in, values_at, names_after, numbered_value, numbered_root, dump_by, dump_below, ReachesObjectsBelow}
-use Rattle.rh_dump.specs.Meeting.{met_values, met_roots, counts_after, values_after, flat_after, IsTellable, IsDumpable}
+use Rattle.rh_dump.specs.Dumpable.{IsTellable, IsDumpable}
+use Rattle.rh_dump.specs.Meeting.{met_values, met_roots, counts_after, values_after, flat_after}
+use Rattle.rh_dump.specs.lemmas.Reaching.{reaches_objects}
 use Rattle.rh_dump.proofs.Names.{Member, place_of_Member, Member-either, with_values-keeps}
 use Rattle.rh_dump.proofs.RootLists.{root_named, Member-filled_root, entry_of_roots}
 use Rattle.rh_dump.proofs.Numbered.{held_values, Member-map_back, IsOnce-names_after, names_after-more}
@@ -284,20 +284,6 @@ filled-numbered : (names : List ℕ) (v : Value) → v ≢ Nil → numbered_valu
 filled-numbered names Nil filled = λ e. filled refl
 filled-numbered names (Int n) filled = filled
 filled-numbered names (Ref a) filled = λ e. cc
-
--- what is reached are objects below the limit, where roots and fields can be told
-module _ (limit : ℕ) (g : Graph) (names : (a : ℕ) (fields : List Value) → g.fields a ≡ Some fields → a < limit) (roots : (r : RootId) → IsTellable g (root_value g r))
-    (each : (a f : ℕ) (fields : List Value) (v : Value) → g.fields a ≡ Some fields → slice_get fields f ≡ Some v → IsTellable g v) where
-  reached_object : (a : ℕ) → Reached g a → IsObject g a
-  reached_object _ (from_root r a is) = let told : IsTellable g (Ref a) = subst (IsTellable g) is (roots r) in told
-  reached_object _ (from_field a fields f b reached is found) = each a f fields (Ref b) is found
-
-  pub reaches_objects : ReachesObjectsBelow limit g
-  reaches_objects a reached = let object = reached_object a reached in (object, by (g.fields a) refl object)
-    where
-      by : (o : Option (List Value)) → g.fields a ≡ o → IsSome o → a < limit
-      by None is object = absurd (cc)
-      by (Some fields) is object = names a fields is
 
 module _ (g : Graph) (limit : ℕ) (d : IsDumpable limit g) where
   pub IsDumpable-reaches : ReachesObjectsBelow limit g

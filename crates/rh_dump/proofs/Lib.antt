@@ -8,7 +8,6 @@ mod MetValues
 mod FlatDump
 mod Index
 mod NumberingSteps
-mod HeapDump
 mod PlainDump
 mod Sending
 mod SameValues

@@ -10,7 +10,8 @@ use Rattle.rh_layout.specs.declared.command.RootId.{RootId}
 use Rattle.rh_model.specs.Graph.{Graph, root_value}
 use Rattle.rh_dump.specs.Graph.{FlatGraph, graph_in, IsFilled}
 use Rattle.rh_dump.specs.Numbering.{filled_root, filled_slots, filled_roots, roots_of, with_value, with_values, values_in, values_at, names_after, numbered_value, numbered_root, dump_below}
-use Rattle.rh_dump.specs.Meeting.{met_values, met_roots, NumberingState, empty_numbering, with_roots, with_count, with_fields, numbering_after, IsTellable, IsDumpable, IsBelow}
+use Rattle.rh_dump.specs.Dumpable.{IsTellable, IsDumpable}
+use Rattle.rh_dump.specs.Meeting.{met_values, met_roots, NumberingState, empty_numbering, with_roots, with_count, with_fields, numbering_after, IsBelow}
 use Rattle.rh_dump.proofs.Names.{with_values-keeps}
 use Rattle.rh_dump.proofs.RootLists.{root_named}
 use Rattle.rh_dump.proofs.Numbered.{length-below, IsOnce-names_after, names_after-reached}

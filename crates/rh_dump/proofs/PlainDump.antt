@@ -11,8 +11,9 @@ use Rattle.rh_model.specs.Graph.{root_value, field_value}
 use Rattle.rh_model.specs.lemmas.RootValue.{root_value-there}
 use Rattle.rh_model.specs.Plain.{PlainHeap, IsPlain, IsStorable, graph_of}
 use Rattle.rh_dump.specs.Numbering.{ReachesObjectsBelow}
-use Rattle.rh_dump.specs.Meeting.{IsTellable, IsDumpable, IsBelow}
-use Rattle.rh_dump.proofs.FlatDump.{reaches_objects}
+use Rattle.rh_dump.specs.Dumpable.{IsTellable, IsDumpable}
+use Rattle.rh_dump.specs.Meeting.{IsBelow}
+use Rattle.rh_dump.specs.lemmas.Reaching.{reaches_objects}
 
 -- what may be stored in a plain heap that isn't too large refers to a name of 32 bits, if to any
 pub IsBelow-storable : (objects : List (List Value)) → length objects ≤ 16777216 → (v : Value) → IsStorable objects v → IsBelow (2 ^ 32) v

@@ -1,10 +1,12 @@
 pub mod Dump
 pub mod Graph
 pub mod Numbering
+pub mod Dumpable
 pub mod Meeting
-pub mod HeapDump
+pub mod PlainDump
 pub mod Line
 pub mod Part
 pub mod Reading
 pub mod Putting
 pub mod Faults
+pub mod lemmas

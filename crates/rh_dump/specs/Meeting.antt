@@ -1,11 +1,9 @@
 -- A dump as it is put together: each value is numbered as it is met.
-use Rattle.std.specs.Prelude.{◌≡◌, ◌<◌, ◌≤◌, ℕ, zero, suc, List, [], ◌∷◌, ◌++◌, map, length, slice_get, Some}
+use Rattle.std.specs.Prelude.{◌≡◌, ◌<◌, ℕ, zero, suc, List, [], ◌∷◌, ◌++◌, map, length, slice_get, Some}
 use Rattle.rh_layout.specs.declared.value.Value.{Value}
 use Rattle.rh_layout.specs.declared.value.Value.TheVariants.{Nil, Int, Ref}
 use Rattle.rh_layout.specs.declared.command.RootId.{RootId}
-use Rattle.rh_layout.specs.Word.{IsWhole}
-use Rattle.rh_model.specs.Graph.{Graph, root_value}
-use Rattle.rh_model.specs.Effects.{IsObject}
+use Rattle.rh_model.specs.Graph.{Graph}
 use Rattle.rh_dump.specs.Graph.{FlatGraph, empty_flat}
 use Rattle.rh_dump.specs.Numbering.{roots_of, with_value, with_values, values_at, names_after, numbered_value, numbered_root}
 
@@ -44,23 +42,6 @@ flat_after g n = record {
 -- the number at each place of the list stands at its name
 abbrev pub IsIndexOf : List ℕ → List ℕ → Type 0
 IsIndexOf numbers names = (k a : ℕ) → slice_get names k ≡ Some a → slice_get numbers a ≡ Some k
-
--- what a dump can say of a value of a graph: a whole number has a word, a reference is to an object
-abbrev pub IsTellable : Graph → Value → Type 0
-IsTellable g Nil = Unit {0}
-IsTellable g (Int n) = IsWhole n
-IsTellable g (Ref a) = IsObject g a
-
--- What every heap keeps that is dumped, where all names are below a limit.
-pub record IsDumpable (limit : ℕ) (g : Graph) : Type 0 where
-  pub few : limit ≤ 16777216
-  pub owners : g.owners ≤ 16
-  pub slots : g.slots ≤ 256
-  pub roots : (r : RootId) → IsTellable g (root_value g r)
-  pub names : (a : ℕ) (fields : List Value) → g.fields a ≡ Some fields → a < limit
-  pub counts : (a : ℕ) (fields : List Value) → g.fields a ≡ Some fields → length fields ≤ 4095
-  pub fields : (a f : ℕ) (fields : List Value) (v : Value)
-      → g.fields a ≡ Some fields → slice_get fields f ≡ Some v → IsTellable g v
 
 -- what is known of a dump that is being put together: what all names are below, the names that were
 -- met, and what is stored

@@ -3,7 +3,7 @@
 use rh_layout::RootId;
 
 /// What the next line of a dump must be, by the lines before it.
-#[derive(Clone, Copy, Debug)]
+#[derive(Clone, Copy)]
 pub enum Due {
     /// `rheap 1`, the first line.
     Header,

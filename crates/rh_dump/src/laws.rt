@@ -3,15 +3,13 @@
 ghost use Rattle.std.specs.Prelude.{◌≡◌, ◌↔◌, ◌≤◌, ℕ, List, Some, Ok, Err, length, slice_get};
 ghost use Rattle.rh_text.specs.RawLine.{lines_of};
 ghost use Rattle.rh_text.specs.Stages.{IsFaultless, IsFirst};
-ghost use Rattle.rh_space.specs.Space.{IsSpace};
 ghost use Rattle.rh_model.specs.Graph.{Graph};
 ghost use Rattle.rh_model.specs.Reach.{Reached};
 ghost use Rattle.rh_model.specs.SameGraph.{SameGraph};
 ghost use Rattle.rh_model.specs.Plain as plain;
 ghost use Rattle.rh_model.specs.Plain.{PlainHeap, IsPlain};
-ghost use Rattle.rh_core.specs.Mutator.{StandsFor, graph_of};
-ghost use Rattle.rh_core.specs.Heap.{HeapState, IsHeap};
-ghost use Rattle.rh_dump.specs.HeapDump.{dump_of, plain_dump_of};
+ghost use Rattle.rh_dump.specs.PlainDump.{plain_dump_of};
+ghost use Rattle.rh_dump.specs.Dumpable.{IsDumpable};
 ghost use Rattle.rh_dump.specs.Numbering.{names_after, dump_below, ReachesObjectsBelow};
 ghost use Rattle.rh_dump.specs.Dump.{GraphState, IsGraph};
 ghost use Rattle.rh_dump.specs.Faults.{dump_faults};
@@ -20,7 +18,6 @@ ghost use Rattle.rh_dump.specs.Reading.{graph_of_text};
 ghost use Rattle.rh_dump.specs.declared.fault.DumpFault.{DumpFault as FaultOf};
 
 use crate::limits::{LAST_OBJECT, MAX_DUMP_BYTES, MAX_DUMP_READS, MAX_OBJECTS, MAX_ROOTS};
-use rh_model::laws::pairs_what_is_reached;
 
 /// Two graphs have equal dumps exactly where they are the same graph, up to the names of their
 /// objects. The graphs reach finitely many names, all objects'; how many owners and slots they
@@ -40,51 +37,41 @@ pub fn what_is_reached_is_numbered_once()
         → slice_get (names_after g limit) j ≡ Some a → i ≡ j }
 {}
 
-/// Two heaps have equal dumps exactly where they are the same graph, and so have two plain heaps,
-/// and a plain heap and a heap.
-pub fn equal_dumps_of_heaps_are_same_graphs()
-    ensures heaps { (h k : HeapState) → IsHeap h → IsHeap k
-        → (dump_of h ≡ dump_of k) ↔ SameGraph (graph_of h.mutators) (graph_of k.mutators) }
-    ensures plain_heaps { (p q : PlainHeap) → IsPlain p → IsPlain q
+/// Two plain heaps have equal dumps exactly where they are the same graph.
+pub fn equal_dumps_of_plain_heaps_are_same_graphs()
+    ensures { (p q : PlainHeap) → IsPlain p → IsPlain q
         → (plain_dump_of p ≡ plain_dump_of q)
         ↔ SameGraph (plain.graph_of p) (plain.graph_of q) }
-    ensures both { (p : PlainHeap) (h : HeapState) → IsPlain p → IsHeap h
-        → (plain_dump_of p ≡ dump_of h)
-        ↔ SameGraph (plain.graph_of p) (graph_of h.mutators) }
 {}
 
-/// The dump of a heap is a graph, and so is that of a plain heap of at most 16,777,216 objects.
-pub fn dumps_of_heaps_are_graphs()
-    ensures heaps { (h : HeapState) → IsHeap h → IsSpace h.mutators.space → IsGraph (dump_of h) }
+/// A plain heap reaches objects alone, whose positions are below their number, and can be dumped
+/// where it has at most 16,777,216 objects.
+pub fn plain_heaps_can_be_dumped()
+    ensures reaches { (p : PlainHeap) → IsPlain p
+        → ReachesObjectsBelow (length p.objects) (plain.graph_of p) }
+    ensures dumpable { (p : PlainHeap) → IsPlain p → length p.objects ≤ MAX_OBJECTS
+        → IsDumpable (length p.objects) (plain.graph_of p) }
+{}
+
+/// The dump of what can be dumped is a graph, and so is that of a plain heap of at most 16,777,216
+/// objects.
+pub fn dumps_are_graphs()
+    ensures graphs { (g : Graph) (limit : ℕ) → IsDumpable limit g
+        → IsGraph (dump_below limit g) }
     ensures plain_heaps { (p : PlainHeap) → IsPlain p → length p.objects ≤ MAX_OBJECTS
         → IsGraph (plain_dump_of p) }
 {}
 
-/// Two heaps have equal dump texts exactly where they are the same graph, and so have two plain
-/// heaps of at most 16,777,216 objects each, and such a plain heap and a heap.
+/// Two graphs that can be dumped have equal dump texts exactly where they are the same graph, and
+/// so have two plain heaps of at most 16,777,216 objects each.
 pub fn equal_dump_texts_are_same_graphs()
-    ensures heaps { (h k : HeapState) → IsHeap h → IsHeap k
-        → IsSpace h.mutators.space → IsSpace k.mutators.space
-        → (dump_text (dump_of h) ≡ dump_text (dump_of k))
-        ↔ SameGraph (graph_of h.mutators) (graph_of k.mutators) }
+    ensures graphs { (g h : Graph) (m n : ℕ) → IsDumpable m g → IsDumpable n h
+        → (dump_text (dump_below m g) ≡ dump_text (dump_below n h)) ↔ SameGraph g h }
     ensures plain_heaps { (p q : PlainHeap) → IsPlain p → IsPlain q
         → length p.objects ≤ MAX_OBJECTS → length q.objects ≤ MAX_OBJECTS
         → (dump_text (plain_dump_of p) ≡ dump_text (plain_dump_of q))
         ↔ SameGraph (plain.graph_of p) (plain.graph_of q) }
-    ensures both { (p : PlainHeap) (h : HeapState) → IsPlain p → length p.objects ≤ MAX_OBJECTS
-        → IsHeap h → IsSpace h.mutators.space
-        → (dump_text (plain_dump_of p) ≡ dump_text (dump_of h))
-        ↔ SameGraph (plain.graph_of p) (graph_of h.mutators) }
 {}
-
-/// A heap has the dump of each plain heap that it stands for.
-pub fn a_heap_has_the_dump_of_its_plain_heap()
-    ensures { (h : HeapState) (p : PlainHeap) → StandsFor h.mutators p
-        → dump_of h ≡ plain_dump_of p }
-{
-    // What two graphs pair is reached in both.
-    pairs_what_is_reached();
-}
 
 /// What a graph is spelled as is read as that graph, where it has at most 268,435,456 bytes, and
 /// nothing else is read as it.

@@ -17,9 +17,9 @@ ghost use Rattle.rh_dump.specs.Numbering.{
   names_after,
   dump_below,
 };
+ghost use Rattle.rh_dump.specs.Dumpable.{IsDumpable};
 ghost use Rattle.rh_dump.specs.Meeting.{
   IsBelow,
-  IsDumpable,
   empty_numbering,
   with_roots,
   with_count,
@@ -30,7 +30,7 @@ ghost use Rattle.rh_dump.specs.Meeting.{
 use crate::dump_graph::Graph;
 use crate::graph_builder::GraphBuilder;
 use crate::limits::MAX_OBJECTS;
-use crate::source::Source;
+use crate::object_graph::ObjectGraph;
 use rh_layout::limits::{MAX_OWNERS, MAX_SLOTS};
 use rh_layout::{OutOfMemory, RootId, Value};
 use std::alloc::{AllocError, Allocator, Global};
@@ -164,70 +164,70 @@ impl<A: Allocator + Copy> Numbering<A> {
     }
 
     /// Puts the roots of one owner with so many slots.
-    fn put_slots<S: Source>(
+    fn put_slots<H: ObjectGraph>(
         &mut self,
-        source: &S,
+        heap: &H,
         owner: u32,
         slots: u32,
     ) -> Result<(), OutOfMemory>
-        requires small { S.is_small source.now }
-        requires dumpable { IsDumpable self.old.limit (S.graph source.now) }
+        requires small { H.is_small heap.now }
+        requires dumpable { IsDumpable self.old.limit (H.graph heap.now) }
         ensures { OnOk result (self.new
-            ≡ with_roots self.old (filled_slots (root_value (S.graph source.now)) owner slots)) }
+            ≡ with_roots self.old (filled_slots (root_value (H.graph heap.now)) owner slots)) }
     {
         for slot in 0..slots {
             let id = RootId { owner, slot };
-            self.put_root(id, source.held(id))?;
+            self.put_root(id, heap.held(id))?;
         }
         Ok(())
     }
 
     /// Puts all roots, which are looked for among so many owners with so many slots.
-    fn put_roots<S: Source>(
+    fn put_roots<H: ObjectGraph>(
         &mut self,
-        source: &S,
+        heap: &H,
         owners: u32,
         slots: u32,
     ) -> Result<(), OutOfMemory>
-        requires small { S.is_small source.now }
-        requires owners { (S.graph source.now).owners ≤ owners }
-        requires slots { (S.graph source.now).slots ≤ slots }
-        requires dumpable { IsDumpable self.old.limit (S.graph source.now) }
-        ensures { OnOk result (self.new ≡ with_roots self.old (roots_of (S.graph source.now))) }
+        requires small { H.is_small heap.now }
+        requires owners { (H.graph heap.now).owners ≤ owners }
+        requires slots { (H.graph heap.now).slots ≤ slots }
+        requires dumpable { IsDumpable self.old.limit (H.graph heap.now) }
+        ensures { OnOk result (self.new ≡ with_roots self.old (roots_of (H.graph heap.now))) }
     {
         for owner in 0..owners {
-            self.put_slots(source, owner, slots)?;
+            self.put_slots(heap, owner, slots)?;
         }
         Ok(())
     }
 
     /// Puts an object and what its fields hold.
-    fn put_object<S: Source>(&mut self, source: &S, name: u32) -> Result<(), OutOfMemory>
-        requires small { S.is_small source.now }
-        requires dumpable { IsDumpable self.old.limit (S.graph source.now) }
-        ensures { let fields = values_in ((S.graph source.now).fields name)
+    fn put_object<H: ObjectGraph>(&mut self, heap: &H, name: u32) -> Result<(), OutOfMemory>
+        requires small { H.is_small heap.now }
+        requires dumpable { IsDumpable self.old.limit (H.graph heap.now) }
+        ensures { let fields = values_in ((H.graph heap.now).fields name)
             in OnOk result (self.new ≡ with_fields (with_count self.old (length fields)) fields) }
     {
-        let count = source.count(name);
+        let count = heap.count(name);
         self.put_count(count)?;
         for field in 0..count {
-            self.put_field(source.value(name, field))?;
+            self.put_field(heap.value(name, field))?;
         }
         Ok(())
     }
 
     /// Puts the objects, in order of their numbers, until none is left.
-    fn put_objects<S: Source>(&mut self, source: &S) -> Result<(), OutOfMemory>
-        requires small { S.is_small source.now }
-        requires dumpable { IsDumpable self.old.limit (S.graph source.now) }
-        requires roots { self.old ≡ numbering_after self.old.limit (S.graph source.now) 0 }
+    fn put_objects<H: ObjectGraph>(&mut self, heap: &H) -> Result<(), OutOfMemory>
+        requires small { H.is_small heap.now }
+        requires dumpable { IsDumpable self.old.limit (H.graph heap.now) }
+        requires roots { self.old ≡ numbering_after self.old.limit (H.graph heap.now) 0 }
         ensures { OnOk result ((n : ℕ) × (n ≤ self.old.limit)
-            × (length (names_after (S.graph source.now) n) ≡ n)
-            × (self.new ≡ numbering_after self.old.limit (S.graph source.now) n)) }
+            × (length (names_after (H.graph heap.now) n) ≡ n)
+            × (self.new ≡ numbering_after self.old.limit (H.graph heap.now) n)) }
     {
         let mut number = 0;
         while let Some(name) = self.name_of(number) {
-            self.put_object(source, name)?;
+            self.put_object(heap, name)?;
             number += 1;
         }
         Ok(())
@@ -254,22 +254,24 @@ fn push_name<A: Allocator + Copy>(names: &mut Vec<u32, A>, name: u32) -> Result<
     Ok(())
 }
 
-/// The dump of a heap: what its roots reach, numbered breadth first. Linear in the heap's names,
-/// roots and fields.
+/// The dump of a heap that is read so: what its roots reach, with objects numbered breadth first
+/// (Moore, 1959), the roots in order of owner, then slot, then the fields of object 0, of object 1,
+/// and so on. Time and memory are linear in the limit of the names and in the fields that are
+/// reached. Beside the graph it takes 8 bytes for each name below the limit at most, while it runs.
 ///
 /// # Errors
 ///
 /// `OutOfMemory` where a growth was refused.
-pub(crate) fn dump_of_source<S: Source, A: Allocator + Copy>(
+pub fn numbered_graph<H: ObjectGraph, A: Allocator + Copy>(
     alloc: A,
-    source: &S,
+    heap: &H,
 ) -> Result<Graph<A>, OutOfMemory>
-    requires { S.is_small source.now }
+    requires { H.is_small heap.now }
     ensures { IfOk result (λ graph.
-        graph ≡ dump_below (S.limit_of source.now) (S.graph source.now)) }
+        graph ≡ dump_below (H.limit_of heap.now) (H.graph heap.now)) }
 {
-    let mut numbering = Numbering::new(alloc, source.limit())?;
-    numbering.put_roots(source, MAX_OWNERS, MAX_SLOTS)?;
-    numbering.put_objects(source)?;
+    let mut numbering = Numbering::new(alloc, heap.limit())?;
+    numbering.put_roots(heap, MAX_OWNERS, MAX_SLOTS)?;
+    numbering.put_objects(heap)?;
     Ok(numbering.finish())
 }

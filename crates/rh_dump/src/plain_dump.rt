@@ -3,18 +3,18 @@
 ghost use Rattle.std.specs.Prelude.{◌≡◌, ◌≤◌, ◌^◌, IfOk, length};
 ghost use Rattle.rh_model.specs.Plain as plain;
 ghost use Rattle.rh_model.specs.PlainValue.{value_of_plain};
-ghost use Rattle.rh_dump.specs.HeapDump.{plain_dump_of};
+ghost use Rattle.rh_dump.specs.PlainDump.{plain_dump_of};
 ghost use Rattle.rh_dump.specs.Meeting.{IsBelow};
 
 use crate::dump_graph::Graph;
 use crate::limits::MAX_OBJECTS;
-use crate::numbering::dump_of_source;
-use crate::source::Source;
+use crate::numbering::numbered_graph;
+use crate::object_graph::ObjectGraph;
 use rh_layout::{OutOfMemory, RootId, Value};
 use rh_model::{Plain, PlainValue};
 use std::alloc::Allocator;
 
-impl<A: Allocator + Copy> Source for Plain<A> {
+impl<A: Allocator + Copy> ObjectGraph for Plain<A> {
     ghost use Rattle.rh_dump.specs.declared.limits.TheConstants.{MAX_OBJECTS};
 
     ghost graph = { plain.graph_of };
@@ -80,5 +80,5 @@ pub fn plain_graph<A: Allocator + Copy, B: Allocator + Copy>(
     requires { length heap.now.objects ≤ MAX_OBJECTS }
     ensures { IfOk result (λ graph. graph ≡ plain_dump_of heap.now) }
 {
-    dump_of_source(alloc, heap)
+    numbered_graph(alloc, heap)
 }

@@ -18,7 +18,7 @@ pub enum DumpReadError {
 }
 
 /// Why a line is not read.
-#[derive(Clone, Copy, Debug, PartialEq, Eq)]
+#[derive(Clone, Copy)]
 pub enum LineError {
     /// What is wrong with the line.
     Kind(DumpKind),

@@ -1,4 +1,4 @@
-use Rattle.std.proofs.Common.{◌≡◌, ◌<◌, length, refl, sym, ap, subst, ◌∙◌, arith}
+use Rattle.std.proofs.Common.{◌≡◌, ◌<◌, length, refl, sym, ap, subst, ◌∙◌, arith, rules}
 use Rattle.std.specs.Prelude.{List, ℕ, Some, slice_get}
 use Rattle.std.proofs.lemmas.Option.{slice_get_read, slice_get_within, same_Some}
 use Rattle.rh_dump.specs.Numbering.{with_name, number_in}
@@ -37,3 +37,6 @@ returns-clause-known g c =
     slice_get_read names (length names) c.index-known.result.now c.index.result.now refl (omega (arith, c.if-known-len.false, c.len.ensures, c.self.inside.names.ok.0)) c.index.ensures in
     let it = IsIndexOf-known numbers names c.self.invariant.0 c.args.name c.index-known.result.now (met ∙ ap Some c.if-index-name.false) in
     subst (λ (l : List ℕ). (c.index-known.result.now ≡ number_in l c.args.name) × (with_name l c.args.name ≡ l)) (ap (λ (s : NumberingState). s.names) c.self.view_is) (it.1, it.0)
+
+pub returns-clause-new : goal.returns-clause-new
+returns-clause-new g c = search rules

@@ -8,24 +8,24 @@ use Rattle.rh_dump.proofs.numbering.Numbering.put_object.Goals as goal
 pub loop-field-init : goal.loop-field-init
 loop-field-init g c =
     c.in_ok-put_count.ensures ∙ ap (with_count c.args.self.now) c.count-count.ensures
-    ∙ sym (with_fields-none (with_count c.args.self.now (length (values_in ((g.S.Source.graph c.args.source.now).fields c.args.name)))))
+    ∙ sym (with_fields-none (with_count c.args.self.now (length (values_in ((g.H.ObjectGraph.graph c.args.heap.now).fields c.args.name)))))
 
 pub put_field-requires : goal.put_field-requires
 put_field-requires g c =
-    let fields = values_in ((g.S.Source.graph c.args.source.now).fields c.args.name) in
+    let fields = values_in ((g.H.ObjectGraph.graph c.args.heap.now).fields c.args.name) in
     let within : c.loop-field.field < length fields = omega (arith, c.count-count.ensures) in
     subst (λ n. IsBelow n c.value.result) (sym (ap (λ (s : NumberingState). s.limit) c.loop-field.invariant))
-    (IsBelow-field c.args.self.now.limit (g.S.Source.graph c.args.source.now) c.requires.dumpable c.args.name c.loop-field.field c.value.result within c.value.ensures)
+    (IsBelow-field c.args.self.now.limit (g.H.ObjectGraph.graph c.args.heap.now) c.requires.dumpable c.args.name c.loop-field.field c.value.result within c.value.ensures)
 
 pub loop-field-preserved : goal.loop-field-preserved
 loop-field-preserved g c =
-    let fields = values_in ((g.S.Source.graph c.args.source.now).fields c.args.name) in
+    let fields = values_in ((g.H.ObjectGraph.graph c.args.heap.now).fields c.args.name) in
     let within : c.loop-field.field < length fields = omega (arith, c.count-count.ensures) in
     fields-next (with_count c.args.self.now (length fields)) c.loop-field.self c.put_field.new.self fields c.loop-field.field c.value.result within c.loop-field.invariant c.in_ok-put_field.ensures c.value.ensures
 
 pub returns : goal.returns
 returns g c =
-    let fields = values_in ((g.S.Source.graph c.args.source.now).fields c.args.name) in
+    let fields = values_in ((g.H.ObjectGraph.graph c.args.heap.now).fields c.args.name) in
     let last : c.loop-field.field ≡ c.count-count.result = omega (arith, c.loop-field.auto.field-end, c.loop-field-test.false) in
     c.loop-field.invariant
     ∙ ap (λ n. with_fields (with_count c.args.self.now (length fields)) (take n fields)) last

@@ -5,8 +5,8 @@ use Rattle.rh_dump.proofs.numbering.Numbering.put_objects.Given as goal
 
 abbrev pub invariant-loop-name : goal.invariant-loop-name
 invariant-loop-name g l = record {
-  state : l.self ≡ numbering_after l.fn.self.limit (g.S.Source.graph l.source) l.number;
-  within : l.number ≤ length (names_after (g.S.Source.graph l.source) l.number);
+  state : l.self ≡ numbering_after l.fn.self.limit (g.H.ObjectGraph.graph l.heap) l.number;
+  within : l.number ≤ length (names_after (g.H.ObjectGraph.graph l.heap) l.number);
 }
 
 abbrev pub decreases-loop-name : goal.decreases-loop-name

@@ -5,4 +5,4 @@ use Rattle.rh_dump.specs.Meeting.{with_roots}
 use Rattle.rh_dump.proofs.numbering.Numbering.put_slots.Given as goal
 
 abbrev pub invariant-loop-slot : goal.invariant-loop-slot
-invariant-loop-slot g l = l.self ≡ with_roots l.fn.self (filled_slots (root_value (g.S.Source.graph l.source)) l.owner l.slot)
+invariant-loop-slot g l = l.self ≡ with_roots l.fn.self (filled_slots (root_value (g.H.ObjectGraph.graph l.heap)) l.owner l.slot)

@@ -4,12 +4,14 @@ ghost use Rattle.std.specs.Prelude.{◌≡◌, ◌<◌, ℕ, length, slice_index
 ghost use Rattle.rh_layout.specs.declared.value.Value.TheVariants.{Nil};
 ghost use Rattle.rh_model.specs.Graph.{Graph, root_value};
 ghost use Rattle.rh_dump.specs.Numbering.{values_in};
-ghost use Rattle.rh_dump.specs.Meeting.{IsDumpable};
+ghost use Rattle.rh_dump.specs.Dumpable.{IsDumpable};
 
 use rh_layout::{RootId, Value};
 
-/// A heap whose objects have names below a limit, as the numbering reads it.
-pub(crate) trait Source {
+/// A heap as the numbering reads it: its roots, and objects with fields, whose names are numbers
+/// below a limit. Whoever has a heap of a kind of its own dumps it by
+/// [`numbered_graph`](crate::numbered_graph).
+pub trait ObjectGraph {
     /// The heap as a graph.
     ghost graph: { Self → Graph };
 
@@ -19,7 +21,9 @@ pub(crate) trait Source {
     /// The heap is small enough that its objects can be numbered.
     ghost is_small: { Self → Type 0 };
 
-    /// What all names are below.
+    /// What all names are below. The heap holds nothing that a dump can't say: there are at most
+    /// 16,777,216 names, 16 owners with 256 slots each, and 4,095 fields of an object; each whole
+    /// number has a word, and each reference is to an object.
     fn limit(&self) -> u32
         requires { is_small self.now }
         ensures limit { result ≡ limit_of self.now }
@@ -30,7 +34,7 @@ pub(crate) trait Source {
         requires { is_small self.now }
         ensures { result ≡ root_value (graph self.now) id };
 
-    /// How many fields the object with this name has.
+    /// How many fields the object with this name has; none where there is no such object.
     fn count(&self, name: u32) -> u32
         requires { is_small self.now }
         ensures { result ≡ length (values_in ((graph self.now).fields name)) };

@@ -1,5 +1,0 @@
-use Rattle.rh_dump.proofs.HeapDump.{IsDumpable-heap}
-use Rattle.rh_dump.proofs.heap_dump.HeapSource.limit.Goals as goal
-
-pub returns-clause-dumpable : goal.returns-clause-dumpable
-returns-clause-dumpable g c = IsDumpable-heap c.args.self.now.mutators c.used.ensures.heap.mutators c.used.ensures.space

@@ -1,5 +1,0 @@
-use Rattle.rh_dump.proofs.HeapDump.{dump_of-plain}
-use Rattle.rh_dump.proofs.laws.a_heap_has_the_dump_of_its_plain_heap.Goals as goal
-
-pub returns : goal.returns
-returns c = dump_of-plain c.pairs_what_is_reached.ensures.there c.pairs_what_is_reached.ensures.back
