@@ -8,7 +8,7 @@ use Rattle.std.specs.Str.{bytes_eq}
 use Rattle.std.proofs.lemmas.List.{append-nil, length-append}
 use Rattle.rh_text.specs.Parts.{cut_at, parts_of, parts_left}
 use Rattle.rh_text.specs.lemmas.Cuts.{parts_from, parts_of-cut, cut_means, some_is}
-use Rattle.rh_trace.specs.Reading.{owned_command}
+use Rattle.rh_syntax.specs.Reading.{owned_command}
 use Rattle.rh_replay.specs.Reading.{before_equals, after_equals, command_before}
 
 -- ---- parts of a line that is put together at a space

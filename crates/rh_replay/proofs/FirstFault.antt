@@ -15,14 +15,14 @@ use Rattle.rh_text.specs.Stages.{◌when◌, ◌▸◌, no_fault, in_lines, IsLe
 use Rattle.rh_text.specs.Steps.{◌>>=◌, or_fault, with_fault}
 use Rattle.rh_text.specs.lemmas.Numbers.{number_means, number_of-decimal}
 use Rattle.rh_text.specs.lemmas.Stages.{Judges, JudgesLines, judges-end, judges-here, judges-later, judges-found, judges-line, judges-no_lines, judges-made, judges-step, in_lines-from}
-use Rattle.rh_trace.specs.declared.fault.Kind.{Kind}
-use Rattle.rh_trace.specs.declared.fault.Kind.TheVariants.{Empty, Long, Cut, Form, Header, Word, Number}
-use Rattle.rh_trace.specs.Faults.{IsNumber, IsFirstPart, raw_line_faults}
-use Rattle.rh_trace.specs.Reading.{checked_parts}
+use Rattle.rh_syntax.specs.declared.fault.Kind.{Kind}
+use Rattle.rh_syntax.specs.declared.fault.Kind.TheVariants.{Empty, Long, Cut, Form, Header, Word, Number}
+use Rattle.rh_syntax.specs.Faults.{IsNumber, IsFirstPart, raw_line_faults}
+use Rattle.rh_syntax.specs.Reading.{checked_parts}
 use Rattle.rh_text.specs.lemmas.Cuts.{some_is}
 use Rattle.rh_text.specs.lemmas.Formed.{is_formed-Decides, not_ended}
 use Rattle.rh_text.specs.lemmas.Steps.{ok_is, err_is, ok_err, none_some, bind_ok, refused}
-use Rattle.rh_trace.specs.lemmas.FirstFault.{judges-owned, judges-raw_line, no_number, number_is}
+use Rattle.rh_syntax.specs.lemmas.FirstFault.{judges-owned, judges-raw_line, no_number, number_is}
 use Rattle.rh_replay.specs.declared.call.Call.{Call}
 use Rattle.rh_replay.specs.declared.fault.HistoryKind.{HistoryKind}
 use Rattle.rh_replay.specs.declared.fault.HistoryKind.TheVariants.{Line, Trailing, Answer, Count, End}

@@ -23,12 +23,12 @@ use Rattle.rh_text.specs.lemmas.Integers.{integer_means}
 use Rattle.rh_text.specs.lemmas.Numbers.{number_means}
 use Rattle.rh_text.specs.lemmas.RawLines.{lines_text}
 use Rattle.rh_text.specs.lemmas.Steps.{bind_ok, chosen, refused, ok_is, or_fault_ok}
-use Rattle.rh_trace.specs.Answers.{answer_text}
-use Rattle.rh_trace.specs.Reading.{checked_parts}
-use Rattle.rh_trace.specs.Spelling.{command_parts, command_text}
-use Rattle.rh_trace.specs.declared.fault.Kind.{Kind}
-use Rattle.rh_trace.specs.declared.fault.Kind.TheVariants as kinds
-use Rattle.rh_trace.specs.lemmas.ReadIsSpelled.{owned_command-means, checked_parts-means, Reads}
+use Rattle.rh_syntax.specs.CommandAnswers.{answer_text}
+use Rattle.rh_syntax.specs.Reading.{checked_parts}
+use Rattle.rh_syntax.specs.Spelling.{command_parts, command_text}
+use Rattle.rh_syntax.specs.declared.fault.Kind.{Kind}
+use Rattle.rh_syntax.specs.declared.fault.Kind.TheVariants as kinds
+use Rattle.rh_syntax.specs.lemmas.ReadIsSpelled.{owned_command-means, checked_parts-means, Reads}
 use Rattle.rh_replay.specs.declared.call.Call.{Call}
 use Rattle.rh_replay.specs.declared.fault.HistoryKind.{HistoryKind}
 use Rattle.rh_replay.specs.declared.fault.HistoryKind.TheVariants.{Line, Answer, Count}

@@ -26,10 +26,10 @@ use Rattle.rh_text.specs.Steps.{◌>>=◌, or_fault, with_fault}
 use Rattle.rh_text.specs.lemmas.Integers.{i64_size, integer_of-decimal}
 use Rattle.rh_text.specs.lemmas.Numbers.{number_of-decimal}
 use Rattle.rh_text.specs.lemmas.Joins.{IsPart, filled-decimal, decimal_digits, wide_digits, wide_filled, number_part, integer_part, ended_line}
-use Rattle.rh_trace.specs.Spelling.{operand_text, command_parts, OperandFits, CommandFits}
-use Rattle.rh_trace.specs.declared.fault.Kind.{Kind}
-use Rattle.rh_trace.specs.declared.fault.Kind.TheVariants as kinds
-use Rattle.rh_trace.specs.lemmas.SpelledIsRead.{AreParts, command-read, checked_parts-join, lines_of-parts, starts_with_digit, begins_with_digit-append}
+use Rattle.rh_syntax.specs.Spelling.{operand_text, command_parts, OperandFits, CommandFits}
+use Rattle.rh_syntax.specs.declared.fault.Kind.{Kind}
+use Rattle.rh_syntax.specs.declared.fault.Kind.TheVariants as kinds
+use Rattle.rh_syntax.specs.lemmas.SpelledIsRead.{AreParts, command-read, checked_parts-join, lines_of-parts, starts_with_digit, begins_with_digit-append}
 use Rattle.rh_replay.specs.declared.call.Call.{Call}
 use Rattle.rh_replay.specs.declared.fault.HistoryKind.{HistoryKind}
 use Rattle.rh_replay.specs.declared.fault.HistoryKind.TheVariants.{Line, Answer, Count}

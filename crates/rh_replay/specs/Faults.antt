@@ -8,9 +8,9 @@ use Rattle.rh_text.specs.Number.{IsU32}
 use Rattle.rh_text.specs.RawLine.{RawLine}
 use Rattle.rh_text.specs.Parts.{parts_of, IsFormedLine}
 use Rattle.rh_text.specs.Stages.{◌when◌, no_fault, ◌▸◌, in_lines, IsFaultless}
-use Rattle.rh_trace.specs.declared.fault.Kind.{Kind}
-use Rattle.rh_trace.specs.declared.fault.Kind.TheVariants.{Empty, Long, Cut, Form, Header, Word, Number}
-use Rattle.rh_trace.specs.Faults.{IsNumber, IsFirstPart, command_part_faults, raw_line_faults}
+use Rattle.rh_syntax.specs.declared.fault.Kind.{Kind}
+use Rattle.rh_syntax.specs.declared.fault.Kind.TheVariants.{Empty, Long, Cut, Form, Header, Word, Number}
+use Rattle.rh_syntax.specs.Faults.{IsNumber, IsFirstPart, command_part_faults, raw_line_faults}
 use Rattle.rh_replay.specs.declared.fault.HistoryKind.{HistoryKind}
 use Rattle.rh_replay.specs.declared.fault.HistoryKind.TheVariants.{Line, Trailing, Answer, Count, End}
 use Rattle.rh_replay.specs.History.{AnswerFits}

@@ -6,7 +6,7 @@ use Rattle.rh_layout.specs.declared.command.Reply.TheVariants.{Done, Nil, Int, O
 use Rattle.rh_layout.specs.declared.refusal.Refusal.{Refusal}
 use Rattle.rh_layout.specs.Refusal.{is_limit}
 use Rattle.rh_text.specs.Number.{IsU32, IsI64}
-use Rattle.rh_trace.specs.Spelling.{CommandFits}
+use Rattle.rh_syntax.specs.Spelling.{CommandFits}
 use Rattle.rh_replay.specs.declared.call.Call.{Call}
 
 -- a history: how many owners there are, how many slots each has, and the calls in the order in

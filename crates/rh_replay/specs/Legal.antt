@@ -26,7 +26,8 @@ answer_after h count call =
 -- the call at this position, counted from 0, has the answer of the step at its position
 abbrev pub IsRightAt : HistoryState → ℕ → Type 0
 IsRightAt h position =
-    (call : Call) → slice_get h.calls position ≡ Some call → call.answer ≡ answer_after h position call
+    (call : Call) → slice_get h.calls position ≡ Some call
+    → call.answer ≡ answer_after h position call
 
 -- each call has the answer of the step at its position
 abbrev pub IsLegal : HistoryState → Type 0

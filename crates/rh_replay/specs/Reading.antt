@@ -11,9 +11,9 @@ use Rattle.rh_text.specs.RawLine.{RawLine, lines_of}
 use Rattle.rh_text.specs.Parts.{one_part, two_parts, three_parts, ◌>>=◌ as ◌>>=?◌}
 use Rattle.rh_text.specs.Number.{number_of, integer_of}
 use Rattle.rh_text.specs.Steps.{◌>>=◌, or_fault, with_fault}
-use Rattle.rh_trace.specs.declared.fault.Kind.{Kind}
-use Rattle.rh_trace.specs.declared.fault.Kind.TheVariants as kinds
-use Rattle.rh_trace.specs.Reading.{owned_command, checked_parts}
+use Rattle.rh_syntax.specs.declared.fault.Kind.{Kind}
+use Rattle.rh_syntax.specs.declared.fault.Kind.TheVariants as kinds
+use Rattle.rh_syntax.specs.Reading.{owned_command, checked_parts}
 use Rattle.rh_replay.specs.declared.call.Call.{Call}
 use Rattle.rh_replay.specs.declared.fault.HistoryKind.{HistoryKind}
 use Rattle.rh_replay.specs.declared.fault.HistoryKind.TheVariants.{Line, Trailing, Answer, Count, End}

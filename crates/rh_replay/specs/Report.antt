@@ -1,6 +1,6 @@
 -- The report on a history.
 use Rattle.std.specs.Prelude.{ℕ, zero, suc, List, [], ◌∷◌, ◌++◌, count_by, ◌==◌, if◌then◌else◌, codes, decimal}
-use Rattle.rh_trace.specs.Answers.{answer_text}
+use Rattle.rh_syntax.specs.CommandAnswers.{answer_text}
 use Rattle.rh_replay.specs.declared.call.Call.{Call}
 use Rattle.rh_replay.specs.declared.checking.Verdict.{Verdict}
 use Rattle.rh_replay.specs.declared.checking.Verdict.TheVariants.{Legal, Wrong}

@@ -6,8 +6,8 @@ use Rattle.rh_layout.specs.declared.command.Reply.{Reply}
 use Rattle.rh_layout.specs.declared.command.Reply.TheVariants.{Done, Nil, Int, Object, Same}
 use Rattle.rh_layout.specs.declared.refusal.Refusal.{Refusal}
 use Rattle.rh_text.specs.Parts.{spell_parts}
-use Rattle.rh_trace.specs.Answers.{answer_text, refusal_name}
-use Rattle.rh_trace.specs.Spelling.{command_text}
+use Rattle.rh_syntax.specs.CommandAnswers.{answer_text, refusal_name}
+use Rattle.rh_syntax.specs.Spelling.{command_text}
 use Rattle.rh_replay.specs.declared.call.Call.{Call}
 use Rattle.rh_replay.specs.History.{HistoryState, IsHistory}
 

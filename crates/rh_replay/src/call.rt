@@ -1,6 +1,6 @@
 //! One call of a heap.
 
-ghost use Rattle.rh_trace.specs.Spelling.{CommandFits, OperandFits};
+ghost use Rattle.rh_syntax.specs.Spelling.{CommandFits, OperandFits};
 ghost use Rattle.rh_replay.specs.History.{AnswerFits, AnswerIsKept};
 
 use rh_layout::{Command, Operand, Refusal, Reply};

@@ -3,7 +3,7 @@
 ghost use Rattle.std.specs.Prelude.{◌≡◌};
 ghost use Rattle.rh_replay.specs.declared.fault.HistoryError.TheVariants as errors;
 
-use rh_trace::Kind;
+use rh_syntax::Kind;
 use std::alloc::{AllocError, AllocFailed};
 use thiserror::Error;
 

@@ -10,8 +10,8 @@ use crate::call::Call;
 use crate::fault::{HistoryError, HistoryFault, HistoryKind};
 use crate::history::History;
 use crate::reading::{fault_after_end, header_or_fault, line_or_fault};
+use rh_syntax::Kind;
 use rh_text::first_line;
-use rh_trace::Kind;
 use std::alloc::Allocator;
 
 /// Nothing follows the last line; the line after it has this number.

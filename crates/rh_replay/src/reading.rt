@@ -14,8 +14,8 @@ use crate::call::Call;
 use crate::fault::{HistoryFault, HistoryKind};
 use rh_layout::limits::{MAX_LINE_BYTES, MAX_LINES};
 use rh_layout::{Command, MAX_OWNERS, MAX_SLOTS};
+use rh_syntax::{Kind, checked_parts, owned_command};
 use rh_text::{cut, next_part, one_part, read_number, three_parts};
-use rh_trace::{Kind, checked_parts, owned_command};
 
 /// What stands in a line before its last bytes, so many of them, and before the space before these:
 /// `None` where they are all of the line.

@@ -11,8 +11,8 @@ use crate::call::Call;
 use crate::checking::Verdict;
 use crate::history::History;
 use rh_layout::{Refusal, Reply};
+use rh_syntax::{put_answer_text, put_command_text};
 use rh_text::{Calls, LineText, Write, send};
-use rh_trace::{put_answer_text, put_command_text};
 use std::alloc::Allocator;
 use std::io;
 

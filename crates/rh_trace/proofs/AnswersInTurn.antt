@@ -5,19 +5,19 @@ use Rattle.std.specs.List.{flat_map}
 use Rattle.std.specs.Int.{from_bool}
 use Rattle.std.proofs.lemmas.List.{drop_more, take_more}
 use Rattle.std.proofs.lemmas.List.Sums.{count_by_more_yes, count_by_more_no}
-use Rattle.rh_core.specs.declared.config.ConfigFault.{ConfigFault}
-use Rattle.rh_core.specs.declared.config.HeapError.{HeapError}
+use Rattle.rh_mutator.specs.declared.config.ConfigFault.{ConfigFault}
+use Rattle.rh_core.specs.declared.refusals.HeapError.{HeapError}
 use Rattle.rh_core.specs.Config.{fault_of}
 use Rattle.rh_core.specs.Cycle.{IsWellFormed}
 use Rattle.rh_core.specs.Heap.{HeapState, new_heap}
-use Rattle.rh_trace.specs.declared.fault.TraceFault.{TraceFault}
+use Rattle.rh_syntax.specs.declared.fault.TraceFault.{TraceFault}
 use Rattle.rh_trace.specs.declared.run_fault.RunFault.TheVariants as faults
-use Rattle.rh_trace.specs.declared.line.Line.{Line}
+use Rattle.rh_syntax.specs.declared.line.Line.{Line}
 use Rattle.rh_trace.specs.declared.summary.Summary.{Summary}
-use Rattle.rh_trace.specs.Reading.{trace_of}
-use Rattle.rh_trace.specs.Spelling.{Script}
+use Rattle.rh_syntax.specs.Reading.{trace_of}
+use Rattle.rh_syntax.specs.Spelling.{Script}
 use Rattle.rh_trace.specs.Answers.{Answered, answered_text, is_answer, is_refused, is_flip, flip_of, words_of, root_words_of}
-use Rattle.rh_trace.specs.Engine.{EngineState}
+use Rattle.rh_engine.specs.Engine.{EngineState}
 use Rattle.rh_trace.specs.Run.{config_of, line_step, answers_to, answers_of, summary_of, summary_with, output_of, run_of_script, run_of_trace, run_of, StopsBeforeTotal, Ends}
 use Rattle.rh_text.specs.lemmas.Appends.{Appends-none, Keeps-same}
 

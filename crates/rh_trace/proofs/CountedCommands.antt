@@ -3,20 +3,20 @@ use Rattle.std.proofs.Common.{◌≡◌, ℕ, ◌+◌, Bool, cond, List, [], ◌
 use Rattle.std.specs.Prelude.{count_by}
 use Rattle.rh_core.specs.declared.event.Event.{Event}
 use Rattle.rh_core.specs.declared.event.Event.TheVariants as events
-use Rattle.rh_core.specs.declared.outcomes.Kind.{Kind}
+use Rattle.rh_layout.specs.declared.kind.Kind.{Kind}
 use Rattle.rh_core.specs.Dealing.{deal_step}
 use Rattle.rh_core.specs.Heap.{HeapState}
 use Rattle.rh_core.specs.Run.{event_step, answers_of}
-use Rattle.rh_trace.specs.declared.engine.DealRefusal.{DealRefusal}
-use Rattle.rh_trace.specs.declared.line.Asked.{Asked}
-use Rattle.rh_trace.specs.declared.line.Asked.TheVariants as asked
-use Rattle.rh_trace.specs.declared.line.Line.{Line}
+use Rattle.rh_engine.specs.declared.engine.DealRefusal.{DealRefusal}
+use Rattle.rh_syntax.specs.declared.line.Asked.{Asked}
+use Rattle.rh_syntax.specs.declared.line.Asked.TheVariants as asked
+use Rattle.rh_syntax.specs.declared.line.Line.{Line}
 use Rattle.rh_trace.specs.Answers.{is_answer, is_refused}
-use Rattle.rh_trace.specs.Engine.{EngineState, tray_refusal, deal_unless, give_found}
+use Rattle.rh_engine.specs.Engine.{EngineState, tray_refusal, deal_unless, give_found}
 use Rattle.rh_trace.specs.Events.{event_unless, gives_of, events_asked, events_of, is_command, is_refused_command}
-use Rattle.rh_trace.specs.Line.{asked_of}
+use Rattle.rh_syntax.specs.Line.{asked_of}
 use Rattle.rh_trace.specs.Run.{asked_step, line_step, answers_to}
-use Rattle.rh_trace.specs.Trays.{Tray, tray_named, replica_of}
+use Rattle.rh_engine.specs.Trays.{Tray, tray_named, replica_of}
 use Rattle.rh_trace.proofs.CountsByHead.{count_by-head}
 use Rattle.rh_trace.proofs.LinesAreEvents.{heap-of_deal}
 

@@ -7,7 +7,7 @@ use Rattle.rh_layout.specs.declared.command.RootId.{RootId}
 use Rattle.rh_partial.specs.PartialReplica.{ReplicaState}
 use Rattle.rh_core.specs.declared.outcomes.Dealt.{Dealt}
 use Rattle.rh_core.specs.declared.outcomes.Flipped.{Flipped}
-use Rattle.rh_core.specs.declared.outcomes.Kind.{Kind}
+use Rattle.rh_layout.specs.declared.kind.Kind.{Kind}
 use Rattle.rh_core.specs.declared.refusals.DealError.{DealError}
 use Rattle.rh_core.specs.declared.refusals.FlipError.{FlipError}
 use Rattle.rh_core.specs.Commands.{heap_step}
@@ -16,15 +16,15 @@ use Rattle.rh_core.specs.Dealing.{deal_step}
 use Rattle.rh_core.specs.Giving.{give_step}
 use Rattle.rh_core.specs.Heap.{HeapState}
 use Rattle.rh_core.specs.Shading.{shade_step}
-use Rattle.rh_trace.specs.declared.engine.DealRefusal.{DealRefusal}
-use Rattle.rh_trace.specs.declared.line.Asked.{Asked}
-use Rattle.rh_trace.specs.declared.line.Asked.TheVariants as asked
-use Rattle.rh_trace.specs.declared.line.Line.{Line}
+use Rattle.rh_engine.specs.declared.engine.DealRefusal.{DealRefusal}
+use Rattle.rh_syntax.specs.declared.line.Asked.{Asked}
+use Rattle.rh_syntax.specs.declared.line.Asked.TheVariants as asked
+use Rattle.rh_syntax.specs.declared.line.Line.{Line}
 use Rattle.rh_trace.specs.Answers.{is_flip, flip_of, words_of, root_words_of}
-use Rattle.rh_trace.specs.Engine.{EngineState, deal_unless, deal_done, tray_refusal, give_found}
-use Rattle.rh_trace.specs.Line.{asked_of}
+use Rattle.rh_engine.specs.Engine.{EngineState, deal_unless, deal_done, tray_refusal, give_found}
+use Rattle.rh_syntax.specs.Line.{asked_of}
 use Rattle.rh_trace.specs.Run.{asked_step, line_step, answers_to, engine_after}
-use Rattle.rh_trace.specs.Trays.{Trays, Tray, tray_named, replica_of}
+use Rattle.rh_engine.specs.Trays.{Trays, Tray, tray_named, replica_of}
 use Rattle.rh_trace.proofs.CountsByHead.{count_by-head}
 
 -- the counts stay

@@ -6,15 +6,6 @@ pub mod WrittenInTurn
 pub mod PlainAnswers
 pub mod WorkedTraces
 pub mod WorkedRuns
-pub mod WorkedAnswers
-pub mod TrayEntries
-pub mod NamedTrays
-pub mod EngineLemmas
-pub mod DealOrder
-pub mod PutTrays
-pub mod SetTrays
-pub mod LineOrder
-pub mod TrayChanges
 pub mod LinesAreEvents
-pub mod LeadingLines
 pub mod TraysInOrder
+pub mod HeapDump

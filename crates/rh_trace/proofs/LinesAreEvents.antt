@@ -3,7 +3,7 @@ use Rattle.std.proofs.Common.{◌≡◌, ℕ, List, [], ◌∷◌, ◌++◌, Opt
 use Rattle.rh_core.specs.declared.event.Event.{Event}
 use Rattle.rh_core.specs.declared.event.Event.TheVariants as events
 use Rattle.rh_core.specs.declared.outcomes.Dealt.{Dealt}
-use Rattle.rh_core.specs.declared.outcomes.Kind.{Kind}
+use Rattle.rh_layout.specs.declared.kind.Kind.{Kind}
 use Rattle.rh_core.specs.declared.outcomes.Given.{Given}
 use Rattle.rh_core.specs.declared.refusals.DealError.{DealError}
 use Rattle.rh_core.specs.declared.refusals.GiveError.{GiveError}
@@ -11,17 +11,17 @@ use Rattle.rh_core.specs.Dealing.{deal_step}
 use Rattle.rh_core.specs.Giving.{give_step}
 use Rattle.rh_core.specs.Heap.{HeapState}
 use Rattle.rh_core.specs.Run.{event_step, answers_of, heap_after}
-use Rattle.rh_trace.specs.declared.engine.DealRefusal.{DealRefusal}
-use Rattle.rh_trace.specs.declared.line.Asked.{Asked}
-use Rattle.rh_trace.specs.declared.line.Asked.TheVariants as asked
-use Rattle.rh_trace.specs.declared.line.Line.{Line}
+use Rattle.rh_engine.specs.declared.engine.DealRefusal.{DealRefusal}
+use Rattle.rh_syntax.specs.declared.line.Asked.{Asked}
+use Rattle.rh_syntax.specs.declared.line.Asked.TheVariants as asked
+use Rattle.rh_syntax.specs.declared.line.Line.{Line}
 use Rattle.rh_trace.specs.Answers as answered
-use Rattle.rh_trace.specs.Engine.{EngineState, tray_refusal, counts_of_dealt, deal_done, deal_unless, given_or_refused, give_found}
+use Rattle.rh_engine.specs.Engine.{EngineState, tray_refusal, counts_of_dealt, deal_done, deal_unless, given_or_refused, give_found}
 use Rattle.rh_trace.specs.Events as told
 use Rattle.rh_trace.specs.Events.{events_asked, events_of, gives_of, MayChangeTrays, TellsDealt, TellsGiven, TellsAnswer}
-use Rattle.rh_trace.specs.Line.{asked_of}
+use Rattle.rh_syntax.specs.Line.{asked_of}
 use Rattle.rh_trace.specs.Run.{asked_step, line_step, engine_after}
-use Rattle.rh_trace.specs.Trays.{Tray, Trays, tray_named, replica_of}
+use Rattle.rh_engine.specs.Trays.{Tray, Trays, tray_named, replica_of}
 
 pub heap-of_deal : (heap : HeapState) (answer : Result Dealt DealError) (trays : Trays) (name : List ℕ) → (deal_done heap answer trays name).0.heap ≡ heap
 heap-of_deal heap (Ok dealt) trays name = refl

@@ -5,40 +5,41 @@ use Rattle.std.specs.List.{flat_map}
 use Rattle.std.specs.Io.KnownBytes.{Appends, Consumes, Keeps}
 use Rattle.std.proofs.lemmas.List.{length-append, append_cancel_right}
 use Rattle.rh_model.specs.Plain.{PlainHeap, empty_plain}
-use Rattle.rh_core.specs.declared.config.Config.{Config}
-use Rattle.rh_core.specs.declared.config.ConfigFault.{ConfigFault}
+use Rattle.rh_mutator.specs.declared.config.Config.{Config}
+use Rattle.rh_mutator.specs.declared.config.ConfigFault.{ConfigFault}
 use Rattle.rh_core.specs.Config.{fault_of}
 use Rattle.rh_core.specs.Mutator.{StandsFor}
 use Rattle.rh_core.specs.Heap.{HeapState, new_heap}
 use Rattle.rh_core.specs.declared.event.Event.{Event}
 use Rattle.rh_core.specs.declared.event.Event.TheVariants as happenings
 use Rattle.rh_core.specs.declared.outcomes.Dealt.{Dealt}
-use Rattle.rh_core.specs.declared.outcomes.Kind.{Kind}
+use Rattle.rh_layout.specs.declared.kind.Kind.{Kind}
 use Rattle.rh_core.specs.declared.refusals.DealError.{DealError}
 use Rattle.rh_core.specs.Cycle.{IsWellFormed}
 use Rattle.rh_core.specs.Dealing.{deal_step}
 use Rattle.rh_core.specs.Run as events
 use Rattle.rh_core.specs.Run.{event_step}
 use Rattle.rh_core.specs.Stat.{stat_of}
-use Rattle.rh_trace.specs.declared.engine.DealRefusal.{DealRefusal}
-use Rattle.rh_trace.specs.Trays.{Trays, Tray, tray_named, replica_of}
-use Rattle.rh_trace.specs.Engine.{EngineState, command_step, begin_line_step, shade_line_step, deal_line_step, deal_unless, deal_done, tray_refusal, give_line_step, give_found, join_line_step, flip_line_step}
-use Rattle.rh_trace.specs.declared.fault.TraceFault.{TraceFault}
+use Rattle.rh_engine.specs.declared.engine.DealRefusal.{DealRefusal}
+use Rattle.rh_engine.specs.Trays.{Trays, Tray, tray_named, replica_of}
+use Rattle.rh_engine.specs.Engine.{EngineState, command_step, begin_line_step, shade_line_step, deal_line_step, deal_unless, deal_done, tray_refusal, give_line_step, give_found, join_line_step, flip_line_step}
+use Rattle.rh_syntax.specs.declared.fault.TraceFault.{TraceFault}
 use Rattle.rh_trace.specs.declared.run_fault.RunFault.{RunFault}
 use Rattle.rh_trace.specs.declared.run_fault.RunFault.TheVariants as faults
-use Rattle.rh_trace.specs.declared.line.Line.{Line}
+use Rattle.rh_syntax.specs.declared.line.Line.{Line}
 use Rattle.rh_trace.specs.declared.summary.Summary.{Summary}
 use Rattle.rh_text.specs.Output.{AppendsPrefix, AppendsLess}
-use Rattle.rh_trace.specs.Spelling.{Script}
-use Rattle.rh_trace.specs.Reading.{trace_of}
-use Rattle.rh_dump.specs.HeapDump.{dump_of, plain_dump_of}
-use Rattle.rh_trace.specs.declared.line.Asked.{Asked}
-use Rattle.rh_trace.specs.declared.line.Asked.TheVariants as asked
-use Rattle.rh_trace.specs.Line.{asked_of}
+use Rattle.rh_syntax.specs.Spelling.{Script}
+use Rattle.rh_syntax.specs.Reading.{trace_of}
+use Rattle.rh_dump.specs.PlainDump.{plain_dump_of}
+use Rattle.rh_trace.specs.HeapDump.{dump_of}
+use Rattle.rh_syntax.specs.declared.line.Asked.{Asked}
+use Rattle.rh_syntax.specs.declared.line.Asked.TheVariants as asked
+use Rattle.rh_syntax.specs.Line.{asked_of}
 use Rattle.rh_trace.specs.Answers as answers
 use Rattle.rh_trace.specs.Answers.{Answered, answered_text, total_line}
 use Rattle.rh_trace.specs.Run.{config_of, asked_step, line_step, answers_to, new_run, answers_of, summary_of, output_of, run_of_script, run_of_trace, text_of, StopsBeforeTotal, Ends, IsPlainAnswer, plain_after, AreTransparent, IsPlainRun}
-use Rattle.rh_trace.specs.lemmas.ReadIsSpelled.{trace_of-means}
+use Rattle.rh_syntax.specs.lemmas.ReadIsSpelled.{trace_of-means}
 
 -- a new heap stands for the empty plain heap
 abbrev pub Begins : Type 0

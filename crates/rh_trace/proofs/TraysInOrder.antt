@@ -8,21 +8,21 @@ use Rattle.rh_core.specs.Dealing.{deal_step}
 use Rattle.rh_core.specs.Giving.{HaveDistinctPlaces}
 use Rattle.rh_core.specs.Heap.{HeapState}
 use Rattle.rh_core.specs.declared.outcomes.Dealt.{Dealt}
-use Rattle.rh_core.specs.declared.outcomes.Kind.{Kind}
+use Rattle.rh_layout.specs.declared.kind.Kind.{Kind}
 use Rattle.rh_core.specs.declared.refusals.DealError.{DealError}
 use Rattle.rh_core.specs.declared.refusals.DealError.TheVariants as deal_errors
 use Rattle.rh_core.proofs.EntryPlaces.{places-apart}
-use Rattle.rh_trace.specs.declared.engine.DealRefusal.{DealRefusal}
-use Rattle.rh_trace.specs.declared.engine.DealRefusal.TheVariants as deal_refusals
-use Rattle.rh_trace.specs.declared.line.Asked.{Asked}
-use Rattle.rh_trace.specs.declared.line.Asked.TheVariants as asked
-use Rattle.rh_trace.specs.declared.line.Line.{Line}
-use Rattle.rh_trace.specs.declared.trays.JoinRefusal.TheVariants as join_refusals
-use Rattle.rh_trace.specs.Engine.{EngineState, tray_refusal, deal_done, deal_unless, give_found}
-use Rattle.rh_trace.specs.Line.{asked_of}
+use Rattle.rh_engine.specs.declared.engine.DealRefusal.{DealRefusal}
+use Rattle.rh_engine.specs.declared.engine.DealRefusal.TheVariants as deal_refusals
+use Rattle.rh_syntax.specs.declared.line.Asked.{Asked}
+use Rattle.rh_syntax.specs.declared.line.Asked.TheVariants as asked
+use Rattle.rh_syntax.specs.declared.line.Line.{Line}
+use Rattle.rh_engine.specs.declared.trays.JoinRefusal.TheVariants as join_refusals
+use Rattle.rh_engine.specs.Engine.{EngineState, tray_refusal, deal_done, deal_unless, give_found}
+use Rattle.rh_syntax.specs.Line.{asked_of}
 use Rattle.rh_trace.specs.Run.{asked_step, line_step, engine_after}
-use Rattle.rh_trace.specs.Trays.{Tray, Trays, tray_named, trays_with, tray_with, tray_or_empty, empty_tray, is_beyond, joined_into, join_found, with_join, IsInOrder, AreInOrder, AreFewInOrder}
-use Rattle.rh_trace.proofs.TrayEntries.{rises-with_all}
+use Rattle.rh_engine.specs.Trays.{Tray, Trays, tray_named, trays_with, tray_with, tray_or_empty, empty_tray, is_beyond, joined_into, join_found, with_join, IsInOrder, AreInOrder, AreFewInOrder}
+use Rattle.rh_engine.proofs.TrayEntries.{rises-with_all}
 
 named_by : (b : Bool) (t u : Tray) (rest : Option Tray) → IsInOrder t → (rest ≡ Some u → IsInOrder u) → cond b (Some t) rest ≡ Some u → IsInOrder u
 named_by true t u rest first later is =

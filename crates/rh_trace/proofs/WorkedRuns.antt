@@ -11,7 +11,8 @@ use Rattle.rh_layout.specs.declared.refusal.Refusal.{Refusal}
 use Rattle.rh_layout.specs.declared.value.Value.{Value}
 use Rattle.rh_layout.specs.declared.value.Value.TheVariants as values
 use Rattle.rh_core.specs.Classes.{class_of}
-use Rattle.rh_core.specs.Commands.{heap_step, heap_after_command, limit_of, mutators_after, is_limit_answer, AnswersAs}
+use Rattle.rh_core.specs.Commands.{heap_step, heap_after_command, is_limit_answer, AnswersAs}
+use Rattle.rh_mutator.specs.Commands.{limit_of, mutators_after}
 use Rattle.rh_core.specs.Cycle.{begin_step, flip_step}
 use Rattle.rh_core.specs.Dealing.{deal_step}
 use Rattle.rh_core.specs.Giving.{give_step}
@@ -23,11 +24,11 @@ use Rattle.rh_text.specs.Parts.{is_formed, one_part, two_parts, three_parts, six
 use Rattle.rh_text.specs.Root.{root_of}
 use Rattle.rh_trace.specs.Answers as told
 use Rattle.rh_trace.specs.Answers.{Answered}
-use Rattle.rh_trace.specs.declared.line.Line.{Line}
-use Rattle.rh_trace.specs.declared.line.Line.TheVariants.{Alloc, Load, Dump}
-use Rattle.rh_trace.specs.Reading.{operand_or_fault, alloc_of, store_of, command_or_fault, kind_or_fault, shade_of, deal_of, give_of, join_of, keyword_line, line_of_parts, sizes_of, header_of_parts, checked_parts, line_or_kind, header_or_kind, lines_from, script_or_fault}
+use Rattle.rh_syntax.specs.declared.line.Line.{Line}
+use Rattle.rh_syntax.specs.declared.line.Line.TheVariants.{Alloc, Load, Dump}
+use Rattle.rh_syntax.specs.Reading.{operand_or_fault, alloc_of, store_of, command_or_fault, kind_or_fault, shade_of, deal_of, give_of, join_of, keyword_line, line_of_parts, sizes_of, header_of_parts, checked_parts, line_or_kind, header_or_kind, lines_from, script_or_fault}
 use Rattle.rh_trace.specs.Run.{run_of, text_of, AreTransparent}
-use Rattle.rh_trace.specs.TrayName.{is_tray_name}
+use Rattle.rh_syntax.specs.TrayName.{is_tray_name}
 
 -- so many lines, each ended
 text : List (List ℕ) → List ℕ

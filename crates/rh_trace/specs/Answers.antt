@@ -1,12 +1,9 @@
 -- What is answered to a line, its text, and the line that ends the answers.
-use Rattle.std.specs.Prelude.{ℕ, ◌+◌, Bool, true, false, is_err, is_some, List, [], ◌∷◌, ◌++◌, Option, Some, None, Result, Ok, Err, codes, decimal}
-use Rattle.std.specs.Fmt.{signed_decimal}
+use Rattle.std.specs.Prelude.{ℕ, ◌+◌, Bool, true, false, is_err, is_some, List, [], ◌∷◌, ◌++◌, Option, Some, None, Result, codes, decimal}
 use Rattle.std.specs.List.{flat_map}
 use Rattle.std.specs.Result.{result_ok}
 use Rattle.rh_layout.specs.declared.command.Reply.{Reply}
-use Rattle.rh_layout.specs.declared.command.Reply.TheVariants.{Done, Nil, Int, Object, Same}
 use Rattle.rh_layout.specs.declared.refusal.Refusal.{Refusal}
-use Rattle.rh_layout.specs.declared.refusal.Refusal.TheVariants.{NoRoot, NotYours, NotObject, NoField, IntRange, FieldsRange, SpaceFull, LogFull, NumbersSpent}
 use Rattle.rh_core.specs.declared.outcomes as outcomes
 use Rattle.rh_core.specs.declared.refusals.BeginError.{BeginError}
 use Rattle.rh_core.specs.declared.refusals.FlipError.{FlipError}
@@ -14,13 +11,14 @@ use Rattle.rh_core.specs.declared.refusals.ShadeError.{ShadeError}
 use Rattle.rh_core.specs.declared.stat as stats
 use Rattle.rh_dump.specs.Dump.{GraphState}
 use Rattle.rh_dump.specs.Line.{dump_text}
-use Rattle.rh_trace.specs.CycleAnswers.{begin_text, shade_text, deal_text, give_text, join_text, flip_text, tray_text, stat_text}
-use Rattle.rh_trace.specs.Trays as trays
-use Rattle.rh_trace.specs.declared.engine.Counted.{Counted}
-use Rattle.rh_trace.specs.declared.engine.DealRefusal.{DealRefusal}
-use Rattle.rh_trace.specs.declared.engine.GiveRefusal.{GiveRefusal}
+use Rattle.rh_syntax.specs.CommandAnswers.{answer_text}
+use Rattle.rh_engine.specs.CycleAnswers.{begin_text, shade_text, deal_text, give_text, join_text, flip_text, tray_text, stat_text}
+use Rattle.rh_engine.specs.Trays as trays
+use Rattle.rh_engine.specs.declared.engine.Counted.{Counted}
+use Rattle.rh_engine.specs.declared.engine.DealRefusal.{DealRefusal}
+use Rattle.rh_engine.specs.declared.engine.GiveRefusal.{GiveRefusal}
 use Rattle.rh_trace.specs.declared.summary.Summary.{Summary}
-use Rattle.rh_trace.specs.declared.trays.JoinRefusal.{JoinRefusal}
+use Rattle.rh_engine.specs.declared.trays.JoinRefusal.{JoinRefusal}
 
 -- what is answered to a line: a reply or a refusal to a command, an outcome or a refusal to a step
 -- of a cycle, the trays, the numbers of a heap, or the dump of a graph
@@ -35,49 +33,6 @@ pub data Answered : Type 0 where
   Listing : (listed : trays.Trays) → Answered
   Numbers : (stat : stats.Stat.Stat) → Answered
   Dump : (graph : GraphState) → Answered
-
--- what a reply is written as
-abbrev pub reply_text : Reply → List ℕ
-reply_text Done = codes "done"
-reply_text Nil = codes "nil"
-reply_text (Int n) = codes "int " ++ signed_decimal n
-reply_text (Object fields) = codes "object " ++ decimal fields
-reply_text (Same true) = codes "same yes"
-reply_text (Same false) = codes "same no"
-
--- the name of a refusal
-abbrev pub refusal_name : Refusal → List ℕ
-refusal_name NoRoot = codes "NoRoot"
-refusal_name NotYours = codes "NotYours"
-refusal_name NotObject = codes "NotObject"
-refusal_name NoField = codes "NoField"
-refusal_name IntRange = codes "IntRange"
-refusal_name FieldsRange = codes "FieldsRange"
-refusal_name (SpaceFull need free) = codes "SpaceFull"
-refusal_name LogFull = codes "LogFull"
-refusal_name NumbersSpent = codes "NumbersSpent"
-
--- what a refusal tells after its name
-abbrev pub refusal_parts : Refusal → List ℕ
-refusal_parts NoRoot = []
-refusal_parts NotYours = []
-refusal_parts NotObject = []
-refusal_parts NoField = []
-refusal_parts IntRange = []
-refusal_parts FieldsRange = []
-refusal_parts (SpaceFull need free) =
-    codes " need " ++ (decimal need ++ (codes " free " ++ decimal free))
-refusal_parts LogFull = []
-refusal_parts NumbersSpent = []
-
--- what a refusal is written as
-abbrev pub refused_text : Refusal → List ℕ
-refused_text refusal = codes "refused " ++ (refusal_name refusal ++ refusal_parts refusal)
-
--- what an answer is written as
-abbrev pub answer_text : Result Reply Refusal → List ℕ
-answer_text (Ok reply) = reply_text reply
-answer_text (Err refusal) = refused_text refusal
 
 -- a text, with a line end
 abbrev pub with_line_end : List ℕ → List ℕ

@@ -8,19 +8,19 @@ use Rattle.rh_core.specs.declared.outcomes.Dealt.{Dealt}
 use Rattle.rh_core.specs.declared.outcomes.Given.{Given}
 use Rattle.rh_core.specs.declared.refusals.DealError.{DealError}
 use Rattle.rh_core.specs.declared.refusals.GiveError.{GiveError}
-use Rattle.rh_trace.specs.declared.engine.Counted.{Counted}
-use Rattle.rh_trace.specs.declared.engine.DealRefusal.{DealRefusal}
-use Rattle.rh_trace.specs.declared.engine.DealRefusal.TheVariants as deal_refusals
-use Rattle.rh_trace.specs.declared.engine.GiveRefusal.TheVariants as give_refusals
+use Rattle.rh_engine.specs.declared.engine.Counted.{Counted}
+use Rattle.rh_engine.specs.declared.engine.DealRefusal.{DealRefusal}
+use Rattle.rh_engine.specs.declared.engine.DealRefusal.TheVariants as deal_refusals
+use Rattle.rh_engine.specs.declared.engine.GiveRefusal.TheVariants as give_refusals
 use Rattle.rh_trace.specs.Answers as answers
 use Rattle.rh_trace.specs.Answers.{Answered}
-use Rattle.rh_trace.specs.declared.line.Asked.{Asked}
-use Rattle.rh_trace.specs.declared.line.Asked.TheVariants as asked
-use Rattle.rh_trace.specs.declared.line.Line.{Line}
-use Rattle.rh_trace.specs.Engine.{EngineState, tray_refusal}
-use Rattle.rh_trace.specs.Line.{asked_of}
+use Rattle.rh_syntax.specs.declared.line.Asked.{Asked}
+use Rattle.rh_syntax.specs.declared.line.Asked.TheVariants as asked
+use Rattle.rh_syntax.specs.declared.line.Line.{Line}
+use Rattle.rh_engine.specs.Engine.{EngineState, tray_refusal}
+use Rattle.rh_syntax.specs.Line.{asked_of}
 use Rattle.rh_trace.specs.Run.{line_step}
-use Rattle.rh_trace.specs.Trays.{Tray, tray_named, replica_of}
+use Rattle.rh_engine.specs.Trays.{Tray, tray_named, replica_of}
 
 module _ {A : Type 0} where
   -- a deal, unless the tray can't take a piece

@@ -4,8 +4,8 @@ use Rattle.std.specs.List.{flat_map}
 use Rattle.std.specs.Io.KnownBytes.{Appends, Consumes, Keeps}
 use Rattle.rh_layout.specs.declared.command.Reply.{Reply}
 use Rattle.rh_layout.specs.declared.refusal.Refusal.{Refusal}
-use Rattle.rh_core.specs.declared.config.Config.{Config}
-use Rattle.rh_core.specs.declared.config.ConfigFault.{ConfigFault}
+use Rattle.rh_mutator.specs.declared.config.Config.{Config}
+use Rattle.rh_mutator.specs.declared.config.ConfigFault.{ConfigFault}
 use Rattle.rh_core.specs.declared.outcomes as outcomes
 use Rattle.rh_core.specs.declared.refusals.BeginError.{BeginError}
 use Rattle.rh_core.specs.declared.refusals.FlipError.{FlipError}
@@ -16,27 +16,28 @@ use Rattle.rh_core.specs.Heap.{new_heap}
 use Rattle.rh_core.specs.Commands.{is_limit_answer, AnswersAs, plain_unless}
 use Rattle.rh_core.specs.Stat.{stat_of}
 use Rattle.rh_model.specs.Plain.{PlainHeap, empty_plain, step}
-use Rattle.rh_dump.specs.HeapDump.{dump_of, plain_dump_of}
-use Rattle.rh_trace.specs.declared.engine.Counted.{Counted}
-use Rattle.rh_trace.specs.declared.engine.DealRefusal.{DealRefusal}
-use Rattle.rh_trace.specs.declared.engine.GiveRefusal.{GiveRefusal}
-use Rattle.rh_trace.specs.declared.fault.TraceFault.{TraceFault}
+use Rattle.rh_dump.specs.PlainDump.{plain_dump_of}
+use Rattle.rh_trace.specs.HeapDump.{dump_of}
+use Rattle.rh_engine.specs.declared.engine.Counted.{Counted}
+use Rattle.rh_engine.specs.declared.engine.DealRefusal.{DealRefusal}
+use Rattle.rh_engine.specs.declared.engine.GiveRefusal.{GiveRefusal}
+use Rattle.rh_syntax.specs.declared.fault.TraceFault.{TraceFault}
 use Rattle.rh_trace.specs.declared.run_fault.RunFault.{RunFault}
 use Rattle.rh_trace.specs.declared.run_fault.RunFault.TheVariants as faults
-use Rattle.rh_trace.specs.declared.line.Asked.{Asked}
-use Rattle.rh_trace.specs.declared.line.Asked.TheVariants as asked
-use Rattle.rh_trace.specs.declared.line.Header.{Header}
-use Rattle.rh_trace.specs.declared.line.Line.{Line}
+use Rattle.rh_syntax.specs.declared.line.Asked.{Asked}
+use Rattle.rh_syntax.specs.declared.line.Asked.TheVariants as asked
+use Rattle.rh_syntax.specs.declared.line.Header.{Header}
+use Rattle.rh_syntax.specs.declared.line.Line.{Line}
 use Rattle.rh_trace.specs.declared.stop.Stop.{Stop}
 use Rattle.rh_trace.specs.declared.summary.Summary.{Summary}
-use Rattle.rh_trace.specs.declared.trays.JoinRefusal.{JoinRefusal}
-use Rattle.rh_trace.specs.Trays.{Trays}
-use Rattle.rh_trace.specs.Line.{asked_of}
-use Rattle.rh_trace.specs.Spelling.{Script, IsScript, spelling}
-use Rattle.rh_trace.specs.Reading.{trace_of}
+use Rattle.rh_engine.specs.declared.trays.JoinRefusal.{JoinRefusal}
+use Rattle.rh_engine.specs.Trays.{Trays}
+use Rattle.rh_syntax.specs.Line.{asked_of}
+use Rattle.rh_syntax.specs.Spelling.{Script, IsScript, spelling}
+use Rattle.rh_syntax.specs.Reading.{trace_of}
 use Rattle.rh_trace.specs.Answers as answers
 use Rattle.rh_trace.specs.Answers.{Answered, answered_text, is_answer, is_refused, is_flip, flip_of, words_of, root_words_of, total_line}
-use Rattle.rh_trace.specs.Engine.{EngineState, command_step, begin_line_step, shade_line_step, deal_line_step, give_line_step, join_line_step, flip_line_step}
+use Rattle.rh_engine.specs.Engine.{EngineState, command_step, begin_line_step, shade_line_step, deal_line_step, give_line_step, join_line_step, flip_line_step}
 use Rattle.rh_text.specs.Output.{AppendsPrefix, AppendsLess}
 
 -- the heap of a trace: the numbers of its first line, and 2^62 store numbers and epochs

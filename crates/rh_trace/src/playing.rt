@@ -5,27 +5,27 @@ ghost use Rattle.std.specs.List.{flat_map};
 ghost use Rattle.rh_text.specs.Calls.{AreSpent};
 ghost use Rattle.rh_text.specs.Output.{AppendsLess};
 ghost use Rattle.rh_core.specs.Stat.{stat_of};
-ghost use Rattle.rh_dump.specs.HeapDump.{dump_of};
 ghost use Rattle.rh_dump.specs.Line.{dump_text};
 ghost use Rattle.rh_trace.specs.Answers as answers;
-ghost use Rattle.rh_trace.specs.Answers.{answer_text, answered_text, with_line_end, trays_text};
-ghost use Rattle.rh_trace.specs.CycleAnswers.{flip_text, stat_text};
-ghost use Rattle.rh_trace.specs.Engine.{command_step, flip_line_step};
+ghost use Rattle.rh_syntax.specs.CommandAnswers.{answer_text};
+ghost use Rattle.rh_trace.specs.Answers.{answered_text, with_line_end, trays_text};
+ghost use Rattle.rh_engine.specs.CycleAnswers.{flip_text, stat_text};
+ghost use Rattle.rh_engine.specs.Engine.{command_step, flip_line_step};
+ghost use Rattle.rh_trace.specs.HeapDump.{dump_of};
 ghost use Rattle.rh_trace.specs.Run.{answers_to, line_step, output_of, summary_of, summary_with};
 ghost use Rattle.rh_trace.specs.Run.{Writes};
 
-use crate::answers::{put_answer_text, put_total};
-use crate::cycle_answers::{
-    put_begin, put_deal, put_flip, put_give, put_join, put_shade, put_stat, put_tray,
-};
-use crate::engine::Engine;
-use crate::line::{Asked, Line};
+use crate::answers::put_total;
+use crate::heap_dump::graph;
 use crate::stop::Stop;
 use crate::summary::Summary;
-use crate::trays::Trays;
 use rh_core::Heap;
-use rh_dump::{graph, write_dump_told};
+use rh_dump::write_dump_told;
+use rh_engine::{
+    Engine, Trays, put_begin, put_deal, put_flip, put_give, put_join, put_shade, put_stat, put_tray,
+};
 use rh_layout::Command;
+use rh_syntax::{Asked, Line, put_answer_text};
 use rh_text::{Calls, LineText, send};
 use std::alloc::Allocator;
 use std::io;

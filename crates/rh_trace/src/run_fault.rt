@@ -1,12 +1,12 @@
 //! Why a run of a trace ended early.
 
-use crate::fault::TraceFault;
 use rh_core::ConfigFault;
+use rh_syntax::TraceFault;
 use thiserror::Error;
 
 /// Why a run of a trace ended early. `Long`, `Trace` and `New` are faults of the input, in this
-/// order; nothing was written then, and nothing after `Read`. After `Write` a prefix of the text may
-/// be written, and not all of it; after `OutOfMemory` a prefix of the answers, and nothing of the
+/// order; nothing was written then, and nothing after `Read`. After `Write` a prefix of the text
+/// may be written, and not all of it; after `OutOfMemory` a prefix of the answers, and nothing of the
 /// total line.
 #[derive(Clone, Copy, Debug, PartialEq, Eq, Error)]
 pub enum RunFault {

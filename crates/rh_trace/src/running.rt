@@ -9,26 +9,24 @@ ghost use Rattle.rh_core.specs.Heap.{new_heap};
 ghost use Rattle.rh_text.specs.Calls.{AreSpent};
 ghost use Rattle.rh_text.specs.Output.{AppendsPrefix, AppendsLess};
 ghost use Rattle.rh_trace.specs.Answers.{Answered, answered_text};
-ghost use Rattle.rh_trace.specs.Reading.{trace_of};
-ghost use Rattle.rh_trace.specs.Spelling.{Script};
+ghost use Rattle.rh_syntax.specs.Reading.{trace_of};
+ghost use Rattle.rh_syntax.specs.Spelling.{Script};
 ghost use Rattle.rh_trace.specs.Run.{config_of, summary_of, output_of, run_of_trace, run_of};
 ghost use Rattle.rh_trace.specs.Run.{Ends, IsPlainRun};
 
-use crate::engine::Engine;
-use crate::fault::ParseError;
-use crate::line::Header;
+use crate::laws::dumps::a_heap_has_the_dump_of_its_plain_heap;
 use crate::playing::play;
 use crate::run_fault::RunFault;
 use crate::stop::Stop;
 use crate::summary::Summary;
-use crate::trace::parse;
 use rh_core::laws::heaps_answer_as_plain_heaps;
 use rh_core::laws::runs::{
     an_event_answers_as_the_plain_heap, every_event_keeps_a_heap_well_formed,
 };
 use rh_core::{Config, Heap, HeapError};
-use rh_dump::laws::a_heap_has_the_dump_of_its_plain_heap;
+use rh_engine::Engine;
 use rh_layout::limits::MAX_NUMBER;
+use rh_syntax::{Header, ParseError, parse};
 use rh_text::{Calls, InputFault, read_all};
 use std::alloc::Allocator;
 use std::io;

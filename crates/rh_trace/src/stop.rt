@@ -7,7 +7,7 @@ use rh_layout::OutOfMemory;
 use rh_text::Write;
 
 /// Why a run of lines stopped before all of them were answered.
-#[derive(Clone, Copy, Debug, PartialEq, Eq)]
+#[derive(Clone, Copy)]
 pub(crate) enum Stop {
     /// A write failed.
     Write,

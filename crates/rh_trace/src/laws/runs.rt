@@ -1,22 +1,22 @@
 //! Laws of the lines of a trace, run one after the other.
 
 ghost use Rattle.std.specs.Prelude.{◌≡◌, ℕ, ◌^◌, List, [], Some};
-ghost use Rattle.rh_core.specs.declared.outcomes.Kind.{Kind as KindOf};
+ghost use Rattle.rh_layout.specs.declared.kind.Kind.{Kind as KindOf};
 ghost use Rattle.rh_core.specs.Giving.{HaveDistinctPlaces};
 ghost use Rattle.rh_core.specs.Heap.{new_heap};
 ghost use Rattle.rh_core.specs.Run.{answers_of, heap_after};
 ghost use Rattle.rh_core.specs.Stat.{stat_of};
-ghost use Rattle.rh_dump.specs.HeapDump.{dump_of};
 ghost use Rattle.rh_trace.specs.Answers as answers;
-ghost use Rattle.rh_trace.specs.Engine.{EngineState, deal_line_step, give_line_step, join_line_step};
+ghost use Rattle.rh_engine.specs.Engine.{EngineState, deal_line_step, give_line_step, join_line_step};
 ghost use Rattle.rh_trace.specs.Events.{events_asked, events_of, MayChangeTrays, TellsAnswer};
-ghost use Rattle.rh_trace.specs.Line.{asked_of};
+ghost use Rattle.rh_trace.specs.HeapDump.{dump_of};
+ghost use Rattle.rh_syntax.specs.Line.{asked_of};
 ghost use Rattle.rh_trace.specs.Run.{config_of, engine_after, line_step, new_run};
-ghost use Rattle.rh_trace.specs.Spelling.{Script};
-ghost use Rattle.rh_trace.specs.Trays.{Tray, tray_named, AreFewInOrder};
-ghost use Rattle.rh_trace.specs.declared.line.Header.{Header as HeaderOf};
-ghost use Rattle.rh_trace.specs.declared.line.Line.{Line as LineOf};
-ghost use Rattle.rh_trace.specs.declared.line.Line.TheVariants as forms;
+ghost use Rattle.rh_syntax.specs.Spelling.{Script};
+ghost use Rattle.rh_engine.specs.Trays.{Tray, tray_named, AreFewInOrder};
+ghost use Rattle.rh_syntax.specs.declared.line.Header.{Header as HeaderOf};
+ghost use Rattle.rh_syntax.specs.declared.line.Line.{Line as LineOf};
+ghost use Rattle.rh_syntax.specs.declared.line.Line.TheVariants as forms;
 
 use std::alloc::Allocator;
 

@@ -2,10 +2,10 @@
 
 ghost use Rattle.std.specs.Prelude.{◌≡◌, ◌+◌, List, count_by};
 ghost use Rattle.rh_core.specs.Run.{answers_of};
-ghost use Rattle.rh_trace.specs.declared.line.Line.{Line as LineOf};
-ghost use Rattle.rh_trace.specs.Engine.{EngineState};
+ghost use Rattle.rh_syntax.specs.declared.line.Line.{Line as LineOf};
+ghost use Rattle.rh_engine.specs.Engine.{EngineState};
 ghost use Rattle.rh_trace.specs.Events.{events_of, is_command, is_refused_command};
-ghost use Rattle.rh_trace.specs.Line.{asked_of};
+ghost use Rattle.rh_syntax.specs.Line.{asked_of};
 ghost use Rattle.rh_trace.specs.Run.{answers_to, engine_after, summary_of};
 
 use rh_core::laws::a_command_leaves_the_cycle;

@@ -1,13 +1,13 @@
-use Rattle.std.proofs.Common.{◌≡◌, ℕ, List, Option, refl, sym, subst, ◌∙◌}
+use Rattle.std.proofs.Common.{rules, ◌≡◌, ℕ, List, Option, refl, sym, subst, ◌∙◌}
 use Rattle.std.proofs.lemmas.Result.{err_from_is_err_and}
 use Rattle.rh_text.specs.Output.{AppendsLess}
-use Rattle.rh_trace.specs.declared.line.Asked.{Asked}
-use Rattle.rh_trace.specs.declared.line.Asked.TheVariants as asked
-use Rattle.rh_trace.specs.declared.line.Line.{Line}
+use Rattle.rh_syntax.specs.declared.line.Asked.{Asked}
+use Rattle.rh_syntax.specs.declared.line.Asked.TheVariants as asked
+use Rattle.rh_syntax.specs.declared.line.Line.{Line}
 use Rattle.rh_trace.specs.Answers.{answered_text, with_line_end}
-use Rattle.rh_trace.specs.CycleAnswers.{deal_text, join_text}
-use Rattle.rh_trace.specs.Engine.{EngineState, deal_line_step, join_line_step}
-use Rattle.rh_trace.specs.Line.{asked_of}
+use Rattle.rh_engine.specs.CycleAnswers.{deal_text, join_text}
+use Rattle.rh_engine.specs.Engine.{EngineState, deal_line_step, join_line_step}
+use Rattle.rh_syntax.specs.Line.{asked_of}
 use Rattle.rh_trace.specs.Run.{asked_step, line_step}
 use Rattle.rh_trace.proofs.WrittenInTurn.{nothing_of_line}
 use Rattle.rh_trace.proofs.playing.play_line.Goals as goal
@@ -31,3 +31,6 @@ returns-in_err-join-in-Join-clause-written g c =
     let it = asked.Join c.in-Join.into c.in-Join.other in
     let answer = (join_line_step e c.in-Join.into c.in-Join.other).1 in
     rw p.1 (unanswered (g.W.Write.contents c.args.writer.now) e c.args.line.now c.asks.result it (join_text answer) c.asks.ensures c.in-Join.is refl)
+
+pub returns-in-Dump-clause-summary : goal.returns-in-Dump-clause-summary
+returns-in-Dump-clause-summary g c = search rules

@@ -3,8 +3,8 @@ use Rattle.std.specs.Io.KnownBytes.{Appends}
 use Rattle.std.proofs.lemmas.Result.{err_from_is_err_and}
 use Rattle.std.proofs.lemmas.Option.{get_or_from_slice_get, slice_get_within, slice_get-get_or}
 use Rattle.rh_trace.specs.Answers.{with_line_end, trays_text}
-use Rattle.rh_trace.specs.CycleAnswers.{tray_text}
-use Rattle.rh_trace.specs.Trays.{Tray, tray_of}
+use Rattle.rh_engine.specs.CycleAnswers.{tray_text}
+use Rattle.rh_engine.specs.Trays.{Tray, tray_of}
 use Rattle.rh_trace.specs.Run.{Writes}
 use Rattle.rh_text.specs.lemmas.Appends.{sent_next}
 use Rattle.rh_trace.proofs.WrittenInTurn.{stopped_at, ok_no_error}

@@ -1,12 +1,12 @@
 use Rattle.std.proofs.Common.{◌≡◌, [], None, Some, Ok, Err, inr, refl, ap, subst, sym, ◌∙◌}
 use Rattle.std.specs.List.{flat_map}
 use Rattle.std.specs.Io.KnownBytes.{Appends}
-use Rattle.rh_core.specs.declared.config.HeapError.TheVariants as errors
+use Rattle.rh_core.specs.declared.refusals.HeapError.TheVariants as errors
 use Rattle.rh_core.specs.Config.{fault_of}
 use Rattle.rh_core.specs.Heap.{HeapState, new_heap}
 use Rattle.rh_trace.specs.Answers.{answered_text}
-use Rattle.rh_trace.specs.Engine.{EngineState}
-use Rattle.rh_trace.specs.Reading.{trace_of}
+use Rattle.rh_engine.specs.Engine.{EngineState}
+use Rattle.rh_syntax.specs.Reading.{trace_of}
 use Rattle.rh_trace.specs.Run.{config_of, answers_to, new_run, answers_of, summary_of, output_of, run_of_trace, text_of, StopsBeforeTotal}
 use Rattle.rh_text.specs.Output.{AppendsLess}
 use Rattle.rh_text.specs.lemmas.Appends.{Keeps-same}

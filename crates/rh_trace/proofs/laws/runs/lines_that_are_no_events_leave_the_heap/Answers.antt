@@ -1,6 +1,6 @@
 use Rattle.std.proofs.Common.{refl}
 use Rattle.rh_trace.proofs.LinesAreEvents.{trays-of_asked}
-use Rattle.rh_trace.specs.Line.{asked_of}
+use Rattle.rh_syntax.specs.Line.{asked_of}
 use Rattle.rh_trace.proofs.laws.runs.lines_that_are_no_events_leave_the_heap.Goals as goal
 
 pub returns-clause-trays : goal.returns-clause-trays

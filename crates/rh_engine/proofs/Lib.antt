@@ -1,0 +1,9 @@
+pub mod WorkedAnswers
+pub mod TrayEntries
+pub mod NamedTrays
+pub mod EngineLemmas
+pub mod DealOrder
+pub mod PutTrays
+pub mod SetTrays
+pub mod LineOrder
+pub mod TrayChanges

@@ -1,0 +1,180 @@
+-- What the lines of a trace make of a heap and the trays, and what they are answered.
+use Rattle.std.specs.Prelude.{◌≡◌, ◌≢◌, ℕ, ◌≤◌, ◌==◌, not, false, if◌then◌else◌, List, length, Option, Some, None, Result, Ok, Err}
+use Rattle.rh_layout.specs.declared.command.Command.{Command}
+use Rattle.rh_layout.specs.declared.command.Reply.{Reply}
+use Rattle.rh_layout.specs.declared.command.RootId.{RootId}
+use Rattle.rh_layout.specs.declared.refusal.Refusal.{Refusal}
+use Rattle.rh_core.specs.declared.outcomes.Dealt.{Dealt}
+use Rattle.rh_core.specs.declared.outcomes.Flipped.{Flipped}
+use Rattle.rh_core.specs.declared.outcomes.Given.{Given}
+use Rattle.rh_layout.specs.declared.kind.Kind.{Kind}
+use Rattle.rh_core.specs.declared.outcomes.Shaded.{Shaded}
+use Rattle.rh_core.specs.declared.refusals.BeginError.{BeginError}
+use Rattle.rh_core.specs.declared.refusals.DealError.{DealError}
+use Rattle.rh_core.specs.declared.refusals.DealError.TheVariants as deal_errors
+use Rattle.rh_core.specs.declared.refusals.FlipError.{FlipError}
+use Rattle.rh_core.specs.declared.refusals.GiveError.{GiveError}
+use Rattle.rh_core.specs.declared.refusals.ShadeError.{ShadeError}
+use Rattle.rh_text.specs.Stages.{◌when◌, ◌▸◌, no_fault}
+use Rattle.rh_core.specs.Heap.{HeapState}
+use Rattle.rh_core.specs.Commands.{heap_step}
+use Rattle.rh_core.specs.Cycle.{begin_step, flip_step}
+use Rattle.rh_core.specs.Shading.{shade_step}
+use Rattle.rh_core.specs.Dealing.{deal_step}
+use Rattle.rh_core.specs.Giving.{give_step}
+use Rattle.rh_engine.specs.declared.engine.Counted.{Counted}
+use Rattle.rh_engine.specs.declared.engine.DealRefusal.{DealRefusal}
+use Rattle.rh_engine.specs.declared.engine.DealRefusal.TheVariants as deal_refusals
+use Rattle.rh_engine.specs.declared.engine.GiveRefusal.{GiveRefusal}
+use Rattle.rh_engine.specs.declared.engine.GiveRefusal.TheVariants as give_refusals
+use Rattle.rh_engine.specs.declared.trays.JoinRefusal.{JoinRefusal}
+use Rattle.rh_engine.specs.declared.trays.JoinRefusal.TheVariants as join_refusals
+use Rattle.rh_engine.specs.Trays.{Trays, Tray, tray_named, trays_with, tray_with, tray_or_empty, replica_of, is_beyond, join_step, IsFoldedInto}
+
+-- what the lines of a trace work on: the heap, and the trays
+pub record EngineState : Type 0 where
+  pub heap : HeapState
+  pub trays : Trays
+
+-- an owner's command
+abbrev pub command_step : EngineState → ℕ → Command → EngineState × Result Reply Refusal
+command_step e owner command = (
+  record e { heap = (heap_step e.heap owner command).0 },
+  (heap_step e.heap owner command).1,
+)
+
+-- a cycle begins
+abbrev pub begin_line_step : EngineState → EngineState × Result ℕ BeginError
+begin_line_step e = (record e { heap = (begin_step e.heap).0 }, (begin_step e.heap).1)
+
+-- what a root refers to is placed
+abbrev pub shade_line_step : EngineState → RootId → EngineState × Result Shaded ShadeError
+shade_line_step e root =
+    (record e { heap = (shade_step e.heap root).0 }, (shade_step e.heap root).1)
+
+-- the roots are moved to the replica
+abbrev pub flip_line_step : EngineState → EngineState × Result Flipped FlipError
+flip_line_step e = (record e { heap = (flip_step e.heap).0 }, (flip_step e.heap).1)
+
+-- Deal.
+
+-- why a deal into a tray of this name is refused before the heap is asked to deal
+abbrev pub tray_refusal : EngineState → List ℕ → Option DealRefusal
+tray_refusal e name =
+    if not e.heap.mutators.cycle then Some (deal_refusals.Heap deal_errors.NoCycle)
+    else if is_beyond e.trays name then Some deal_refusals.TooManyTrays
+    else if not ((tray_or_empty e.trays name e.heap.epoch).epoch == e.heap.epoch)
+    then Some deal_refusals.OtherEpoch
+    else None
+
+-- the trays once a piece was folded into the one of this name, which is made where it isn't there
+abbrev pub with_dealt : Trays → List ℕ → Dealt → Trays
+with_dealt trays name dealt =
+    trays_with trays name
+    (tray_with (tray_or_empty trays name dealt.piece.epoch) dealt.piece.items)
+
+-- how many items a piece has, and how many entries were passed over
+abbrev pub counts_of_dealt : Dealt → Counted
+counts_of_dealt dealt = record { items = length dealt.piece.items; passed = dealt.passed }
+
+-- the engine and the answer, once the heap was asked to deal
+abbrev pub deal_done : HeapState → Result Dealt DealError → Trays → List ℕ
+    → EngineState × Result Counted DealRefusal
+deal_done heap (Ok dealt) trays name =
+    (record { heap = heap; trays = with_dealt trays name dealt }, Ok (counts_of_dealt dealt))
+deal_done heap (Err why) trays name =
+    (record { heap = heap; trays = trays }, Err (deal_refusals.Heap why))
+
+-- the same, unless it was refused before
+abbrev pub deal_unless : Option DealRefusal → EngineState → Kind → ℕ → List ℕ
+    → EngineState × Result Counted DealRefusal
+deal_unless (Some why) e kind most name = (e, Err why)
+deal_unless None e kind most name =
+    deal_done (deal_step e.heap kind most).0 (deal_step e.heap kind most).1 e.trays name
+
+-- A piece is dealt, and folded into a tray.
+abbrev pub deal_line_step : EngineState → Kind → ℕ → List ℕ
+    → EngineState × Result Counted DealRefusal
+deal_line_step e kind most name = deal_unless (tray_refusal e name) e kind most name
+
+-- Give.
+
+-- what the heap answers to a replica that it is given, as an answer to the line
+abbrev pub given_or_refused : Result Given GiveError → Result Given GiveRefusal
+given_or_refused (Ok given) = Ok given
+given_or_refused (Err why) = Err (give_refusals.Heap why)
+
+-- the engine and the answer, where there may be no such tray
+abbrev pub give_found : Option Tray → EngineState → EngineState × Result Given GiveRefusal
+give_found None e = (e, Err give_refusals.NoTray)
+give_found (Some t) e = (
+  record e { heap = (give_step e.heap (replica_of t)).0 },
+  given_or_refused (give_step e.heap (replica_of t)).1,
+)
+
+-- The replica in a tray is given to the heap, and stays in the tray.
+abbrev pub give_line_step : EngineState → List ℕ → EngineState × Result Given GiveRefusal
+give_line_step e name = give_found (tray_named e.trays name) e
+
+-- Join.
+
+-- The second tray is joined into the first.
+abbrev pub join_line_step : EngineState → List ℕ → List ℕ → EngineState × Result ℕ JoinRefusal
+join_line_step e into other =
+    (record e { trays = (join_step e.trays into other).0 }, (join_step e.trays into other).1)
+
+-- Laws.
+
+-- there is no tray of this name, and there are 64 others
+abbrev pub IsOneTooMany : EngineState → List ℕ → Type 0
+IsOneTooMany e name = (tray_named e.trays name ≡ None) × (64 ≤ length e.trays)
+
+-- there is a tray of this name, of another epoch than the heap's
+abbrev pub IsOfOtherEpoch : EngineState → List ℕ → Type 0
+IsOfOtherEpoch e name =
+    (t : Tray) × (tray_named e.trays name ≡ Some t) × (t.epoch ≢ e.heap.epoch)
+
+-- the heap refuses to deal
+abbrev pub IsHeapRefusal : EngineState → Kind → ℕ → DealRefusal → Type 0
+IsHeapRefusal e kind most why =
+    (error : DealError) × (why ≡ deal_refusals.Heap error)
+    × ((deal_step e.heap kind most).1 ≡ Err error)
+
+-- the refusals of a deal into a tray, in their order, each with when it holds
+abbrev pub refusals_of_deal : EngineState → Kind → ℕ → List ℕ → ℕ → DealRefusal → Type 0
+refusals_of_deal e kind most name =
+    (deal_refusals.Heap deal_errors.NoCycle when (e.heap.mutators.cycle ≡ false))
+    ▸ (deal_refusals.TooManyTrays when IsOneTooMany e name)
+    ▸ (deal_refusals.OtherEpoch when IsOfOtherEpoch e name)
+    ▸ IsHeapRefusal e kind most
+    ▸ no_fault
+
+-- the refusals of a join, in their order, each with when it holds
+abbrev pub refusals_of_join : EngineState → List ℕ → List ℕ → ℕ → JoinRefusal → Type 0
+refusals_of_join e into other =
+    (join_refusals.NoTray when (tray_named e.trays other ≡ None))
+    ▸ (join_refusals.TooManyTrays when IsOneTooMany e into)
+    ▸ no_fault
+
+-- the heap refuses the replica in the tray
+abbrev pub IsGiveRefusal : EngineState → List ℕ → GiveRefusal → Type 0
+IsGiveRefusal e name why =
+    (t : Tray) × (error : GiveError) × (tray_named e.trays name ≡ Some t)
+    × (why ≡ give_refusals.Heap error) × ((give_step e.heap (replica_of t)).1 ≡ Err error)
+
+-- the refusals of a give of a tray, in their order, each with when it holds
+abbrev pub refusals_of_give : EngineState → List ℕ → ℕ → GiveRefusal → Type 0
+refusals_of_give e name =
+    (give_refusals.NoTray when (tray_named e.trays name ≡ None))
+    ▸ IsGiveRefusal e name
+    ▸ no_fault
+
+-- The heap dealt a piece, which was folded into the tray of this name. Its items, and the entries
+-- that were passed over, are counted.
+pub record IsDealtInto (before after : EngineState) (kind : Kind) (most : ℕ) (name : List ℕ)
+    (done : Counted) : Type 0 where
+  pub dealt : Dealt
+  pub step : deal_step before.heap kind most ≡ (after.heap, Ok dealt)
+  pub folded : IsFoldedInto before.trays after.trays name dealt.piece
+  pub items : done.items ≡ length dealt.piece.items
+  pub passed : done.passed ≡ dealt.passed

@@ -1,0 +1,3 @@
+pub mod Trays
+pub mod Engine
+pub mod CycleAnswers

@@ -1,0 +1,14 @@
+//! The engine of traces: a heap and trays, what the lines of a cycle do with both, and the texts of
+//! their answers.
+#![tactic(auto)]
+
+mod cycle_answers;
+mod engine;
+pub mod laws;
+mod trays;
+
+pub use cycle_answers::{
+    put_begin, put_deal, put_flip, put_give, put_join, put_shade, put_stat, put_tray,
+};
+pub use engine::{Counted, DealRefusal, Engine, GiveRefusal};
+pub use trays::{JoinRefusal, Trays};

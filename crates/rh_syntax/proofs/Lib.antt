@@ -1,0 +1,3 @@
+pub mod LeadingLines
+pub mod WorkedReading
+pub mod WorkedRefusals

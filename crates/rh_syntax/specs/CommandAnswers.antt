@@ -1,0 +1,50 @@
+-- The texts of the answers to commands, without line ends.
+use Rattle.std.specs.Prelude.{ℕ, true, false, List, [], ◌++◌, Result, Ok, Err, codes, decimal}
+use Rattle.std.specs.Fmt.{signed_decimal}
+use Rattle.rh_layout.specs.declared.command.Reply.{Reply}
+use Rattle.rh_layout.specs.declared.command.Reply.TheVariants.{Done, Nil, Int, Object, Same}
+use Rattle.rh_layout.specs.declared.refusal.Refusal.{Refusal}
+use Rattle.rh_layout.specs.declared.refusal.Refusal.TheVariants.{NoRoot, NotYours, NotObject, NoField, IntRange, FieldsRange, SpaceFull, LogFull, NumbersSpent}
+
+-- what a reply is written as
+abbrev pub reply_text : Reply → List ℕ
+reply_text Done = codes "done"
+reply_text Nil = codes "nil"
+reply_text (Int n) = codes "int " ++ signed_decimal n
+reply_text (Object fields) = codes "object " ++ decimal fields
+reply_text (Same true) = codes "same yes"
+reply_text (Same false) = codes "same no"
+
+-- the name of a refusal
+abbrev pub refusal_name : Refusal → List ℕ
+refusal_name NoRoot = codes "NoRoot"
+refusal_name NotYours = codes "NotYours"
+refusal_name NotObject = codes "NotObject"
+refusal_name NoField = codes "NoField"
+refusal_name IntRange = codes "IntRange"
+refusal_name FieldsRange = codes "FieldsRange"
+refusal_name (SpaceFull need free) = codes "SpaceFull"
+refusal_name LogFull = codes "LogFull"
+refusal_name NumbersSpent = codes "NumbersSpent"
+
+-- what a refusal tells after its name
+abbrev pub refusal_parts : Refusal → List ℕ
+refusal_parts NoRoot = []
+refusal_parts NotYours = []
+refusal_parts NotObject = []
+refusal_parts NoField = []
+refusal_parts IntRange = []
+refusal_parts FieldsRange = []
+refusal_parts (SpaceFull need free) =
+    codes " need " ++ (decimal need ++ (codes " free " ++ decimal free))
+refusal_parts LogFull = []
+refusal_parts NumbersSpent = []
+
+-- what a refusal is written as
+abbrev pub refused_text : Refusal → List ℕ
+refused_text refusal = codes "refused " ++ (refusal_name refusal ++ refusal_parts refusal)
+
+-- what an answer is written as
+abbrev pub answer_text : Result Reply Refusal → List ℕ
+answer_text (Ok reply) = reply_text reply
+answer_text (Err refusal) = refused_text refusal

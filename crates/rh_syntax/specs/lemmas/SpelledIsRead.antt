@@ -1,0 +1,396 @@
+-- What a trace is spelled as is read as that trace.
+use Rattle.std.proofs.Common.{◌≡◌, ℕ, ℤ, pos, negsuc, suc, ◌+◌, ◌^◌, ◌<◌, ◌≤◌, Bool, true, false, inl, inr, cond, leb, ltb, eqb, not, List, [], ◌∷◌, ◌++◌, length, Option, Result, Ok, Err, refl, sym, ap, ◌∙◌, append_assoc, arith}
+use Rattle.std.specs.Prelude.{codes, decimal}
+use Rattle.std.specs.Fmt.{signed_decimal}
+use Rattle.std.specs.List.{flat_map, join_with_byte, AllByRecursion, list_all}
+use Rattle.std.specs.Str.{bytes_eq}
+use Rattle.std.proofs.lemmas.Bool.{false≢true, false_from_ne_true, or_right, and_parts, and_from, leb-true, le-ltb, ne_eqb, or_from}
+use Rattle.std.proofs.lemmas.List.Folds.{list_any-append}
+use Rattle.std.proofs.lemmas.Slice.Eq.{bytes_eq-Decides}
+use Rattle.rh_layout.specs.declared.command.Command.{Command}
+use Rattle.rh_layout.specs.declared.command.Command.TheVariants.{Alloc, Load, Store, Copy, Same, Drop}
+use Rattle.rh_layout.specs.declared.command.Operand.{Operand}
+use Rattle.rh_layout.specs.declared.command.Operand.TheVariants as operands
+use Rattle.rh_layout.specs.declared.command.RootId.{RootId}
+use Rattle.rh_layout.specs.declared.kind.Kind as pieces
+use Rattle.rh_layout.specs.declared.kind.Kind.TheVariants.{Copies, Entries}
+use Rattle.rh_text.specs.Number.{IsU32, IsI64}
+use Rattle.rh_text.specs.Parts.{parts_of, is_filled, is_formed, has_dot, begins_with_digit, spell_parts, one_part, two_parts, three_parts, six_parts}
+use Rattle.rh_text.specs.RawLine.{lines_of}
+use Rattle.rh_text.specs.Root.{root_text, RootFits}
+use Rattle.rh_text.specs.Steps.{◌>>=◌, or_fault, with_fault}
+use Rattle.rh_text.specs.lemmas.Integers.{i64_size, integer_of-decimal}
+use Rattle.rh_text.specs.lemmas.Numbers.{number_of-decimal}
+use Rattle.rh_text.specs.lemmas.Roots.{root_of-text, root_part}
+use Rattle.rh_text.specs.lemmas.Joins.{IsPart, is_glyph, is_decimal_digit, bounds, within, filled-decimal, decimal_digits, wide_digits, wide_filled, number_part, integer_part, parts_of-join, printable-join, length-join, is_formed-join, ended_line, lines_of-prefix}
+use Rattle.rh_syntax.specs.declared.fault.Kind.{Kind}
+use Rattle.rh_syntax.specs.declared.fault.Kind.TheVariants.{Long, Form, Word, Number, Root, Tray}
+use Rattle.rh_syntax.specs.declared.fault.TraceFault.{TraceFault}
+use Rattle.rh_syntax.specs.declared.line as declared
+use Rattle.rh_syntax.specs.declared.line.Line.{Line}
+use Rattle.rh_syntax.specs.declared.line.Line.TheVariants as lines
+use Rattle.rh_syntax.specs.declared.line.Asked.TheVariants as asked
+use Rattle.rh_syntax.specs.Line.{asked_of, line_of}
+use Rattle.rh_syntax.specs.TrayName.{IsNameByte, IsTrayName}
+use Rattle.rh_syntax.specs.Spelling.{Script, operand_text, kind_text, asked_parts, command_parts, command_text, line_parts, header_parts, spell_line, spelling, OperandFits, CommandFits, LineFits, HeaderFits, IsScript}
+use Rattle.rh_syntax.specs.Reading.{number_or_fault, integer_or_fault, root_or_fault, operand_or_fault, tray_or_fault, kind_or_fault, alloc_of, load_of, store_of, copy_of, same_of, drop_of, command_or_fault, owned_command, single_command, shade_of, deal_of, give_of, join_of, keyword_line, line_of_parts, sizes_of, header_of_parts, checked_parts, fault_at, line_or_kind, header_or_kind, line_or_fault, header_or_fault, lines_from, script_or_fault, trace_of}
+use Rattle.rh_syntax.specs.lemmas.TrayNames.{read-from_name}
+
+-- ---- what the parts of a spelled line are like
+
+-- the parts of a line: a first one, and at most ten more
+pub record AreParts (first : List ℕ) (others : List (List ℕ)) : Type 0 where
+  pub each : AllByRecursion IsPart (first ∷ others)
+  pub few : length others ≤ 10
+
+operand_part : (operand : Operand) → OperandFits operand → IsPart (operand_text operand)
+operand_part operands.Nil fits = record { filled = refl; glyphs = refl; short = omega arith }
+operand_part (operands.Int n) fits = integer_part n fits
+operand_part (operands.Root root) fits = root_part root fits
+
+keyword_part : (keyword : List ℕ) → is_filled keyword ≡ true → list_all is_glyph keyword ≡ true → leb (length keyword) 21 ≡ true → IsPart keyword
+keyword_part keyword filled glyphs short = record { filled = filled; glyphs = glyphs; short = leb-true (length keyword) 21 short }
+
+kind_part : (kind : pieces.Kind) → IsPart (kind_text kind)
+kind_part Copies = keyword_part (codes "copies") refl refl refl
+kind_part Entries = keyword_part (codes "entries") refl refl refl
+
+is_glyph-name_byte : (b : ℕ) → IsNameByte b → is_glyph b ≡ true
+is_glyph-name_byte b (inl h) = within 33 126 b (omega (arith, h.0)) (omega (arith, h.1))
+is_glyph-name_byte b (inr (inl h)) = within 33 126 b (omega (arith, h.0)) (omega (arith, h.1))
+is_glyph-name_byte b (inr (inr h)) = within 33 126 b (omega (arith, h)) (omega (arith, h))
+
+glyphs-name_bytes : (bytes : List ℕ) → AllByRecursion IsNameByte bytes → list_all is_glyph bytes ≡ true
+glyphs-name_bytes [] h = refl
+glyphs-name_bytes (b ∷ bytes) h = and_from (is_glyph b) (list_all is_glyph bytes) (is_glyph-name_byte b h.0) (glyphs-name_bytes bytes h.1)
+
+tray_part : (name : List ℕ) → IsTrayName name → IsPart name
+tray_part [] h = absurd h
+tray_part (first ∷ rest) h = record {
+  filled = refl;
+  glyphs = glyphs-name_bytes (first ∷ rest) (inl h.0, h.2);
+  short = omega (arith, h.1);
+}
+
+pub checked_parts-join : (number : ℕ) (first : List ℕ) (others : List (List ℕ)) → number ≤ 1048576 → AreParts first others → checked_parts number (ended_line (join_with_byte 32 (first ∷ others))) ≡ Ok (first ∷ others)
+unfolding checked_parts
+checked_parts-join number first others small are =
+    let line = join_with_byte 32 (first ∷ others) in
+    let early : ltb 1048576 number ≡ false = le-ltb 1048576 number small in
+    let short : ltb 256 (length line) ≡ false = le-ltb 256 (length line) (omega (arith, length-join first others are.each, are.few)) in
+    let read : Result (List (List ℕ)) Kind = cond (not (is_formed line)) (Err Form) (Ok (parts_of line)) in
+    ap (λ (t : Bool). cond t (Err Long) read) (or_from (ltb 1048576 number) (ltb 256 (length line)) early short)
+    ∙ ap (λ (t : Bool). cond (not t) (Err Form) (Ok (parts_of line))) (is_formed-join first others are.each)
+    ∙ ap (λ (ps : List (List ℕ)). Ok ps) (parts_of-join first others are.each)
+
+-- ---- numbers, roots, names of trays, lines and the header
+
+number_or_fault-decimal : (n : ℕ) → IsU32 n → number_or_fault (decimal n) ≡ Ok n
+number_or_fault-decimal n small = ap (λ (o : Option ℕ). or_fault o Number) (number_of-decimal n small)
+
+root_or_fault-text : (root : RootId) → RootFits root → root_or_fault (root_text root) ≡ Ok root
+root_or_fault-text root fits = ap (λ (o : Option RootId). or_fault o Root) (root_of-text root fits)
+
+tray_or_fault-name : (name : List ℕ) → IsTrayName name → tray_or_fault name ≡ Ok name
+tray_or_fault-name name fits = ap (λ (o : Option (List ℕ)). or_fault o Tray) (read-from_name name fits)
+
+kind_or_fault-text : (kind : pieces.Kind) → kind_or_fault (kind_text kind) ≡ Ok kind
+unfolding kind_or_fault
+kind_or_fault-text Copies = refl
+kind_or_fault-text Entries = refl
+
+pub starts_with_digit : (digits : List ℕ) → is_filled digits ≡ true → list_all is_decimal_digit digits ≡ true → begins_with_digit digits ≡ true
+starts_with_digit [] h k = absurd (cc)
+starts_with_digit (d ∷ digits) h k = (and_parts (is_decimal_digit d) (list_all is_decimal_digit digits) k).0
+
+-- operands
+not_nil : (part : List ℕ) → begins_with_digit part ≡ true → bytes_eq part (codes "nil") ≡ false
+not_nil part digit = false_from_ne_true (bytes_eq part (codes "nil")) (λ e. false≢true (ap begins_with_digit (sym ((bytes_eq-Decides part (codes "nil")).0 e)) ∙ digit))
+
+pub begins_with_digit-append : (digits rest : List ℕ) → begins_with_digit digits ≡ true → begins_with_digit (digits ++ rest) ≡ true
+begins_with_digit-append [] rest h = absurd cc
+begins_with_digit-append (d ∷ digits) rest h = h
+
+not_nil-integer : (n : ℤ) → IsI64 n → bytes_eq (signed_decimal n) (codes "nil") ≡ false
+not_nil-integer (pos k) fits =
+    let small : k < 2 ^ 64 = omega (arith, i64_size (pos k) fits) in
+    not_nil (decimal k) (starts_with_digit (decimal k) (wide_filled k small) (wide_digits k small))
+not_nil-integer (negsuc k) fits = refl
+
+not_nil-root : (root : RootId) → RootFits root → bytes_eq (root_text root) (codes "nil") ≡ false
+not_nil-root root fits =
+    not_nil (root_text root) (begins_with_digit-append (decimal root.owner) (46 ∷ decimal root.slot) (starts_with_digit (decimal root.owner) (filled-decimal root.owner fits.0) (decimal_digits root.owner fits.0)))
+
+has_dot-digits : (digits : List ℕ) → list_all is_decimal_digit digits ≡ true → has_dot digits ≡ false
+has_dot-digits [] h = refl
+has_dot-digits (d ∷ digits) h =
+    let p = and_parts (is_decimal_digit d) (list_all is_decimal_digit digits) h in
+    or_from (eqb d 46) (has_dot digits) (ne_eqb d 46 (λ e. omega (arith, (bounds 48 57 d p.0).0, e))) (has_dot-digits digits p.1)
+
+has_dot-integer : (n : ℤ) → IsI64 n → has_dot (signed_decimal n) ≡ false
+has_dot-integer (pos k) fits = has_dot-digits (decimal k) (wide_digits k (omega (arith, i64_size (pos k) fits)))
+has_dot-integer (negsuc k) fits = has_dot-digits (decimal (suc k)) (wide_digits (suc k) (omega (arith, i64_size (negsuc k) fits)))
+
+has_dot-root : (root : RootId) → has_dot (root_text root) ≡ true
+has_dot-root root = list_any-append (λ b. eqb b 46) (decimal root.owner) (46 ∷ decimal root.slot) ∙ or_right (has_dot (decimal root.owner)) true refl
+
+integer_or_fault-decimal : (n : ℤ) → IsI64 n → integer_or_fault (signed_decimal n) ≡ Ok n
+integer_or_fault-decimal n fits = ap (λ (o : Option ℤ). or_fault o Number) (integer_of-decimal n fits)
+
+operand_or_fault-text : (operand : Operand) → OperandFits operand → operand_or_fault (operand_text operand) ≡ Ok operand
+unfolding operand_or_fault
+operand_or_fault-text operands.Nil fits = refl
+operand_or_fault-text (operands.Int n) fits = rw (not_nil-integer n fits, has_dot-integer n fits, integer_or_fault-decimal n fits) refl
+operand_or_fault-text (operands.Root root) fits = rw (not_nil-root root fits, has_dot-root root, root_or_fault-text root fits) refl
+
+pub owned_command-decimal : (owner : ℕ) (rest : List (List ℕ)) → IsU32 owner → owned_command (decimal owner ∷ rest) ≡ command_or_fault (decimal owner) rest
+unfolding owned_command
+owned_command-decimal owner rest small =
+    ap (λ (t : Bool). cond t (command_or_fault (decimal owner) rest) (Err Word)) (starts_with_digit (decimal owner) (filled-decimal owner small) (decimal_digits owner small))
+
+alloc-read : (owner : ℕ) (dst : RootId) (fields : ℕ) → CommandFits owner (Alloc dst fields) → command_or_fault (decimal owner) (codes "alloc" ∷ root_text dst ∷ decimal fields ∷ []) ≡ Ok (owner, Alloc dst fields)
+unfolding command_or_fault alloc_of two_parts
+alloc-read owner dst fields fits = rw (number_or_fault-decimal owner fits.0, root_or_fault-text dst fits.1, number_or_fault-decimal fields fits.2) refl
+
+load-read : (owner : ℕ) (dst src : RootId) (field : ℕ) → CommandFits owner (Load dst src field) → command_or_fault (decimal owner) (codes "load" ∷ root_text dst ∷ root_text src ∷ decimal field ∷ []) ≡ Ok (owner, Load dst src field)
+unfolding command_or_fault load_of three_parts
+load-read owner dst src field fits = rw (number_or_fault-decimal owner fits.0, root_or_fault-text dst fits.1, root_or_fault-text src fits.2, number_or_fault-decimal field fits.3) refl
+
+store-read : (owner : ℕ) (obj : RootId) (field : ℕ) (operand : Operand) → CommandFits owner (Store obj field operand) → command_or_fault (decimal owner) (codes "store" ∷ root_text obj ∷ decimal field ∷ operand_text operand ∷ []) ≡ Ok (owner, Store obj field operand)
+unfolding command_or_fault store_of three_parts
+store-read owner obj field operand fits = rw (number_or_fault-decimal owner fits.0, root_or_fault-text obj fits.1, number_or_fault-decimal field fits.2, operand_or_fault-text operand fits.3) refl
+
+copy-read : (owner : ℕ) (dst src : RootId) → CommandFits owner (Copy dst src) → command_or_fault (decimal owner) (codes "copy" ∷ root_text dst ∷ root_text src ∷ []) ≡ Ok (owner, Copy dst src)
+unfolding command_or_fault copy_of two_parts
+copy-read owner dst src fits = rw (number_or_fault-decimal owner fits.0, root_or_fault-text dst fits.1, root_or_fault-text src fits.2) refl
+
+same-read : (owner : ℕ) (a b : RootId) → CommandFits owner (Same a b) → command_or_fault (decimal owner) (codes "same" ∷ root_text a ∷ root_text b ∷ []) ≡ Ok (owner, Same a b)
+unfolding command_or_fault same_of two_parts
+same-read owner a b fits = rw (number_or_fault-decimal owner fits.0, root_or_fault-text a fits.1, root_or_fault-text b fits.2) refl
+
+drop-read : (owner : ℕ) (root : RootId) → CommandFits owner (Drop root) → command_or_fault (decimal owner) (codes "drop" ∷ root_text root ∷ []) ≡ Ok (owner, Drop root)
+unfolding command_or_fault drop_of one_part
+drop-read owner root fits = rw (number_or_fault-decimal owner fits.0, root_or_fault-text root fits.1) refl
+
+-- the parts of a command line are parts, and the command is read from them
+pub record IsReadFrom (owner : ℕ) (command : Command) : Type 0 where
+  pub first : List ℕ
+  pub others : List (List ℕ)
+  pub spelled : command_parts owner command ≡ first ∷ others
+  pub are : AreParts first others
+  pub read : owned_command (first ∷ others) ≡ Ok (owner, command)
+
+pub command-read : (owner : ℕ) (command : Command) → CommandFits owner command → IsReadFrom owner command
+command-read owner (Alloc dst fields) fits = record {
+  first = decimal owner;
+  others = codes "alloc" ∷ root_text dst ∷ decimal fields ∷ [];
+  spelled = refl;
+  are = record { each = (number_part owner fits.0, (keyword_part (codes "alloc") refl refl refl, (root_part dst fits.1, (number_part fields fits.2, tt)))); few = omega arith };
+  read = owned_command-decimal owner (codes "alloc" ∷ root_text dst ∷ decimal fields ∷ []) fits.0 ∙ alloc-read owner dst fields fits;
+}
+command-read owner (Load dst src field) fits = record {
+  first = decimal owner;
+  others = codes "load" ∷ root_text dst ∷ root_text src ∷ decimal field ∷ [];
+  spelled = refl;
+  are = record { each = (number_part owner fits.0, (keyword_part (codes "load") refl refl refl, (root_part dst fits.1, (root_part src fits.2, (number_part field fits.3, tt))))); few = omega arith };
+  read = owned_command-decimal owner (codes "load" ∷ root_text dst ∷ root_text src ∷ decimal field ∷ []) fits.0 ∙ load-read owner dst src field fits;
+}
+command-read owner (Store obj field operand) fits = record {
+  first = decimal owner;
+  others = codes "store" ∷ root_text obj ∷ decimal field ∷ operand_text operand ∷ [];
+  spelled = refl;
+  are = record { each = (number_part owner fits.0, (keyword_part (codes "store") refl refl refl, (root_part obj fits.1, (number_part field fits.2, (operand_part operand fits.3, tt))))); few = omega arith };
+  read = owned_command-decimal owner (codes "store" ∷ root_text obj ∷ decimal field ∷ operand_text operand ∷ []) fits.0 ∙ store-read owner obj field operand fits;
+}
+command-read owner (Copy dst src) fits = record {
+  first = decimal owner;
+  others = codes "copy" ∷ root_text dst ∷ root_text src ∷ [];
+  spelled = refl;
+  are = record { each = (number_part owner fits.0, (keyword_part (codes "copy") refl refl refl, (root_part dst fits.1, (root_part src fits.2, tt)))); few = omega arith };
+  read = owned_command-decimal owner (codes "copy" ∷ root_text dst ∷ root_text src ∷ []) fits.0 ∙ copy-read owner dst src fits;
+}
+command-read owner (Same a b) fits = record {
+  first = decimal owner;
+  others = codes "same" ∷ root_text a ∷ root_text b ∷ [];
+  spelled = refl;
+  are = record { each = (number_part owner fits.0, (keyword_part (codes "same") refl refl refl, (root_part a fits.1, (root_part b fits.2, tt)))); few = omega arith };
+  read = owned_command-decimal owner (codes "same" ∷ root_text a ∷ root_text b ∷ []) fits.0 ∙ same-read owner a b fits;
+}
+command-read owner (Drop root) fits = record {
+  first = decimal owner;
+  others = codes "drop" ∷ root_text root ∷ [];
+  spelled = refl;
+  are = record { each = (number_part owner fits.0, (keyword_part (codes "drop") refl refl refl, (root_part root fits.1, tt))); few = omega arith };
+  read = owned_command-decimal owner (codes "drop" ∷ root_text root ∷ []) fits.0 ∙ drop-read owner root fits;
+}
+
+-- a single line
+pub single_command-text : (owner : ℕ) (command : Command) → CommandFits owner command → single_command (command_text owner command) ≡ Ok (owner, command)
+unfolding single_command
+single_command-text owner command fits =
+    let a = command-read owner command fits in
+    let line = join_with_byte 32 (a.first ∷ a.others) in
+    ap (λ (ps : List (List ℕ)). single_command (join_with_byte 32 ps)) a.spelled
+    ∙ ap (λ (t : Bool). cond (not t) (Err Form) (owned_command (parts_of line))) (is_formed-join a.first a.others a.are.each)
+    ∙ ap owned_command (parts_of-join a.first a.others a.are.each)
+    ∙ a.read
+
+-- the line of a command that is read after an owner
+by_owner : (t : Bool) (owned : Result (ℕ × Command) Kind) (other : Result Line Kind) (owner : ℕ) (command : Command) → cond t owned (Err Word) ≡ Ok (owner, command) → cond t (owned >>= λ o. Ok (line_of o.0 o.1)) other ≡ Ok (line_of owner command)
+by_owner true owned other owner command e = ap (λ (r : Result (ℕ × Command) Kind). r >>= λ o. Ok (line_of o.0 o.1)) e
+by_owner false owned other owner command e = absurd cc
+
+pub line_of_parts-owned : (first : List ℕ) (rest : List (List ℕ)) (owner : ℕ) (command : Command) → owned_command (first ∷ rest) ≡ Ok (owner, command) → line_of_parts (first ∷ rest) ≡ Ok (line_of owner command)
+unfolding owned_command line_of_parts
+line_of_parts-owned first rest owner command e = by_owner (begins_with_digit first) (command_or_fault first rest) (keyword_line first rest) owner command e
+
+-- the parts of a line are parts, and the line is read from them
+record IsLineReadFrom (line : Line) : Type 0 where
+  first : List ℕ
+  others : List (List ℕ)
+  spelled : line_parts line ≡ first ∷ others
+  are : AreParts first others
+  read : line_of_parts (first ∷ others) ≡ Ok line
+
+command_line-read : (line : Line) (owner : ℕ) (command : Command) → CommandFits owner command → line_of owner command ≡ line → asked_of line ≡ asked.Command owner command → IsLineReadFrom line
+command_line-read line owner command fits is asks =
+    let a = command-read owner command fits in
+    record {
+      first = a.first;
+      others = a.others;
+      spelled = ap asked_parts asks ∙ a.spelled;
+      are = a.are;
+      read = line_of_parts-owned a.first a.others owner command a.read ∙ ap (λ (l : Line). Ok l) is;
+    }
+
+-- a line that is its keyword alone
+alone-read : (line : Line) (keyword : List ℕ) → IsPart keyword → line_parts line ≡ keyword ∷ [] → line_of_parts (keyword ∷ []) ≡ Ok line → IsLineReadFrom line
+alone-read line keyword part spelled read = record { first = keyword; others = []; spelled = spelled; are = record { each = (part, tt); few = omega arith }; read = read }
+
+begin-read : line_of_parts (codes "begin" ∷ []) ≡ Ok lines.Begin
+unfolding line_of_parts keyword_line
+begin-read = refl
+
+shade-read : (root : RootId) → RootFits root → line_of_parts (codes "shade" ∷ root_text root ∷ []) ≡ Ok (lines.Shade root)
+unfolding line_of_parts keyword_line shade_of one_part
+shade-read root fits = rw (root_or_fault-text root fits) refl
+
+deal-read : (kind : pieces.Kind) (most : ℕ) (tray : List ℕ) → IsU32 most → IsTrayName tray → line_of_parts (codes "deal" ∷ kind_text kind ∷ decimal most ∷ tray ∷ []) ≡ Ok (lines.Deal kind most tray)
+unfolding line_of_parts keyword_line deal_of three_parts
+deal-read kind most tray small name = rw (kind_or_fault-text kind, number_or_fault-decimal most small, tray_or_fault-name tray name) refl
+
+give-read : (tray : List ℕ) → IsTrayName tray → line_of_parts (codes "give" ∷ tray ∷ []) ≡ Ok (lines.Give tray)
+unfolding line_of_parts keyword_line give_of one_part
+give-read tray name = rw (tray_or_fault-name tray name) refl
+
+join-read : (into other : List ℕ) → IsTrayName into → IsTrayName other → line_of_parts (codes "join" ∷ into ∷ other ∷ []) ≡ Ok (lines.Join into other)
+unfolding line_of_parts keyword_line join_of two_parts
+join-read into other name second = rw (tray_or_fault-name into name, tray_or_fault-name other second) refl
+
+flip-read : line_of_parts (codes "flip" ∷ []) ≡ Ok lines.Flip
+unfolding line_of_parts keyword_line
+flip-read = refl
+
+trays-read : line_of_parts (codes "trays" ∷ []) ≡ Ok lines.Trays
+unfolding line_of_parts keyword_line
+trays-read = refl
+
+stat-read : line_of_parts (codes "stat" ∷ []) ≡ Ok lines.Stat
+unfolding line_of_parts keyword_line
+stat-read = refl
+
+dump-read : line_of_parts (codes "dump" ∷ []) ≡ Ok lines.Dump
+unfolding line_of_parts keyword_line
+dump-read = refl
+
+line-read : (line : Line) → LineFits line → IsLineReadFrom line
+line-read (lines.Alloc owner dst fields) fits = command_line-read (lines.Alloc owner dst fields) owner (Alloc dst fields) fits refl refl
+line-read (lines.Load owner dst src field) fits = command_line-read (lines.Load owner dst src field) owner (Load dst src field) fits refl refl
+line-read (lines.Store owner obj field operand) fits = command_line-read (lines.Store owner obj field operand) owner (Store obj field operand) fits refl refl
+line-read (lines.Copy owner dst src) fits = command_line-read (lines.Copy owner dst src) owner (Copy dst src) fits refl refl
+line-read (lines.Same owner a b) fits = command_line-read (lines.Same owner a b) owner (Same a b) fits refl refl
+line-read (lines.Drop owner root) fits = command_line-read (lines.Drop owner root) owner (Drop root) fits refl refl
+line-read lines.Begin fits = alone-read lines.Begin (codes "begin") (keyword_part (codes "begin") refl refl refl) refl begin-read
+line-read (lines.Shade root) fits = record {
+  first = codes "shade";
+  others = root_text root ∷ [];
+  spelled = refl;
+  are = record { each = (keyword_part (codes "shade") refl refl refl, (root_part root fits, tt)); few = omega arith };
+  read = shade-read root fits;
+}
+line-read (lines.Deal kind most tray) fits = record {
+  first = codes "deal";
+  others = kind_text kind ∷ decimal most ∷ tray ∷ [];
+  spelled = refl;
+  are = record { each = (keyword_part (codes "deal") refl refl refl, (kind_part kind, (number_part most fits.0, (tray_part tray fits.1, tt)))); few = omega arith };
+  read = deal-read kind most tray fits.0 fits.1;
+}
+line-read (lines.Give tray) fits = record {
+  first = codes "give";
+  others = tray ∷ [];
+  spelled = refl;
+  are = record { each = (keyword_part (codes "give") refl refl refl, (tray_part tray fits, tt)); few = omega arith };
+  read = give-read tray fits;
+}
+line-read (lines.Join into other) fits = record {
+  first = codes "join";
+  others = into ∷ other ∷ [];
+  spelled = refl;
+  are = record { each = (keyword_part (codes "join") refl refl refl, (tray_part into fits.0, (tray_part other fits.1, tt))); few = omega arith };
+  read = join-read into other fits.0 fits.1;
+}
+line-read lines.Flip fits = alone-read lines.Flip (codes "flip") (keyword_part (codes "flip") refl refl refl) refl flip-read
+line-read lines.Trays fits = alone-read lines.Trays (codes "trays") (keyword_part (codes "trays") refl refl refl) refl trays-read
+line-read lines.Stat fits = alone-read lines.Stat (codes "stat") (keyword_part (codes "stat") refl refl refl) refl stat-read
+line-read lines.Dump fits = alone-read lines.Dump (codes "dump") (keyword_part (codes "dump") refl refl refl) refl dump-read
+
+header_parts_are : (h : declared.Header.Header) → HeaderFits h → AreParts (codes "heap") (decimal h.words ∷ decimal h.ratio ∷ decimal h.log ∷ decimal h.owners ∷ decimal h.slots ∷ [])
+header_parts_are h fits = record {
+  each = (keyword_part (codes "heap") refl refl refl, (number_part h.words fits.0, (number_part h.ratio fits.1, (number_part h.log fits.2, (number_part h.owners fits.3, (number_part h.slots fits.4, tt))))));
+  few = omega arith;
+}
+
+header_of_parts-spelled : (h : declared.Header.Header) → HeaderFits h → header_of_parts (header_parts h) ≡ Ok h
+unfolding header_of_parts six_parts sizes_of
+header_of_parts-spelled h fits = rw (number_or_fault-decimal h.words fits.0, number_or_fault-decimal h.ratio fits.1, number_or_fault-decimal h.log fits.2, number_or_fault-decimal h.owners fits.3, number_or_fault-decimal h.slots fits.4) refl
+
+-- ---- the whole text
+
+pub lines_of-parts : (first : List ℕ) (others : List (List ℕ)) (rest : List ℕ) → AreParts first others → lines_of (spell_parts (first ∷ others) ++ rest) ≡ ended_line (join_with_byte 32 (first ∷ others)) ∷ lines_of rest
+lines_of-parts first others rest are =
+    ap lines_of (append_assoc (join_with_byte 32 (first ∷ others)) (10 ∷ []) rest) ∙ lines_of-prefix (join_with_byte 32 (first ∷ others)) rest (printable-join first others are.each)
+
+pub line_or_fault-join : (number : ℕ) (line : Line) (first : List ℕ) (others : List (List ℕ)) → number ≤ 1048576 → AreParts first others → line_of_parts (first ∷ others) ≡ Ok line → line_or_fault number (ended_line (join_with_byte 32 (first ∷ others))) ≡ Ok line
+unfolding line_or_kind
+line_or_fault-join number line first others small are read =
+    ap (λ (r : Result (List (List ℕ)) Kind). with_fault (fault_at number) (r >>= line_of_parts)) (checked_parts-join number first others small are) ∙ ap (with_fault (fault_at number)) read
+
+lines_from-spelled : (lines : List Line) (number : ℕ) → AllByRecursion LineFits lines → number + length lines ≤ 1048577 → lines_from number (lines_of (flat_map spell_line lines)) ≡ Ok lines
+unfolding lines_from
+lines_from-spelled [] number fit few = refl
+lines_from-spelled (line ∷ lines) number fit few =
+    let a = line-read line fit.0 in
+    let rest = flat_map spell_line lines in
+    let text : spell_line line ++ rest ≡ spell_parts (a.first ∷ a.others) ++ rest = ap (λ (ps : List (List ℕ)). spell_parts ps ++ rest) a.spelled in
+    let raws : lines_of (spell_line line ++ rest) ≡ ended_line (join_with_byte 32 (a.first ∷ a.others)) ∷ lines_of rest = ap lines_of text ∙ lines_of-parts a.first a.others rest a.are in
+    let read = line_or_fault-join number line a.first a.others (omega (arith, few)) a.are a.read in
+    let others = lines_from-spelled lines (number + 1) fit.1 (omega (arith, few)) in
+    ap (lines_from number) raws
+    ∙ ap (λ (r : Result Line TraceFault). r >>= λ first. lines_from (number + 1) (lines_of rest) >>= λ others. Ok (first ∷ others)) read
+    ∙ ap (λ (r : Result (List Line) TraceFault). r >>= λ others. Ok (line ∷ others)) others
+
+header_or_fault-join : (h : declared.Header.Header) → HeaderFits h → header_or_fault (ended_line (join_with_byte 32 (header_parts h))) ≡ Ok h
+unfolding header_or_kind
+header_or_fault-join h fits =
+    ap (λ (r : Result (List (List ℕ)) Kind). with_fault (fault_at 1) (r >>= header_of_parts)) (checked_parts-join 1 (codes "heap") (decimal h.words ∷ decimal h.ratio ∷ decimal h.log ∷ decimal h.owners ∷ decimal h.slots ∷ []) (omega arith) (header_parts_are h fits))
+    ∙ ap (with_fault (fault_at 1)) (header_of_parts-spelled h fits)
+
+pub trace_of-spelling : (script : Script) → IsScript script → trace_of (spelling script) ≡ Ok script
+unfolding script_or_fault
+trace_of-spelling script is =
+    let rest = flat_map spell_line script.lines in
+    let raws : lines_of (spelling script) ≡ ended_line (join_with_byte 32 (header_parts script.header)) ∷ lines_of rest = lines_of-parts (codes "heap") (decimal script.header.words ∷ decimal script.header.ratio ∷ decimal script.header.log ∷ decimal script.header.owners ∷ decimal script.header.slots ∷ []) rest (header_parts_are script.header is.header) in
+    let lines = lines_from-spelled script.lines 2 is.lines (omega (arith, is.few)) in
+    ap script_or_fault raws
+    ∙ ap (λ (r : Result declared.Header.Header TraceFault). r >>= λ header. lines_from 2 (lines_of rest) >>= λ lines. Ok (record { header = header; lines = lines })) (header_or_fault-join script.header is.header)
+    ∙ ap (λ (r : Result (List Line) TraceFault). r >>= λ lines. Ok (record { header = script.header; lines = lines })) lines

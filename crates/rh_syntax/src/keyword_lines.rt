@@ -1,0 +1,199 @@
+//! Lines that begin with their keyword, read and spelled.
+
+ghost use Rattle.std.specs.Prelude.{◌≡◌, ◌+◌, ◌≤◌, [], ◌∷◌, ◌++◌, length};
+ghost use Rattle.rh_text.specs.Parts.{parts_left, spell_parts};
+ghost use Rattle.rh_syntax.specs.Reading.{tray_or_fault, kind_or_fault, alone};
+ghost use Rattle.rh_syntax.specs.Reading.{shade_of, deal_of, give_of, join_of, keyword_line};
+ghost use Rattle.rh_syntax.specs.Spelling.{kind_text, spell_line};
+ghost use Rattle.rh_syntax.specs.declared.line.Line.TheVariants as lines;
+
+use crate::fault::Kind;
+use crate::line::Line;
+use crate::tray_name::{TrayName, tray_name_of};
+use crate::values::{number_or_fault, root_or_fault};
+use rh_layout::{Kind as PieceKind, RootId};
+use rh_text::{LineText, next_part, one_part, three_parts, two_parts};
+
+/// The name of a tray that a part says.
+fn tray_or_fault(part: &[u8]) -> Result<TrayName, Kind>
+    ensures { result ≡ tray_or_fault part.now }
+{
+    tray_name_of(part).ok_or(Kind::Tray)
+}
+
+/// Puts a space and the name of a tray at the end.
+fn put_next_tray(text: &mut LineText, tray: TrayName)
+    requires { length text.old ≤ 239 }
+    ensures value { text.new ≡ text.old ++ 32 ∷ tray }
+    ensures len { length text.new ≤ length text.old + 17 }
+{
+    text.put(b" ");
+    text.put(tray.as_bytes());
+}
+
+/// What is dealt, by a part: `copies` or `entries`.
+#[tactic(auto, unfolding(crate::specs::Reading::kind_or_fault))]
+fn kind_or_fault(part: &[u8]) -> Result<PieceKind, Kind>
+    ensures { result ≡ kind_or_fault part.now }
+{
+    if part == b"copies".as_slice() {
+        return Ok(PieceKind::Copies);
+    }
+    if part == b"entries".as_slice() {
+        return Ok(PieceKind::Entries);
+    }
+    Err(Kind::Word)
+}
+
+/// Puts what is dealt at the end.
+fn put_kind(text: &mut LineText, kind: PieceKind)
+    requires { length text.old ≤ 249 }
+    ensures value { text.new ≡ text.old ++ kind_text kind }
+    ensures len { length text.new ≤ length text.old + 7 }
+{
+    match kind {
+        PieceKind::Copies => text.put(b"copies"),
+        PieceKind::Entries => text.put(b"entries"),
+    }
+}
+
+/// The line, where nothing stands after its keyword.
+fn alone(rest: Option<&[u8]>, line: Line) -> Result<Line, Kind>
+    ensures { result ≡ alone (parts_left rest.entry) line }
+{
+    match next_part(rest) {
+        None => Ok(line),
+        Some(_) => Err(Kind::Form),
+    }
+}
+
+/// The text becomes that of a line that is its keyword alone.
+pub fn put_alone(text: &mut LineText, keyword: &[u8])
+    requires { length keyword.now ≤ 255 }
+    ensures { text.new ≡ spell_parts (keyword.now ∷ []) }
+{
+    text.clear();
+    text.put(keyword);
+    text.put(b"\n");
+}
+
+/// `shade ROOT`, from what stands after the keyword.
+#[tactic(auto, unfolding(crate::specs::Reading::shade_of))]
+fn shade_of(rest: Option<&[u8]>) -> Result<Line, Kind>
+    ensures { result ≡ shade_of (parts_left rest.entry) }
+{
+    let root = one_part(rest).ok_or(Kind::Form)?;
+    let root = root_or_fault(root)?;
+    Ok(Line::Shade { root })
+}
+
+/// The text becomes that of a `shade` line.
+pub fn put_shade_line(text: &mut LineText, root: RootId)
+    ensures { text.new ≡ spell_line (lines.Shade root) }
+{
+    text.clear();
+    text.put(b"shade ");
+    text.put_root(root);
+    text.put(b"\n");
+}
+
+/// `deal copies MOST TRAY` or `deal entries MOST TRAY`, from what stands after the keyword.
+#[tactic(auto, unfolding(crate::specs::Reading::deal_of))]
+fn deal_of(rest: Option<&[u8]>) -> Result<Line, Kind>
+    ensures { result ≡ deal_of (parts_left rest.entry) }
+{
+    let (kind, most, tray) = three_parts(rest).ok_or(Kind::Form)?;
+    let kind = kind_or_fault(kind)?;
+    let most = number_or_fault(most)?;
+    let tray = tray_or_fault(tray)?;
+    Ok(Line::Deal { kind, most, tray })
+}
+
+/// The text becomes that of a `deal` line.
+pub fn put_deal_line(text: &mut LineText, kind: PieceKind, most: u32, tray: TrayName)
+    ensures { text.new ≡ spell_line (lines.Deal kind most tray) }
+{
+    text.clear();
+    text.put(b"deal ");
+    put_kind(text, kind);
+    text.put_next_number(most);
+    put_next_tray(text, tray);
+    text.put(b"\n");
+}
+
+/// `give TRAY`, from what stands after the keyword.
+#[tactic(auto, unfolding(crate::specs::Reading::give_of))]
+fn give_of(rest: Option<&[u8]>) -> Result<Line, Kind>
+    ensures { result ≡ give_of (parts_left rest.entry) }
+{
+    let tray = one_part(rest).ok_or(Kind::Form)?;
+    let tray = tray_or_fault(tray)?;
+    Ok(Line::Give { tray })
+}
+
+/// The text becomes that of a `give` line.
+pub fn put_give_line(text: &mut LineText, tray: TrayName)
+    ensures { text.new ≡ spell_line (lines.Give tray) }
+{
+    text.clear();
+    text.put(b"give");
+    put_next_tray(text, tray);
+    text.put(b"\n");
+}
+
+/// `join TRAY TRAY`, from what stands after the keyword.
+#[tactic(auto, unfolding(crate::specs::Reading::join_of))]
+fn join_of(rest: Option<&[u8]>) -> Result<Line, Kind>
+    ensures { result ≡ join_of (parts_left rest.entry) }
+{
+    let (into, other) = two_parts(rest).ok_or(Kind::Form)?;
+    let into = tray_or_fault(into)?;
+    let other = tray_or_fault(other)?;
+    Ok(Line::Join { into, other })
+}
+
+/// The text becomes that of a `join` line.
+pub fn put_join_line(text: &mut LineText, into: TrayName, other: TrayName)
+    ensures { text.new ≡ spell_line (lines.Join into other) }
+{
+    text.clear();
+    text.put(b"join");
+    put_next_tray(text, into);
+    put_next_tray(text, other);
+    text.put(b"\n");
+}
+
+/// A line that begins with its keyword, from what stands after it.
+#[tactic(auto, unfolding(crate::specs::Reading::keyword_line))]
+pub fn keyword_line(keyword: &[u8], rest: Option<&[u8]>) -> Result<Line, Kind>
+    ensures { result ≡ keyword_line keyword.now (parts_left rest.entry) }
+{
+    if keyword == b"begin".as_slice() {
+        return alone(rest, Line::Begin);
+    }
+    if keyword == b"shade".as_slice() {
+        return shade_of(rest);
+    }
+    if keyword == b"deal".as_slice() {
+        return deal_of(rest);
+    }
+    if keyword == b"give".as_slice() {
+        return give_of(rest);
+    }
+    if keyword == b"join".as_slice() {
+        return join_of(rest);
+    }
+    if keyword == b"flip".as_slice() {
+        return alone(rest, Line::Flip);
+    }
+    if keyword == b"trays".as_slice() {
+        return alone(rest, Line::Trays);
+    }
+    if keyword == b"stat".as_slice() {
+        return alone(rest, Line::Stat);
+    }
+    if keyword == b"dump".as_slice() {
+        return alone(rest, Line::Dump);
+    }
+    Err(Kind::Word)
+}

@@ -1,0 +1,30 @@
+//! The language of traces: a text of commands and of the lines of a cycle, read and written, and
+//! the texts of the answers to commands. It knows no heap.
+#![tactic(auto)]
+
+mod command_answers;
+mod command_lines;
+mod fault;
+mod header_line;
+mod keyword_lines;
+pub mod laws;
+mod leading_lines;
+mod line;
+mod printing;
+mod reading;
+mod single_lines;
+mod trace;
+mod tray_name;
+mod values;
+
+pub use command_answers::put_answer_text;
+pub use command_lines::{owned_command, put_command_text};
+pub use fault::{Kind, ParseError, TraceFault};
+pub use line::{Asked, Header, Line};
+pub use printing::{print, print_told};
+pub use reading::checked_parts;
+pub use single_lines::{
+    command_of, write_answer, write_answer_told, write_command, write_command_told,
+};
+pub use trace::{Trace, parse};
+pub use tray_name::{TrayName, tray_name_of};

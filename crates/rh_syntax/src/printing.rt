@@ -1,0 +1,82 @@
+//! A trace written as its text.
+
+ghost use Rattle.std.specs.Prelude.{◌≡◌, false, OnOk, OnErr};
+ghost use Rattle.std.specs.Io.KnownBytes.{Appends};
+ghost use Rattle.rh_text.specs.Calls.{AreSpent};
+ghost use Rattle.rh_text.specs.Output.{AppendsLess};
+ghost use Rattle.rh_syntax.specs.Spelling.{spell_line, spelling};
+
+use crate::command_lines::put_command;
+use crate::header_line::put_header;
+use crate::keyword_lines::{
+    put_alone, put_deal_line, put_give_line, put_join_line, put_shade_line,
+};
+use crate::line::{Asked, Line};
+use crate::trace::Trace;
+use rh_text::{Calls, LineText, Write, send};
+use std::alloc::Allocator;
+use std::io;
+
+/// The text becomes that of the line.
+fn put_line(text: &mut LineText, line: &Line)
+    ensures { text.new ≡ spell_line line.now }
+{
+    match line.asks() {
+        Asked::Command { owner, command } => put_command(text, owner, &command),
+        Asked::Begin => put_alone(text, b"begin"),
+        Asked::Shade { root } => put_shade_line(text, root),
+        Asked::Deal { kind, most, tray } => put_deal_line(text, kind, most, tray),
+        Asked::Give { tray } => put_give_line(text, tray),
+        Asked::Join { into, other } => put_join_line(text, into, other),
+        Asked::Flip => put_alone(text, b"flip"),
+        Asked::Trays => put_alone(text, b"trays"),
+        Asked::Stat => put_alone(text, b"stat"),
+        Asked::Dump => put_alone(text, b"dump"),
+    }
+}
+
+/// Writes the text of a trace, one line in each write that the writer takes whole. It takes no
+/// memory.
+///
+/// # Errors
+///
+/// `Write` where a write failed, or 33,554,432 writes of one line didn't come to its end
+/// (`print_told` says that it comes nowhere else). A prefix of the text was written then.
+pub fn print<A: Allocator, W: io::Write>(trace: &Trace<A>, writer: &mut W) -> Result<(), Write>
+    ensures ok { OnOk result (Appends (W.contents writer.old) (W.contents writer.new)
+        (spelling trace.now)) }
+    ensures err { OnErr result (AppendsLess (W.contents writer.old) (W.contents writer.new)
+        (spelling trace.now)) }
+{
+    print_told(trace, writer, &mut Calls::new())
+}
+
+/// Writes the text of a trace as `print` does, and tells in `writes` whether a write failed.
+///
+/// # Errors
+///
+/// As `print`.
+pub fn print_told<A: Allocator, W: io::Write>(
+    trace: &Trace<A>,
+    writer: &mut W,
+    writes: &mut Calls,
+) -> Result<(), Write>
+    requires { writes.old.failed ≡ false }
+    ensures ok { OnOk result (Appends (W.contents writer.old) (W.contents writer.new)
+        (spelling trace.now)) }
+    ensures err { OnErr result (AppendsLess (W.contents writer.old) (W.contents writer.new)
+        (spelling trace.now)) }
+    // It is refused only where a write failed or none was left, and no write failed where it isn't.
+    ensures failed { OnErr result (AreSpent writes.new) }
+    ensures none_failed { OnOk result (writes.new.failed ≡ false) }
+{
+    let mut text = LineText::new();
+    put_header(&mut text, trace.header());
+    send(writer, writes, text.as_bytes())?;
+    let lines = trace.lines();
+    for line in lines {
+        put_line(&mut text, line);
+        send(writer, writes, text.as_bytes())?;
+    }
+    Ok(())
+}

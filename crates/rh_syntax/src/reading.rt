@@ -1,0 +1,99 @@
+//! A raw line of a trace, read by its limits, its form and its parts, with its first fault.
+
+ghost use Rattle.std.specs.Prelude.{◌≡◌};
+ghost use Rattle.rh_text.specs.Parts.{parts_left};
+ghost use Rattle.rh_text.specs.Steps.{Shows, with_fault};
+ghost use Rattle.rh_syntax.specs.Reading.{line_of_parts, checked_parts, fault_at};
+ghost use Rattle.rh_syntax.specs.Reading.{line_or_kind, header_or_kind};
+ghost use Rattle.rh_syntax.specs.Reading.{line_or_fault, header_or_fault};
+
+use crate::command_lines::command_or_fault;
+use crate::fault::{Kind, TraceFault};
+use crate::header_line::header_of_parts;
+use crate::keyword_lines::keyword_line;
+use crate::line::{Header, Line};
+use rh_layout::limits::{MAX_LINE_BYTES, MAX_LINES};
+use rh_text::{begins_with_digit, is_formed, next_part};
+
+/// The line's parts, where the line of this number (from 1) is within the limits, ended and well
+/// formed.
+///
+/// # Errors
+///
+/// The first of these that holds: `Long` where the number is above 1,048,576 or the line has more
+/// than 256 bytes; `Cut` where it isn't ended; `Form` where it has a byte outside 32 to 126 or an
+/// empty part.
+#[tactic(auto, unfolding(crate::specs::Reading::checked_parts))]
+pub fn checked_parts(number: u32, bytes: &[u8], ended: bool) -> Result<Option<&[u8]>, Kind>
+    ensures { Shows (λ x. parts_left x) result
+        (checked_parts number (record { bytes = bytes.now; ended = ended })) }
+{
+    if number > MAX_LINES {
+        return Err(Kind::Long);
+    }
+    if bytes.len() > MAX_LINE_BYTES {
+        return Err(Kind::Long);
+    }
+    if !ended {
+        return Err(Kind::Cut);
+    }
+    if !is_formed(bytes) {
+        return Err(Kind::Form);
+    }
+    Ok(Some(bytes))
+}
+
+/// A line after the first, from its parts.
+#[tactic(auto, unfolding(crate::specs::Reading::line_of_parts))]
+fn line_of_parts(rest: Option<&[u8]>) -> Result<Line, Kind>
+    ensures { result ≡ line_of_parts (parts_left rest.entry) }
+{
+    let (first, rest) = next_part(rest).ok_or(Kind::Form)?;
+    if begins_with_digit(first) {
+        let (owner, command) = command_or_fault(first, rest)?;
+        return Ok(Line::of(owner, command));
+    }
+    keyword_line(first, rest)
+}
+
+/// The line of this number, by its limits, its form and its parts.
+#[tactic(auto, unfolding(crate::specs::Reading::line_or_kind))]
+fn line_or_kind(number: u32, bytes: &[u8], ended: bool) -> Result<Line, Kind>
+    ensures { result ≡ line_or_kind number (record { bytes = bytes.now; ended = ended }) }
+{
+    let rest = checked_parts(number, bytes, ended)?;
+    line_of_parts(rest)
+}
+
+/// The first line, by its limits, its form and its parts.
+#[tactic(auto, unfolding(crate::specs::Reading::header_or_kind))]
+fn header_or_kind(bytes: &[u8], ended: bool) -> Result<Header, Kind>
+    ensures { result ≡ header_or_kind (record { bytes = bytes.now; ended = ended }) }
+{
+    let rest = checked_parts(1, bytes, ended)?;
+    header_of_parts(rest)
+}
+
+/// A fault is named with its line.
+fn with_line<T>(number: u32, read: Result<T, Kind>) -> Result<T, TraceFault>
+    ensures { result ≡ with_fault (fault_at number) read }
+{
+    match read {
+        Ok(x) => Ok(x),
+        Err(kind) => Err(TraceFault { line: number, kind }),
+    }
+}
+
+/// The line of this number, its fault named with the line.
+pub fn line_or_fault(number: u32, bytes: &[u8], ended: bool) -> Result<Line, TraceFault>
+    ensures { result ≡ line_or_fault number (record { bytes = bytes.now; ended = ended }) }
+{
+    with_line(number, line_or_kind(number, bytes, ended))
+}
+
+/// The first line, its fault named with the line.
+pub fn header_or_fault(bytes: &[u8], ended: bool) -> Result<Header, TraceFault>
+    ensures { result ≡ header_or_fault (record { bytes = bytes.now; ended = ended }) }
+{
+    with_line(1, header_or_kind(bytes, ended))
+}
