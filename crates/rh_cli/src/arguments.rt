@@ -12,6 +12,7 @@ ghost use Rattle.rh_cli.specs.declared.ask.Subcommand.{Subcommand as SubcommandO
 use crate::ask::{Ask, Subcommand};
 use crate::fault::LineFault;
 use crate::help;
+use crate::version::VERSION;
 use clap::error::ErrorKind;
 use clap::{Arg, ArgMatches, Command};
 use std::alloc::{AllocError, Global};
@@ -22,7 +23,7 @@ fn command_line<'a>(alloc: Global) -> Result<Command<'a>, AllocError>
 {
     Command::new(alloc, "rheap")
         .about("A managed heap, proved to answer as one that never moves its objects")
-        .version("0.1.0")
+        .version(VERSION)
         .subcommand_required(true)
         .bin_name("rheap")?
         .subcommand(run_command(alloc)?)?

@@ -2,24 +2,43 @@
 
 /// What the help of `run` ends with.
 pub const RUN: &str = "\
-On failure standard error has one line, as `rheap: line 3: Cut` or `rheap: heap: BadSpace`.
+A trace is lines of ASCII text, each ended by LF, its parts set apart by one space: no comments and
+no blank lines. The first line makes a heap; each further line is answered.
 
-Faults of a line, of which the first that holds is told:
-  Empty   the file has no byte
-  Long    the line's number is above 1,048,576, or it has more than 256 bytes
-  Cut     the line has no line end
-  Form    a byte isn't printable, or a part is empty
-  Header  the first line doesn't begin with `heap`, or hasn't six parts
-  Word    the line's keyword isn't one at that place
-  Form    no keyword follows the owner, or the number of parts is wrong
-and then, part by part, from left to right:
-  Word    a `deal` is of neither `copies` nor `entries`
-  Number  a part isn't the number that it should be
-  Root    a part isn't the root that it should be, as 1.0
-  Tray    a part isn't the name of a tray
+  heap WORDS RATIO LOG OWNERS SLOTS
+    WORDS   the words of each of the two spaces, 8 to 16777216
+    RATIO   the units of collector work that each allocated word grants, 1 to 64
+    LOG     the entries that the log of stores keeps in a cycle, 1 to 1048576
+    OWNERS  the owners of roots, from 0, 1 to 16
+    SLOTS   the slots of each owner, from 0, 1 to 256
 
-Faults of the heap that the first line asks for:
-  BadSpace, BadRatio, BadRoots, BadLog
+Commands of an owner       Answer
+  OWNER alloc ROOT FIELDS    object FIELDS
+  OWNER load DST SRC FIELD   nil, int N, object FIELDS: what the field holds
+  OWNER store OBJ FIELD VAL  done
+  OWNER copy DST SRC         nil, int N, object FIELDS: what SRC holds
+  OWNER same A B             same yes, same no
+  OWNER drop ROOT            done
+
+Lines of a cycle           Answer
+  begin                      cycle EPOCH
+  shade ROOT                 placed, already, no reference
+  deal copies MOST TRAY      dealt ITEMS passed 0
+  deal entries MOST TRAY     dealt ITEMS passed ENTRIES
+  give TRAY                  given joined J repeated R stale S placed P
+  join TRAY TRAY             joined ENTRIES
+  flip                       flipped roots ROOTS live WORDS
+
+Listings                   Answer
+  trays                      tray NAME epoch E entries N, for each tray
+  stat                       stat used U free F cycle on epoch E ..: the numbers of the heap
+  dump                       what the roots reach, in the lines that `rheap dump` reads
+  at the end                 total commands C refused R flips F rootwords W
+
+ROOT, DST, SRC, OBJ, A and B are roots, OWNER.SLOT, as 1.0; owner 0's slots are shared. FIELD counts
+from 0. VAL is nil, a root or a whole number. TRAY is a letter a to z and at most 15 of a to z, 0 to
+9 and _. What can't be done is answered `refused NAME`, changes nothing, and the run goes on. Two
+heaps are the same graph exactly where their dumps are the same text: cut them out and use cmp.
 
 Statuses:
   0  done; a refused line is an answer, and no failure
@@ -27,7 +46,17 @@ Statuses:
   2  the command line isn't understood
   3  memory was refused
 
-Traces, answers and faults are described in docs/formats.md.";
+On failure standard error has one line, as `rheap: line 3: Cut` or `rheap: heap: BadSpace`.
+  line L: KIND   the first faulty line. KIND is Empty, Long, Cut, Form, Header, Word, Number, Root
+                 or Tray; a history or a dump given to `run` is the fault Header
+  heap: NAME     the first of these that is out of range: BadSpace (WORDS), BadRatio (RATIO),
+                 BadRoots (OWNERS or SLOTS), BadLog (LOG)
+  open failed    the file isn't there, or may not be read
+  read failed    it is a folder, or its device failed
+  write failed   standard output is closed or full, or its device failed
+  too long       the file has more than 16777216 bytes
+
+The tables of lines, answers, refusals and faults are in docs/formats.md.";
 
 /// What the help of `replay` ends with.
 pub const REPLAY: &str = "\

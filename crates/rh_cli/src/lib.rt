@@ -11,6 +11,7 @@ mod help;
 mod program;
 mod replaying;
 mod running;
+mod version;
 
 pub use arguments::read_words;
 pub use ask::{Ask, Subcommand};
