@@ -36,6 +36,4 @@ mod schedules;
 #[cfg(test)]
 mod space;
 #[cfg(test)]
-mod steps;
-#[cfg(test)]
 mod work;

@@ -1,5 +1,6 @@
 //! Mutation logs.
 
+use crate::commands::item;
 use crate::expectations::{expect_equal, expect_text};
 use refusing::{RefusingAllocator, refused_in_turn};
 use rh_layout::{Item, Value};
@@ -24,11 +25,8 @@ fn limits(rt: HostRuntime) {
         (1, 0, LogError::BadNumbers),
         (1_048_576, GREATEST + 1, LogError::BadNumbers),
     ] {
-        expect_equal(
-            &rt,
-            Log::new(rt.alloc(), limit, last_number).err(),
-            Some(fault),
-        );
+        let refused = Log::new(rt.alloc(), limit, last_number).err();
+        expect_equal(&rt, refused, Some(fault));
     }
     let log = Log::new(rt.alloc(), 1, 1).expect(&rt, "a log");
     expect_equal(&rt, (log.number(), log.len(), log.is_empty()), (0, 0, true));
@@ -41,18 +39,8 @@ fn stores_are_numbered_and_kept(rt: HostRuntime) {
     expect_equal(&rt, log.count_only(), Ok(2));
     expect_equal(&rt, log.push(0, 0, Value::Nil), Ok(3));
     expect_equal(&rt, log.push(0, 0, Value::Nil), Err(PushError::LogFull));
-    for &(i, object, field, number, value) in &[
-        (0, 4, 1, 1, Value::Ref(4)),
-        (1, 0, 0, 3, Value::Nil),
-    ] {
-        let item = Item {
-            object,
-            field,
-            number,
-            value,
-        };
-        expect_equal(&rt, entry(&rt, &log, i), item);
-    }
+    expect_equal(&rt, entry(&rt, &log, 0), item(4, 1, 1, Value::Ref(4)));
+    expect_equal(&rt, entry(&rt, &log, 1), item(0, 0, 3, Value::Nil));
     log.restart();
     expect_equal(&rt, (log.number(), log.len()), (3, 0));
     expect_equal(&rt, log.push(0, 0, Value::Int(7)), Ok(4));
@@ -68,11 +56,8 @@ fn the_last_number_and_the_limit(rt: HostRuntime) {
     // Both limits are met: a full log is told first.
     expect_equal(&rt, log.push(0, 0, Value::Nil), Err(PushError::LogFull));
     log.restart();
-    expect_equal(
-        &rt,
-        log.push(0, 0, Value::Nil),
-        Err(PushError::NumbersSpent),
-    );
+    let spent = log.push(0, 0, Value::Nil);
+    expect_equal(&rt, spent, Err(PushError::NumbersSpent));
     expect_equal(&rt, (log.number(), log.len()), (2, 0));
 }
 

@@ -4,6 +4,7 @@ ghost use Rattle.std.specs.Prelude.{IsTrue};
 ghost use Rattle.rh_space.specs.Space.{HasWord};
 ghost use Rattle.rh_place.specs.Mirrors.{IsHoldable, Mirrors};
 
+use crate::commands::item;
 use crate::expectations::expect_equal;
 use refusing::{RefusingAllocator, refused_in_turn};
 use rh_layout::limits::MAX_NUMBER;
@@ -78,11 +79,6 @@ impl Spaces {
         self.joint.place(&mut self.space, a)
     }
 
-    /// Places an object that wasn't placed.
-    fn place_new(&mut self, rt: &impl Abort, a: u32) {
-        expect_equal(rt, self.place(rt, a), Placing::Placed);
-    }
-
     /// Holds the current pair of a field that has to be there, of a placed object; its reference is
     /// to one, too.
     fn hold(&mut self, rt: &impl Abort, a: u32, f: u32) {
@@ -126,19 +122,49 @@ impl Spaces {
         self.joint.next()
     }
 
-    /// The address of the object's replica.
-    fn forward(&self, a: u32) -> Option<u32> {
-        self.joint.forward(&self.space, a)
+    /// Checks how many objects are placed, and how many places are missing and weren't dealt.
+    fn expect_counts(&self, rt: &impl Abort, counts: (u32, u64, u64)) {
+        let joint = &self.joint;
+        expect_equal(
+            rt,
+            (joint.placed(), joint.missing(), joint.undealt()),
+            counts,
+        );
     }
 
-    /// The pair that is held of a field.
-    fn held(&self, a: u32, f: u32) -> Option<(u64, Value)> {
-        self.joint.held(&self.space, a, f)
+    /// Checks the pair that stands in a field of to-space that has to be there.
+    fn expect_replica(&self, rt: &impl Abort, a: u32, f: u32, pair: (u64, Value)) {
+        let replica = self.joint.to_space();
+        assert!(rt; replica.is_object(a));
+        assert!(rt; f < replica.fields(a));
+        expect_equal(rt, replica.field(a, f), pair);
     }
 
-    /// How many places are missing, and how many weren't dealt.
-    fn counts(&self) -> (u64, u64) {
-        (self.joint.missing(), self.joint.undealt())
+    /// Plays a step.
+    fn play_step(&mut self, rt: &impl Abort, step: Step) {
+        match step {
+            Step::Store(a, f, number, value) => self.store(rt, item(a, f, number, value)),
+            Step::Place(a, answer) => expect_equal(rt, self.place(rt, a), answer),
+            Step::Next(answer) => {
+                let next = self.next().map(|place| (place.object, place.field));
+                expect_equal(rt, next, answer);
+            }
+            Step::Hold(a, f) => self.hold(rt, a, f),
+            Step::Forward(a, to) => expect_equal(rt, self.joint.forward(&self.space, a), to),
+            Step::Held(a, f, pair) => {
+                expect_equal(rt, self.joint.held(&self.space, a, f), pair);
+            }
+            Step::Counts(placed, missing, undealt) => {
+                self.expect_counts(rt, (placed, missing, undealt));
+            }
+            Step::Used(from, to) => {
+                let used = (self.space.used(), self.joint.to_space().used());
+                expect_equal(rt, used, (from, to));
+            }
+            Step::Replica(a, f, pair) => self.expect_replica(rt, a, f, pair),
+            Step::Exchange => self.exchange(rt),
+            Step::Current(a, f, pair) => expect_equal(rt, self.pair(rt, a, f), pair),
+        }
     }
 }
 
@@ -163,13 +189,231 @@ fn is_holdable(space: &Space, joint: &Joint, value: Value) -> bool
     }
 }
 
-/// A store to a field.
-fn item(object: u32, field: u32, number: u64, value: Value) -> Item {
-    Item {
-        object,
-        field,
-        number,
-        value,
+/// What is done to a joint or asked of it, with the answer.
+#[derive(Clone, Copy)]
+enum Step {
+    /// The object, the field, the number and the value.
+    Store(u32, u32, u64, Value),
+    Place(u32, Placing),
+    /// The object and the field that are dealt next.
+    Next(Option<(u32, u32)>),
+    Hold(u32, u32),
+    Forward(u32, Option<u32>),
+    Held(u32, u32, Option<(u64, Value)>),
+    /// The objects that are placed, the places that are missing, and those that weren't dealt.
+    Counts(u32, u64, u64),
+    /// The words of from-space and of to-space.
+    Used(u32, u32),
+    /// What stands in a field of to-space.
+    Replica(u32, u32, (u64, Value)),
+    Exchange,
+    /// What stands in a field of from-space.
+    Current(u32, u32, (u64, Value)),
+}
+
+/// An object that wasn't placed is placed.
+const NEW: Placing = Placing::Placed;
+
+/// Of objects at 0, 4 and 6 the last and the first are placed.
+const PLACED_ONCE: &[Step] = &[
+    Step::Forward(0, None),
+    Step::Place(6, NEW),
+    Step::Place(0, NEW),
+    Step::Place(6, Placing::Already),
+    Step::Counts(2, 3, 3),
+    Step::Used(9, 7),
+    Step::Forward(6, Some(0)),
+    Step::Forward(0, Some(3)),
+    Step::Forward(4, None),
+    Step::Forward(1, None),
+    Step::Forward(99, None),
+    Step::Held(0, 0, None),
+    Step::Held(0, 1, None),
+    Step::Held(0, 2, None),
+    Step::Held(4, 0, None),
+];
+
+/// Two objects of two fields, at 0 and 4: each refers to both.
+const REFERRING: &[Step] = &[
+    Step::Store(0, 0, 1, Value::Ref(0)),
+    Step::Store(0, 1, 2, Value::Ref(4)),
+    Step::Store(4, 0, 3, Value::Ref(4)),
+    Step::Store(4, 1, 4, Value::Ref(0)),
+];
+
+/// Both are placed in the order in which they were made.
+const IN_ORDER: &[Step] = &[
+    Step::Place(0, NEW),
+    Step::Place(4, NEW),
+    Step::Forward(0, Some(0)),
+    Step::Forward(4, Some(4)),
+];
+
+/// Both are placed in the other order.
+const IN_REVERSE: &[Step] = &[
+    Step::Place(4, NEW),
+    Step::Place(0, NEW),
+    Step::Forward(0, Some(4)),
+    Step::Forward(4, Some(0)),
+];
+
+/// All that both have is held, and the spaces are exchanged. Nothing is placed then, and there is
+/// room for both again.
+const EXCHANGED: &[Step] = &[
+    Step::Hold(0, 0),
+    Step::Hold(0, 1),
+    Step::Hold(4, 0),
+    Step::Hold(4, 1),
+    Step::Counts(2, 0, 4),
+    Step::Held(0, 1, Some((2, Value::Ref(4)))),
+    Step::Held(4, 1, Some((4, Value::Ref(0)))),
+    Step::Exchange,
+    Step::Counts(0, 0, 0),
+    Step::Used(8, 0),
+    Step::Forward(0, None),
+    Step::Forward(4, None),
+    Step::Place(4, NEW),
+    Step::Forward(4, Some(0)),
+    Step::Counts(1, 2, 2),
+];
+
+/// What they have then, where they were placed in the order in which they were made.
+const AFTER_IN_ORDER: &[Step] = &[
+    Step::Current(0, 0, (1, Value::Ref(0))),
+    Step::Current(0, 1, (2, Value::Ref(4))),
+    Step::Current(4, 0, (3, Value::Ref(4))),
+    Step::Current(4, 1, (4, Value::Ref(0))),
+];
+
+/// What they have then, where they were placed in the other order.
+const AFTER_IN_REVERSE: &[Step] = &[
+    Step::Current(4, 0, (1, Value::Ref(4))),
+    Step::Current(4, 1, (2, Value::Ref(0))),
+    Step::Current(0, 0, (3, Value::Ref(0))),
+    Step::Current(0, 1, (4, Value::Ref(4))),
+];
+
+/// An object without fields, at 8, is placed before two others, at 0 and 5.
+const FIELDLESS_FIRST: &[Step] = &[
+    Step::Next(None),
+    Step::Place(8, NEW),
+    Step::Place(0, NEW),
+    Step::Place(5, NEW),
+];
+
+/// It is placed between the two.
+const FIELDLESS_BETWEEN: &[Step] = &[
+    Step::Next(None),
+    Step::Place(0, NEW),
+    Step::Place(8, NEW),
+    Step::Place(5, NEW),
+];
+
+/// It is placed after the two.
+const FIELDLESS_LAST: &[Step] = &[
+    Step::Next(None),
+    Step::Place(0, NEW),
+    Step::Place(5, NEW),
+    Step::Place(8, NEW),
+];
+
+/// What is dealt in each of these orders.
+const SCANNED: &[Step] = &[
+    Step::Next(Some((0, 0))),
+    Step::Next(Some((0, 1))),
+    Step::Next(Some((0, 2))),
+    Step::Next(Some((5, 0))),
+    Step::Next(None),
+    Step::Counts(3, 4, 0),
+];
+
+/// Objects at 3 and 5, the first without fields, that are placed once all of another was dealt.
+const PLACED_BETWEEN: &[Step] = &[
+    Step::Place(0, NEW),
+    Step::Next(Some((0, 0))),
+    Step::Counts(1, 1, 0),
+    Step::Next(None),
+    Step::Place(3, NEW),
+    Step::Next(None),
+    Step::Counts(2, 1, 0),
+    Step::Place(5, NEW),
+    Step::Next(Some((5, 0))),
+    Step::Counts(3, 3, 1),
+    Step::Next(Some((5, 1))),
+    Step::Counts(3, 3, 0),
+    Step::Next(None),
+    Step::Counts(3, 3, 0),
+];
+
+/// Stores to a field before its object is placed, before it is held, and after that.
+const STORED_TO: &[Step] = &[
+    // Nobody misses a field of an object that isn't placed.
+    Step::Store(0, 0, 1, Value::Int(-7)),
+    Step::Counts(0, 0, 0),
+    Step::Place(0, NEW),
+    // A store to a field that isn't held leaves it missing, once.
+    Step::Store(0, 0, 2, Value::Int(8)),
+    Step::Counts(1, 2, 2),
+    Step::Hold(0, 0),
+    Step::Hold(0, 1),
+    Step::Counts(1, 0, 2),
+    Step::Held(0, 0, Some((2, Value::Int(8)))),
+    // A pair that is held already changes nothing.
+    Step::Hold(0, 0),
+    Step::Counts(1, 0, 2),
+    // After a store, what is held is older. A second store counts no second time.
+    Step::Store(0, 0, 3, Value::Ref(0)),
+    Step::Store(0, 0, 4, Value::Ref(0)),
+    Step::Counts(1, 1, 2),
+    Step::Held(0, 0, Some((2, Value::Int(8)))),
+    Step::Hold(0, 0),
+    Step::Counts(1, 0, 2),
+    Step::Held(0, 0, Some((4, Value::Ref(0)))),
+    Step::Exchange,
+    Step::Current(0, 0, (4, Value::Ref(0))),
+    Step::Current(0, 1, (0, Value::Nil)),
+];
+
+/// A full space is placed whole. What isn't held yet has no number.
+const FULL: &[Step] = &[
+    Step::Place(30, NEW),
+    Step::Place(6, NEW),
+    Step::Place(0, NEW),
+    Step::Used(32, 32),
+    Step::Forward(0, Some(26)),
+    Step::Replica(26, 3, (NOT_HELD, Value::Nil)),
+];
+
+/// The fields of three objects, and what is played on them.
+const PLAYS: &[([u32; 3], &[&[Step]])] = &[
+    ([2, 0, 1], &[PLACED_ONCE]),
+    ([2, 2, 0], &[REFERRING, IN_ORDER, EXCHANGED, AFTER_IN_ORDER]),
+    (
+        [2, 2, 0],
+        &[REFERRING, IN_REVERSE, EXCHANGED, AFTER_IN_REVERSE],
+    ),
+    ([3, 1, 0], &[FIELDLESS_FIRST, SCANNED]),
+    ([3, 1, 0], &[FIELDLESS_BETWEEN, SCANNED]),
+    ([3, 1, 0], &[FIELDLESS_LAST, SCANNED]),
+    ([1, 0, 2], &[PLACED_BETWEEN]),
+    ([2, 0, 0], &[STORED_TO]),
+    ([4, 22, 0], &[FULL]),
+];
+
+/// Plays steps on new spaces.
+fn play<R: AllocGlobal + Abort>(rt: &R, objects: [u32; 3], parts: &[&[Step]]) {
+    let mut spaces = Spaces::of(rt, objects);
+    for &steps in parts {
+        for &step in steps {
+            spaces.play_step(rt, step);
+        }
+    }
+}
+
+#[test]
+fn plays(rt: HostRuntime) {
+    for &(objects, parts) in PLAYS {
+        play(&rt, objects, parts);
     }
 }
 
@@ -217,165 +461,6 @@ fn is_refused_a_joint<A: Allocator>(rt: &impl Abort, memory: &RefusingAllocator<
 fn refused_memory(rt: HostRuntime) {
     let refused = refused_in_turn(rt.alloc(), |memory| is_refused_a_joint(&rt, memory));
     expect_equal(&rt, refused, Ok(1));
-}
-
-#[test]
-fn an_object_is_placed_once(rt: HostRuntime) {
-    let mut spaces = Spaces::of(&rt, [2, 0, 1]);
-    expect_equal(&rt, spaces.forward(0), None);
-    expect_equal(&rt, spaces.place(&rt, 6), Placing::Placed);
-    expect_equal(&rt, spaces.place(&rt, 0), Placing::Placed);
-    expect_equal(&rt, spaces.place(&rt, 6), Placing::Already);
-    expect_equal(&rt, (spaces.joint.placed(), spaces.counts()), (2, (3, 3)));
-    for &(a, to) in &[(6, Some(0)), (0, Some(3)), (4, None), (1, None), (99, None)] {
-        expect_equal(&rt, spaces.forward(a), to);
-    }
-    for &(a, f) in &[(0, 0), (0, 1), (0, 2), (4, 0)] {
-        expect_equal(&rt, spaces.held(a, f), None);
-    }
-    expect_equal(&rt, spaces.joint.to_space().used(), 7);
-}
-
-/// Two objects of two fields, at 0 and 4: each refers to both. They are placed in this order, and
-/// all that they have is held.
-fn two_held<R: AllocGlobal + Abort>(rt: &R, first: u32, second: u32) -> Spaces {
-    let mut spaces = Spaces::of(rt, [2, 2, 0]);
-    for &(a, f, number, to) in &[(0, 0, 1, 0), (0, 1, 2, 4), (4, 0, 3, 4), (4, 1, 4, 0)] {
-        spaces.store(rt, item(a, f, number, Value::Ref(to)));
-    }
-    spaces.place_new(rt, first);
-    spaces.place_new(rt, second);
-    for &(a, f) in &[(0, 0), (0, 1), (4, 0), (4, 1)] {
-        spaces.hold(rt, a, f);
-    }
-    spaces
-}
-
-/// Checks the two objects after an exchange, by the addresses where they were placed. Nothing is
-/// placed then, and there is room for both again.
-fn expect_exchanged(rt: &impl Abort, spaces: &mut Spaces, to_first: u32, to_second: u32) {
-    for &(a, f, number, to) in &[
-        (to_first, 0, 1, to_first),
-        (to_first, 1, 2, to_second),
-        (to_second, 0, 3, to_second),
-        (to_second, 1, 4, to_first),
-    ] {
-        expect_equal(rt, spaces.pair(rt, a, f), (number, Value::Ref(to)));
-    }
-    expect_equal(rt, (spaces.joint.placed(), spaces.counts()), (0, (0, 0)));
-    expect_equal(rt, spaces.space.used(), 8);
-    expect_equal(rt, spaces.joint.to_space().used(), 0);
-    for &a in &[0, 4] {
-        expect_equal(rt, spaces.forward(a), None);
-    }
-    spaces.place_new(rt, 4);
-    expect_equal(rt, (spaces.forward(4), spaces.counts()), (Some(0), (2, 2)));
-}
-
-#[test]
-fn two_objects_refer_to_each_other(rt: HostRuntime) {
-    // Where each is placed, in both orders.
-    for &(first, second, to_first, to_second) in &[(0, 4, 0, 4), (4, 0, 4, 0)] {
-        let mut spaces = two_held(&rt, first, second);
-        expect_equal(&rt, spaces.counts(), (0, 4));
-        expect_equal(&rt, spaces.held(0, 1), Some((2, Value::Ref(4))));
-        expect_equal(&rt, spaces.held(4, 1), Some((4, Value::Ref(0))));
-        for &(a, to) in &[(0, to_first), (4, to_second)] {
-            expect_equal(&rt, spaces.forward(a), Some(to));
-        }
-        spaces.exchange(&rt);
-        expect_exchanged(&rt, &mut spaces, to_first, to_second);
-    }
-}
-
-#[test]
-fn the_scan_goes_over_objects_without_fields(rt: HostRuntime) {
-    // Each order of placing an object without fields (at 8) among two others (at 0 and 5).
-    for &order in &[[8, 0, 5], [0, 8, 5], [0, 5, 8]] {
-        let mut spaces = Spaces::of(&rt, [3, 1, 0]);
-        expect_equal(&rt, spaces.next(), None);
-        for a in order {
-            spaces.place_new(&rt, a);
-        }
-        for &(object, field) in &[(0, 0), (0, 1), (0, 2), (5, 0)] {
-            expect_equal(&rt, spaces.next(), Some(Place { object, field }));
-        }
-        expect_equal(&rt, (spaces.next(), spaces.counts()), (None, (4, 0)));
-    }
-}
-
-#[test]
-fn objects_placed_between_are_dealt_after_the_others(rt: HostRuntime) {
-    let mut spaces = Spaces::of(&rt, [1, 0, 2]);
-    // Each object that is placed, what is dealt then, and how many places are left each time.
-    for &(placed, dealt) in &[
-        (0, [(Some((0, 0)), 0), (None, 0), (None, 0)]),
-        (3, [(None, 0), (None, 0), (None, 0)]),
-        (5, [(Some((5, 0)), 1), (Some((5, 1)), 0), (None, 0)]),
-    ] {
-        spaces.place_new(&rt, placed);
-        for &(place, undealt) in &dealt {
-            let next = spaces.next().map(|place| (place.object, place.field));
-            expect_equal(&rt, (next, spaces.joint.undealt()), (place, undealt));
-        }
-    }
-}
-
-#[test]
-fn a_field_is_stored_to_before_and_after_it_is_held(rt: HostRuntime) {
-    let mut spaces = Spaces::of(&rt, [2, 0, 0]);
-    // Nobody misses a field of an object that isn't placed.
-    spaces.store(&rt, item(0, 0, 1, Value::Int(-7)));
-    expect_equal(&rt, spaces.counts(), (0, 0));
-    spaces.place_new(&rt, 0);
-    // A store to a field that isn't held leaves it missing, once.
-    spaces.store(&rt, item(0, 0, 2, Value::Int(8)));
-    expect_equal(&rt, spaces.counts(), (2, 2));
-    spaces.hold(&rt, 0, 0);
-    spaces.hold(&rt, 0, 1);
-    expect_equal(
-        &rt,
-        (spaces.counts(), spaces.held(0, 0)),
-        ((0, 2), Some((2, Value::Int(8)))),
-    );
-    // A pair that is held already changes nothing.
-    spaces.hold(&rt, 0, 0);
-    expect_equal(&rt, spaces.counts(), (0, 2));
-    // After a store, what is held is older. A second store counts no second time.
-    spaces.store(&rt, item(0, 0, 3, Value::Ref(0)));
-    spaces.store(&rt, item(0, 0, 4, Value::Ref(0)));
-    expect_equal(
-        &rt,
-        (spaces.counts(), spaces.held(0, 0)),
-        ((1, 2), Some((2, Value::Int(8)))),
-    );
-    spaces.hold(&rt, 0, 0);
-    expect_equal(
-        &rt,
-        (spaces.counts(), spaces.held(0, 0)),
-        ((0, 2), Some((4, Value::Ref(0)))),
-    );
-    spaces.exchange(&rt);
-    expect_equal(&rt, spaces.pair(&rt, 0, 0), (4, Value::Ref(0)));
-    expect_equal(&rt, spaces.pair(&rt, 0, 1), (0, Value::Nil));
-}
-
-#[test]
-fn a_full_space_is_placed_whole(rt: HostRuntime) {
-    let mut spaces = Spaces::of(&rt, [4, 22, 0]);
-    for &a in &[30, 6, 0] {
-        spaces.place_new(&rt, a);
-    }
-    expect_equal(
-        &rt,
-        (spaces.joint.to_space().free(), spaces.forward(0)),
-        (0, Some(26)),
-    );
-    // What isn't held yet has no number.
-    let replica = spaces.joint.to_space();
-    assert!(rt; replica.is_object(26));
-    assert!(rt; 3 < replica.fields(26));
-    expect_equal(&rt, replica.field(26, 3), (NOT_HELD, Value::Nil));
 }
 
 #[test]

@@ -1,12 +1,9 @@
-//! The plain heap.
+//! The plain heap, where no history reaches.
 
-use crate::commands::{
-    Line, alloc, copy, drop_root, load, order_of_refusals, root, sharing, store,
-    whole_number_range, without_fields,
-};
+use crate::commands::{Line, alloc, load, root, store};
 use crate::expectations::{expect_equal, expect_refusals, expect_text};
 use refusing::refused_in_turn;
-use rh_layout::{Operand, Refusal, Reply};
+use rh_layout::{Command, Operand, Refusal, Reply};
 use rh_model::{CommandError, Plain, PlainError};
 use std::alloc::Allocator;
 use std::process::Abort;
@@ -24,22 +21,6 @@ fn play<A: Allocator + Copy>(rt: &impl Abort, plain: &mut Plain<A>, lines: &[Lin
         expect_equal(rt, given, answer.map_err(CommandError::Refused));
     }
     met_refusal
-}
-
-#[test]
-fn answers_to_commands(rt: HostRuntime) {
-    for &lines in &[
-        without_fields().as_slice(),
-        sharing().as_slice(),
-        whole_number_range().as_slice(),
-        order_of_refusals().as_slice(),
-    ] {
-        let mut plain = Plain::new(rt.alloc(), 3, 3).expect(&rt, "a plain heap");
-        assert!(rt; !play(&rt, &mut plain, lines));
-    }
-    let mut plain = Plain::new(rt.alloc(), 3, 2).expect(&rt, "a plain heap");
-    let answer = plain.command(3, &drop_root(root(0, 0)));
-    expect_equal(&rt, answer, Err(CommandError::Refused(Refusal::NoRoot)));
 }
 
 #[test]
@@ -61,15 +42,29 @@ fn texts_of_errors(rt: HostRuntime) {
     expect_text(&rt, CommandError::OutOfMemory, "out of memory");
 }
 
-#[test]
-fn refused_memory(rt: HostRuntime) {
-    let refused = refused_in_turn(rt.alloc(), |memory| match Plain::new(memory, 2, 3) {
-        Ok(mut plain) => play(&rt, &mut plain, &sharing()),
+/// Makes a plain heap, and two objects of which one refers to the other. Answers whether memory was
+/// refused.
+fn is_refused_a_heap<A: Allocator + Copy>(rt: &impl Abort, memory: A) -> bool {
+    let (first, second) = (root(1, 0), root(1, 1));
+    let lines = [
+        (alloc(first, 2), Ok(Reply::Object(2))),
+        (alloc(second, 3), Ok(Reply::Object(3))),
+        (store(first, 1, Operand::Root(second)), Ok(Reply::Done)),
+        (load(second, first, 0), Ok(Reply::Nil)),
+        (load(second, first, 1), Ok(Reply::Object(3))),
+    ];
+    match Plain::new(memory, 2, 3) {
+        Ok(mut plain) => play(rt, &mut plain, &lines),
         Err(error) => {
-            expect_equal(&rt, error, PlainError::OutOfMemory);
+            expect_equal(rt, error, PlainError::OutOfMemory);
             true
         }
-    });
+    }
+}
+
+#[test]
+fn refused_memory(rt: HostRuntime) {
+    let refused = refused_in_turn(rt.alloc(), |memory| is_refused_a_heap(&rt, memory));
     // The roots, two lists of fields and the list of objects.
     expect_refusals(&rt, refused, 4);
 }
@@ -79,10 +74,14 @@ fn a_hundred_thousand_objects(rt: HostRuntime) {
     let mut plain = Plain::new(rt.alloc(), 2, 2).expect(&rt, "a plain heap");
     let (last, next) = (root(1, 0), root(1, 1));
     // A list of objects, each with a reference to the one made before it.
+    let to_last = Command::Copy {
+        dst: last,
+        src: next,
+    };
     let lines = [
         (alloc(next, 1), Ok(Reply::Object(1))),
         (store(next, 0, Operand::Root(last)), Ok(Reply::Done)),
-        (copy(last, next), Ok(Reply::Object(1))),
+        (to_last, Ok(Reply::Object(1))),
     ];
     for _ in 0..100_000 {
         assert!(rt; !play(&rt, &mut plain, &lines));

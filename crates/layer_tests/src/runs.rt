@@ -1,6 +1,6 @@
 //! Runs of events.
 
-use crate::commands::{alloc, drop_root, root, store};
+use crate::commands::{SIZES, alloc, drop_root, item, piece, root, store};
 use crate::expectations::{expect_equal, expect_refusals};
 use refusing::refused_in_turn;
 use rh_core::laws::runs::{
@@ -8,36 +8,42 @@ use rh_core::laws::runs::{
     an_event_keeps_what_was_dealt_logged_and_granted, an_event_moves_the_store_list,
     every_event_keeps_a_heap_well_formed,
 };
-use rh_core::{Answer, Config, Event, Flipped, Given, Heap, HeapError, Kind, Shaded};
-use rh_layout::{Command, Item, Operand, OutOfMemory, Refusal, Reply, Value};
-use rh_partial::{PartialReplica, Piece};
+use rh_core::{Answer, Config, Event, Heap, HeapError, Kind, Shaded};
+use rh_layout::{Command, Item, Operand, OutOfMemory, Reply, Value};
+use rh_partial::PartialReplica;
 use std::alloc::{Allocator, Global};
 use std::process::Abort;
 
 /// A heap's sizes, with limits that no test meets.
-fn sizes(words: u32) -> Config {
-    Config {
-        words,
-        ratio: 8,
-        owners: 2,
-        slots: 2,
-        log_limit: 4,
-        last_number: 100,
-        last_epoch: 100,
-    }
-}
+const SMALL: Config = Config { words: 16, ..SIZES };
 
-/// What a command was answered.
-fn command_answer(answer: &Answer) -> Option<Result<Reply, Refusal>> {
+/// What an answer tells: a word for the event, and two numbers.
+type Told = (&'static str, u32, u32);
+
+/// What an answer tells, where nothing was refused.
+fn told(answer: &Answer) -> Option<Told> {
     match answer {
-        Answer::Command(answer) => Some(*answer),
+        Answer::Command(Ok(Reply::Done)) => Some(("done", 0, 0)),
+        Answer::Command(Ok(Reply::Object(fields))) => Some(("object", *fields, 0)),
+        Answer::Begin(Ok(epoch)) if *epoch == 1 => Some(("cycle", 1, 0)),
+        Answer::Shade(Ok(Shaded::Placed)) => Some(("placed", 0, 0)),
+        Answer::Deal(Ok(dealt)) if dealt.piece.len() == 1 => Some(("dealt", 1, dealt.passed)),
+        Answer::Give(Ok(given)) if given.stale == 0 && given.placed == 0 => {
+            Some(("given", given.joined, given.repeated))
+        }
+        Answer::Flip(Ok(flipped)) => Some(("flipped", flipped.roots, flipped.live_words)),
         _ => None,
     }
 }
 
+/// Owner 1's command.
+fn command<A: Allocator + Copy>(command: Command) -> Event<A> {
+    Event::Command { owner: 1, command }
+}
+
 #[test]
 fn a_run_of_100000_events(rt: HostRuntime) {
-    let mut heap = Heap::new(rt.alloc(), sizes(16)).expect(&rt, "a heap");
+    let mut heap = Heap::new(rt.alloc(), SMALL).expect(&rt, "a heap");
     let mut events = Vec::new(rt.alloc());
     for _ in 0..100_000u32 {
         events
@@ -49,12 +55,7 @@ fn a_run_of_100000_events(rt: HostRuntime) {
     expect_equal(&rt, heap.run(&events, &mut answers), Ok(()));
     expect_equal(&rt, answers.len(), 100_000);
     let last = answers.pop().expect(&rt, "an answer");
-    expect_equal(&rt, command_answer(&last), Some(Ok(Reply::Done)));
-}
-
-/// Owner 1's command.
-fn command<A: Allocator + Copy>(command: Command) -> Event<A> {
-    Event::Command { owner: 1, command }
+    expect_equal(&rt, told(&last), Some(("done", 0, 0)));
 }
 
 /// A deal of so many at most.
@@ -62,46 +63,53 @@ fn deals<A: Allocator + Copy>(kind: Kind, most: u32) -> Event<A> {
     Event::Deal { kind, most }
 }
 
-/// A piece of epoch 1, of fields of the object at word 0.
-fn piece(rt: &impl Abort, fields: &[(u32, u64, Value)]) -> Piece {
-    let mut piece = Piece::new(1);
-    for (field, number, value) in fields {
-        let item = Item {
-            object: 0,
-            field: *field,
-            number: *number,
-            value: *value,
-        };
-        piece.push(item).expect(rt, "there is room");
-    }
-    piece
-}
-
-/// A replica that took a piece, where memory wasn't refused.
-fn taken<A: Allocator + Copy>(memory: A, piece: &Piece) -> Option<PartialReplica<A>> {
-    PartialReplica::empty(memory, 1).take(piece).ok()
-}
-
-/// Two replicas, joined in both orders, and a copy of the second, where memory wasn't refused. One
-/// has the first field as it was made; the other the first as it was stored to, and the second.
-fn joined_in_both_orders<A: Allocator + Copy>(
+/// A replica that took a piece of these items, where memory wasn't refused.
+fn taken<A: Allocator + Copy>(
     rt: &impl Abort,
     memory: A,
-) -> Option<Vec<PartialReplica<A>, A>> {
-    let one = taken(memory, &piece(rt, &[(0, 0, Value::Nil)]))?;
-    let pair = piece(rt, &[(1, 0, Value::Nil), (0, 1, Value::Int(9))]);
-    let other = taken(memory, &pair)?;
-    let mut joined = Vec::new(memory);
-    joined
-        .push(one.copy().ok()?.join(other.copy().ok()?).ok()?)
-        .ok()?;
-    let second = other.join(one).ok()?;
-    joined.push(second.copy().ok()?).ok()?;
-    joined.push(second).ok()?;
-    Some(joined)
+    items: &[Item],
+) -> Option<PartialReplica<A>> {
+    PartialReplica::empty(memory, 1)
+        .take(&piece(rt, 1, items))
+        .ok()
 }
 
-/// A cycle in which those replicas are given, where memory wasn't refused.
+/// Adds gives of two replicas that are joined in both orders, and of a copy of the second join,
+/// where memory wasn't refused. One has the first field as it was made; the other the first as it
+/// was stored to, and the second.
+fn add_gives<A: Allocator + Copy>(
+    rt: &impl Abort,
+    memory: A,
+    events: &mut Vec<Event<A>, A>,
+) -> Option<()> {
+    let one = taken(rt, memory, &[item(0, 0, 0, Value::Nil)])?;
+    let items = [item(0, 1, 0, Value::Nil), item(0, 0, 1, Value::Int(9))];
+    let other = taken(rt, memory, &items)?;
+    let first = one.copy().ok()?.join(other.copy().ok()?).ok()?;
+    events.push(Event::Give(first)).ok()?;
+    let second = other.join(one).ok()?;
+    events.push(Event::Give(second.copy().ok()?)).ok()?;
+    events.push(Event::Give(second)).ok()
+}
+
+/// What a cycle is told, in which replicas of both fields of an object are given three times.
+const CYCLE: &[Told] = &[
+    ("object", 2, 0),
+    ("cycle", 1, 0),
+    ("object", 3, 0),
+    ("done", 0, 0),
+    ("placed", 0, 0),
+    ("dealt", 1, 0),
+    ("done", 0, 0),
+    ("dealt", 1, 0),
+    ("dealt", 1, 0),
+    ("given", 2, 0),
+    ("given", 0, 2),
+    ("given", 0, 2),
+    ("flipped", 1, 4),
+];
+
+/// The events of that cycle, where memory wasn't refused.
 fn cycle<A: Allocator + Copy>(rt: &impl Abort, memory: A) -> Option<Vec<Event<A>, A>> {
     let (first, second) = (root(1, 0), root(1, 1));
     let mut events = Vec::new(memory);
@@ -116,35 +124,27 @@ fn cycle<A: Allocator + Copy>(rt: &impl Abort, memory: A) -> Option<Vec<Event<A>
     events.push(command(store(first, 0, Operand::Int(9)))).ok()?;
     events.push(deals(Kind::Copies, 1)).ok()?;
     events.push(deals(Kind::Entries, 9)).ok()?;
-    for replica in joined_in_both_orders(rt, memory)? {
-        events.push(Event::Give(replica)).ok()?;
-    }
+    add_gives(rt, memory, &mut events)?;
     events.push(Event::Flip).ok()?;
     Some(events)
 }
 
-/// Makes the events and a heap, and runs them on it. Answers whether memory was refused.
-fn is_refused_a_cycle<A: Allocator + Copy>(rt: &impl Abort, memory: A) -> bool {
-    let Some(events) = cycle(rt, memory) else {
-        return true;
-    };
-    let mut heap = match Heap::new(memory, sizes(16)) {
-        Ok(heap) => heap,
-        Err(error) => {
-            expect_equal(rt, error, HeapError::OutOfMemory);
-            return true;
-        }
-    };
-    let mut answers = Vec::new(memory);
-    let first = heap.run(&events, &mut answers);
+/// Runs the events of that cycle on a heap, twice where nothing was done. Answers whether memory
+/// was refused.
+fn is_refused_a_run<A: Allocator + Copy>(
+    rt: &impl Abort,
+    heap: &mut Heap<A>,
+    events: &[Event<A>],
+    answers: &mut Vec<Answer, A>,
+) -> bool {
+    let first = heap.run(events, answers);
     if first == Err(OutOfMemory) {
-        // Nothing was done: the run can be made again.
         assert!(rt; answers.is_empty());
-        expect_equal(rt, heap.run(&events, &mut answers), Ok(()));
+        expect_equal(rt, heap.run(events, answers), Ok(()));
     }
-    expect_equal(rt, answers.len(), 13);
-    for (place, answer) in answers.iter().enumerate() {
-        expect_answer(rt, place, answer);
+    expect_equal(rt, answers.len(), CYCLE.len());
+    for (answer, due) in answers.iter().zip(CYCLE) {
+        expect_equal(rt, told(answer), Some(*due));
     }
     // 40 units were granted; an object placed, two copies and an entry dealt, six entries given and
     // two of them held.
@@ -154,33 +154,16 @@ fn is_refused_a_cycle<A: Allocator + Copy>(rt: &impl Abort, memory: A) -> bool {
     first.is_err()
 }
 
-/// Checks an answer of the cycle's run, by its place.
-fn expect_answer(rt: &impl Abort, place: usize, answer: &Answer) {
-    match answer {
-        Answer::Begin(answer) => expect_equal(rt, (place, *answer), (1, Ok(1))),
-        Answer::Command(answer) => expect_equal(rt, answer.is_ok(), true),
-        Answer::Shade(answer) => expect_equal(rt, (place, *answer), (4, Ok(Shaded::Placed))),
-        Answer::Deal(Ok(dealt)) => {
-            assert!(rt; matches!(place, 5 | 7 | 8));
-            expect_equal(rt, (dealt.piece.len(), dealt.passed), (1, 0));
-        }
-        Answer::Deal(Err(refusal)) => expect_equal(rt, Some(*refusal), None),
-        Answer::Give(answer) => {
-            let (joined, repeated) = if place == 9 { (2, 0) } else { (0, 2) };
-            let given = Given {
-                joined,
-                repeated,
-                stale: 0,
-                placed: 0,
-            };
-            expect_equal(rt, *answer, Ok(given));
-        }
-        Answer::Flip(answer) => {
-            let flipped = Flipped {
-                roots: 1,
-                live_words: 4,
-            };
-            expect_equal(rt, (place, *answer), (12, Ok(flipped)));
+/// Makes the events and a heap, and runs them on it. Answers whether memory was refused.
+fn is_refused_a_cycle<A: Allocator + Copy>(rt: &impl Abort, memory: A) -> bool {
+    let Some(events) = cycle(rt, memory) else {
+        return true;
+    };
+    match Heap::new(memory, SMALL) {
+        Ok(mut heap) => is_refused_a_run(rt, &mut heap, &events, &mut Vec::new(memory)),
+        Err(error) => {
+            expect_equal(rt, error, HeapError::OutOfMemory);
+            true
         }
     }
 }
@@ -188,6 +171,8 @@ fn expect_answer(rt: &impl Abort, place: usize, answer: &Answer) {
 #[test]
 fn a_cycle_whose_memory_is_refused_in_turn(rt: HostRuntime) {
     let refused = refused_in_turn(rt.alloc(), |memory| is_refused_a_cycle(&rt, memory));
+    // The events and their growth, two replicas and what is made of them, and the heap and the
+    // answers.
     expect_refusals(&rt, refused, 12);
 }
 

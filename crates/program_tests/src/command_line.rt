@@ -1,60 +1,63 @@
 //! The program, from its arguments to its status.
 
-use crate::devices::{Broken, Unflushed};
-use crate::expectations::{expect_equal, expect_prefix, expect_refusals};
+use crate::expectations::{expect_equal, expect_prefix};
 use crate::terminal::Terminal;
-use crate::texts::{CUT, WITHOUT_FIELDS, WITHOUT_FIELDS_ANSWERS, repeated};
-use refusing::refused_in_turn;
-use rh_cli::{Ask, LineFault, Subcommand, drive, play, read_words, tell};
+use crate::texts::{WITHOUT_FIELDS, WITHOUT_FIELDS_ANSWERS};
+use rh_cli::{Ask, LineFault, Subcommand, play, read_words, tell};
 use std::cell::RefCell;
 use std::process::Abort;
-use std::test::Fail;
 
-const RUN: Ask<'static> = Ask {
-    subcommand: Subcommand::Run,
-    file: "-",
-};
+/// The commands by name.
+const COMMANDS: &[(&str, Subcommand)] = &[
+    ("run", Subcommand::Run),
+    ("replay", Subcommand::Replay),
+    ("dump", Subcommand::Dump),
+];
 
 #[test]
 fn arguments_that_ask_for_each_command(rt: HostRuntime) {
-    for (name, subcommand) in [
-        ("run", Subcommand::Run),
-        ("replay", Subcommand::Replay),
-        ("dump", Subcommand::Dump),
-    ] {
-        let arguments = ["rheap", name, "first"];
-        let ask = read_words(rt.alloc(), &arguments);
-        let wanted = Ask {
-            subcommand,
-            file: "first",
-        };
-        assert!(rt; matches!(ask, Ok(ask) if ask == wanted));
+    for &(name, subcommand) in COMMANDS {
+        let file = "first";
+        let words = ["rheap", name, file];
+        let ask = read_words(rt.alloc(), &words);
+        assert!(rt; matches!(ask, Ok(ask) if ask == Ask { subcommand, file }));
     }
 }
 
-/// What the program answers to these arguments: its status, and what it writes to standard output
-/// and to standard error.
-fn play_of(
+/// Expects a text: whole, where what is due is empty or ends a line, and else as a beginning.
+fn expect_written(rt: &impl Abort, text: &[u8], due: &[u8]) {
+    if due.is_empty() || due.ends_with(b"\n") {
+        expect_equal(rt, text, due);
+    } else {
+        expect_prefix(rt, text, due);
+    }
+}
+
+/// Plays the program with these arguments and a trace as standard input, and expects this status,
+/// and what is written to standard output and to standard error.
+fn expect_played(
+    test: &impl Abort,
     rt: &HostRuntime,
-    args: &[&[u8]],
-    input: &[u8],
     is_closed: bool,
-) -> (u8, Vec<u8>, Vec<u8>) {
-    let mut err = Vec::new(rt.alloc());
+    &(args, status, out, err): &(&[&[u8]], u8, &[u8], &[u8]),
+) {
+    let mut told = Vec::new(rt.alloc());
     let terminal = Terminal {
         rt,
         args,
-        input,
+        input: WITHOUT_FIELDS,
         is_closed,
         printed: RefCell::new(Vec::new(rt.alloc())),
     };
-    let status = play(&terminal, &mut err);
-    (status, terminal.printed.into_inner(), err)
+    expect_equal(test, play(&terminal, &mut told), status);
+    expect_written(test, &terminal.printed.into_inner(), out);
+    expect_written(test, &told, err);
 }
 
-/// Arguments, the status, and how what is written to standard output and to standard error begins.
+/// Arguments, the status, and what is written to standard output or to standard error: a line or
+/// lines, or how it begins.
 const CALLS: &[(&[&[u8]], u8, &[u8], &[u8])] = &[
-    (&[b"rheap", b"--version"], 0, b"rheap 0.1.0\n", b""),
+    (&[b"rheap", b"--version"], 0, b"rheap 0.1.0 (rattle-kit-", b""),
     (&[b"rheap", b"--help"], 0, b"A managed heap", b""),
     (&[b"rheap", b"run", b"--help"], 0, b"Runs a trace", b""),
     (&[b"rheap", b"run", b"-"], 0, WITHOUT_FIELDS_ANSWERS, b""),
@@ -110,79 +113,26 @@ const CALLS: &[(&[&[u8]], u8, &[u8], &[u8])] = &[
     ),
 ];
 
-#[test]
-fn calls_of_the_program(rt: HostRuntime) {
-    for &(args, status, out, err) in CALLS {
-        let (answer, printed, told) = play_of(&rt, args, WITHOUT_FIELDS, false);
-        expect_equal(&rt, answer, status);
-        expect_prefix(&rt, &printed, out);
-        expect_prefix(&rt, &told, err);
-        // Standard output or standard error, and never both.
-        assert!(rt; printed.is_empty() != told.is_empty());
-    }
-}
-
-#[test]
-fn calls_with_a_closed_output(rt: HostRuntime) {
-    let calls: [&[&[u8]]; 3] = [
-        &[b"rheap", b"--version"],
+/// The same where standard output is closed.
+const CLOSED: &[(&[&[u8]], u8, &[u8], &[u8])] = &[
+    (&[b"rheap", b"--version"], 1, b"", b"rheap: write failed\n"),
+    (
         &[b"rheap", b"run", b"--help"],
-        &[b"rheap", b"run", b"-"],
-    ];
-    for args in calls {
-        let (answer, printed, told) = play_of(&rt, args, WITHOUT_FIELDS, true);
-        expect_equal(&rt, (answer, printed.len()), (1, 0));
-        expect_equal(&rt, told.as_slice(), b"rheap: write failed\n".as_slice());
-    }
-}
-
-/// Does with the text what is asked, and compares the status and what is written to both writers.
-pub fn drives_to<R: AllocGlobal + Abort>(
-    rt: &R,
-    ask: &Ask<'_>,
-    text: &[u8],
-    status: u8,
-    answers: &[u8],
-    told: &[u8],
-) {
-    let mut reader = text;
-    let mut out = Vec::new(rt.alloc());
-    let mut err = Vec::new(rt.alloc());
-    let answer = drive(rt.alloc(), ask, &mut reader, &mut out, &mut err);
-    expect_equal(rt, answer, status);
-    expect_equal(rt, out.as_slice(), answers);
-    expect_equal(rt, err.as_slice(), told);
-}
-
-/// Traces that can't be run, each with what is told.
-const FAULTS: &[(&[u8], &[u8])] = &[
-    (CUT, b"rheap: line 3: Cut\n"),
-    (b"", b"rheap: line 1: Empty\n"),
-    (b"heap 16 8 4 2 2", b"rheap: line 1: Cut\n"),
-    (b"heap 16 8 4 2 2\n1\n", b"rheap: line 2: Form\n"),
-    (b"heap 16 8 4 2\n", b"rheap: line 1: Header\n"),
-    (b"heap 16 8 4 2 2\nbegun\n", b"rheap: line 2: Word\n"),
-    (b"heap 16 8 4 2 2\n1 begin\n", b"rheap: line 2: Word\n"),
-    (b"heap 16 8 4 2 2\ngive T\n", b"rheap: line 2: Tray\n"),
-    (b"heap 16 8 4 2 02\n", b"rheap: line 1: Number\n"),
-    (b"heap 16 8 4 2 2\n1 drop 10\n", b"rheap: line 2: Root\n"),
-    (b"heap 7 0 0 0 0\n", b"rheap: heap: BadSpace\n"),
-    (b"heap 16 0 4 2 2\n", b"rheap: heap: BadRatio\n"),
-    (b"heap 16 8 4 0 2\n", b"rheap: heap: BadRoots\n"),
-    (b"heap 16 8 0 2 2\n", b"rheap: heap: BadLog\n"),
+        1,
+        b"",
+        b"rheap: write failed\n",
+    ),
+    (&[b"rheap", b"run", b"-"], 1, b"", b"rheap: write failed\n"),
 ];
 
 #[test]
-fn statuses_and_texts_of_runs(rt: HostRuntime) -> Result<(), Fail> {
-    drives_to(&rt, &RUN, WITHOUT_FIELDS, 0, WITHOUT_FIELDS_ANSWERS, b"");
-    for &(text, told) in FAULTS {
-        drives_to(&rt, &RUN, text, 1, b"", told);
+fn calls_of_the_program(rt: HostRuntime) {
+    for call in CALLS {
+        expect_played(&rt, &rt, false, call);
     }
-    let long = repeated(&rt, b"", b"9", 257)?;
-    drives_to(&rt, &RUN, &long, 1, b"", b"rheap: line 1: Long\n");
-    let too_long = vec![in rt.alloc(); b'9'; 16_777_217]?;
-    drives_to(&rt, &RUN, &too_long, 1, b"", b"rheap: too long\n");
-    Ok(())
+    for call in CLOSED {
+        expect_played(&rt, &rt, true, call);
+    }
 }
 
 #[test]
@@ -201,42 +151,4 @@ fn faults_before_a_run_are_told(rt: HostRuntime) {
         expect_equal(&rt, tell(&fault, &mut err), status);
         expect_equal(&rt, err.as_slice(), text);
     }
-}
-
-#[test]
-fn devices_that_fail(rt: HostRuntime) {
-    let text = WITHOUT_FIELDS;
-    let mut out = Vec::new(rt.alloc());
-    let mut err = Vec::new(rt.alloc());
-    let unread = drive(rt.alloc(), &RUN, &mut Broken, &mut out, &mut err);
-    let unwritten = drive(rt.alloc(), &RUN, &mut { text }, &mut Broken, &mut err);
-    let unflushed = drive(rt.alloc(), &RUN, &mut { text }, &mut Unflushed, &mut err);
-    // What can't be told still has its status.
-    let untold = drive(rt.alloc(), &RUN, &mut Broken, &mut out, &mut Broken);
-    expect_equal(&rt, [unread, unwritten, unflushed, untold], [1, 1, 1, 1]);
-    expect_equal(
-        &rt,
-        err.as_slice(),
-        b"rheap: read failed\nrheap: write failed\nrheap: write failed\n".as_slice(),
-    );
-    expect_equal(&rt, out.len(), 0);
-}
-
-#[test]
-fn refused_memory(rt: HostRuntime) {
-    let text = WITHOUT_FIELDS;
-    let refused = refused_in_turn(rt.alloc(), |memory| {
-        let mut out = Vec::new(rt.alloc());
-        let mut err = Vec::new(rt.alloc());
-        let status = drive(memory, &RUN, &mut { text }, &mut out, &mut err);
-        if status == 0 {
-            expect_equal(&rt, out.as_slice(), WITHOUT_FIELDS_ANSWERS);
-            return false;
-        }
-        expect_equal(&rt, status, 3);
-        assert!(rt; WITHOUT_FIELDS_ANSWERS.starts_with(out.as_slice()));
-        expect_equal(&rt, err.as_slice(), b"rheap: out of memory\n".as_slice());
-        true
-    });
-    expect_refusals(&rt, refused, 3);
 }

@@ -1,35 +1,299 @@
-//! The texts of faults, and the commands of lines.
+//! Texts with faults, and what the program tells of them.
 
+use crate::driving::{DUMP, REPLAY, RUN, drives_to};
 use crate::expectations::{expect_equal, expect_text};
+use crate::texts::repeated;
+use rh_cli::Ask;
+use rh_dump::{DumpFault, DumpKind, DumpReadError};
 use rh_layout::{Command, RootId};
-use rh_trace::{Asked, Kind, Line, ParseError, TraceFault, Write};
+use rh_trace::{Asked, Kind, Line, ParseError, TraceFault, Write, parse};
+use std::process::Abort;
+use std::test::Fail;
 
-/// Each kind with the name that the format gives it.
-const KINDS: &[(Kind, &str)] = &[
-    (Kind::Empty, "Empty"),
-    (Kind::Long, "Long"),
-    (Kind::Cut, "Cut"),
-    (Kind::Form, "Form"),
-    (Kind::Header, "Header"),
-    (Kind::Word, "Word"),
-    (Kind::Number, "Number"),
-    (Kind::Root, "Root"),
-    (Kind::Tray, "Tray"),
+/// Texts that are no traces, each with its first faulty line and what is told to be wrong with it.
+const TRACES: &[(&[u8], u32, &str)] = &[
+    (b"", 1, "Empty"),
+    (b"\n", 1, "Form"),
+    (b"1 drop 1.0\n", 1, "Header"),
+    (b"heap 16 8 4 2\n", 1, "Header"),
+    (b"heap x 8 4 2\n", 1, "Header"),
+    (b"heap 16 8 4 2 2", 1, "Cut"),
+    (b"heap  16", 1, "Cut"),
+    (b"heap  16\n", 1, "Form"),
+    (b"heap  16 8 4 2 2\n", 1, "Form"),
+    (b"heap 16 8 4 2 2 \n", 1, "Form"),
+    (b"heap\t16 8 4 2 2\n", 1, "Form"),
+    (b"heap 16 8 4 2 02\n", 1, "Number"),
+    (b"heap 16 8 4 2 4294967296\n", 1, "Number"),
+    (b"heap 16 8 4 -2 2\n", 1, "Number"),
+    (b"heap 16 8 4 +2 2\n", 1, "Number"),
+    (b"pile 16 8 4 2 02\n1 grow\n", 1, "Header"),
+];
+
+/// The same of second lines of traces.
+const LINES: &[(&[u8], u32, &str)] = &[
+    (b"\n", 2, "Form"),
+    (b"1\n", 2, "Form"),
+    (b"1 grow 1.0\n", 2, "Word"),
+    (b"1 begin\n", 2, "Word"),
+    (b"1 shade\n", 2, "Word"),
+    (b"1 flip\n", 2, "Word"),
+    (b"begun\n", 2, "Word"),
+    (b"recall\n", 2, "Word"),
+    (b"abandon\n", 2, "Word"),
+    (b"begin 1\n", 2, "Form"),
+    (b"flip 1\n", 2, "Form"),
+    (b"trays t\n", 2, "Form"),
+    (b"stat 1\n", 2, "Form"),
+    (b"shade\n", 2, "Form"),
+    (b"shade 10\n", 2, "Root"),
+    (b"shade nil\n", 2, "Root"),
+    (b"shade 1.0 1.1\n", 2, "Form"),
+    (b"deal copies 1\n", 2, "Form"),
+    (b"deal x 1\n", 2, "Form"),
+    (b"deal copies 1 t t\n", 2, "Form"),
+    (b"deal x 1 t\n", 2, "Word"),
+    (b"deal x -1 T\n", 2, "Word"),
+    (b"deal Copies 1 t\n", 2, "Word"),
+    (b"deal copies -1 T\n", 2, "Number"),
+    (b"deal copies 1 T\n", 2, "Tray"),
+    (b"deal entries 4294967296 t\n", 2, "Number"),
+    (b"give\n", 2, "Form"),
+    (b"give 1\n", 2, "Tray"),
+    (b"give abcdefghijklmnopq\n", 2, "Tray"),
+    (b"give t t\n", 2, "Form"),
+    (b"join a\n", 2, "Form"),
+    (b"join a B\n", 2, "Tray"),
+    (b"join _a b\n", 2, "Tray"),
+    (b"join a b c\n", 2, "Form"),
+    (b"alloc 1 1.0 2\n", 2, "Word"),
+    (b"1 dump\n", 2, "Word"),
+    (b"dump 1\n", 2, "Form"),
+    (b"1 alloc 1.0\n", 2, "Form"),
+    (b"1 alloc 1.0 2 3\n", 2, "Form"),
+    (b"1 alloc 1 x\n", 2, "Root"),
+    (b"1x alloc 1 x\n", 2, "Number"),
+    (b"1x drop\n", 2, "Form"),
+    (b"1 alloc 1.0 x\n", 2, "Number"),
+    (b"1 alloc 1.0.0 2\n", 2, "Root"),
+    (b"1 alloc 1.00 2\n", 2, "Root"),
+    (b"1 load 1.0 1.1\n", 2, "Form"),
+    (b"1 load 1.0 1. 0\n", 2, "Root"),
+    (b"1 drop 10\n", 2, "Root"),
+    (b"1 drop 1.0 1.1\n", 2, "Form"),
+    (b"1 drop 1.4294967296\n", 2, "Root"),
+    (b"1 drop 4294967296.0\n", 2, "Root"),
+    (b"1 store 1.0 0\n", 2, "Form"),
+    (b"1 store x 0\n", 2, "Form"),
+    (b"1 store 1.0 0 5 5\n", 2, "Form"),
+    (b"1 store 1.0 0 \n", 2, "Form"),
+    (b"1 store 1.0 0 x\n", 2, "Number"),
+    (b"1 store 1.0 0 1.x\n", 2, "Root"),
+    (b"1 store 1.0 0 -1.0\n", 2, "Root"),
+    (b"1 store 1.0 0 1.\n", 2, "Root"),
+    (b"1 store 1.0 0 .\n", 2, "Root"),
+    (b"1 store 1.0 0 nil.\n", 2, "Root"),
+    (b"1 store 1 0 5\n", 2, "Root"),
+    (b"1 store 1 x 1.x\n", 2, "Root"),
+    (b"1 store 1.0 x 1.x\n", 2, "Number"),
+    (b"1x store 1 0 1.x\n", 2, "Number"),
+    (b"1 store 1.0 -1 5\n", 2, "Number"),
+    (b"1 store 1.0 0 9223372036854775808\n", 2, "Number"),
+    (b"1 store 1.0 0 -9223372036854775809\n", 2, "Number"),
+    (b"1 store 1.0 0 18446744073709551616\n", 2, "Number"),
+    (b"1 store 1.0 0 +5\n", 2, "Number"),
+    (b"1 store 1.0 0 05\n", 2, "Number"),
+    (b"1 store 1.0 0 -05\n", 2, "Number"),
+    (b"1 store 1.0 0 -0\n", 2, "Number"),
+    (b"1 store 1.0 0 00\n", 2, "Number"),
+    (b"1 store 1.0 0 -\n", 2, "Number"),
+    (b"1 store 1.0 0 --1\n", 2, "Number"),
+    (b"1 store 1.0 0 Nil\n", 2, "Number"),
+    (b"1 stores 1.0 0 5\n", 2, "Word"),
+    (b"1 copy 1.0\n", 2, "Form"),
+    (b"1 copy 7 1.0 1.1\n", 2, "Form"),
+    (b"1 copy 7 1.0\n", 2, "Root"),
+    (b"1 copy 1.0 nil\n", 2, "Root"),
+    (b"1 same 1.0 7\n", 2, "Root"),
+    (b"1 same 1.0\n", 2, "Form"),
+    (b"1 same 1.0 1.1", 2, "Cut"),
+    // Of two faults the one that stands first in the order of the format.
+    (b"x alloc 1.0\n", 2, "Word"),
+    (b"dumped 1.0\n", 2, "Word"),
+    (b"1 dump 1.0\n", 2, "Word"),
+    (b"02 alloc 1.0\n", 2, "Form"),
+    (b"02 alloc 1 x\n", 2, "Number"),
+    (b"1 store 1 x 1.\n", 2, "Root"),
+];
+
+/// The same of texts that are no histories.
+const HISTORIES: &[(&[u8], u32, &str)] = &[
+    (b"", 1, "Empty"),
+    (b"history 2 2", 1, "Cut"),
+    (b"history  2 2\n", 1, "Form"),
+    (b"heap 2 2\n", 1, "Header"),
+    (b"history 2 2 2\n", 1, "Header"),
+    (b"history 17 2\n", 1, "Number"),
+    (b"history 2 0\n", 1, "Number"),
+    (b"history 2 2\n1 = done\n", 2, "Form"),
+    (b"history 2 2\n= done\n", 2, "Word"),
+    (b"history 2 2\nbegin = done\n", 2, "Word"),
+    (b"history 2 2\n1 drop = done\n", 2, "Form"),
+    (b"history 2 2\n1 drop 10 = done\n", 2, "Root"),
+    (b"history 2 2\nend 0 = done\n", 2, "Form"),
+    (b"history 2 2\nend 4294967296\n", 2, "Number"),
+    (b"history 2 2\nend 0\nx", 3, "Cut"),
+    (b"history 2 2\n", 2, "End"),
+    (b"history 2 2\n1 drop 1.0 =\n", 2, "Answer"),
+    (b"history 2 2\n1 drop 1.0\n", 2, "Answer"),
+    (b"history 2 2\n1 drop 1.0 = done = done\n", 2, "Answer"),
+    (b"history 2 2\n1 drop 1.0 = int +5\n", 2, "Answer"),
+    (b"history 2 2\n1 drop 1.0 = refused LogFull\n", 2, "Answer"),
+    (b"history 2 2\nend 1\n", 2, "Count"),
+    (b"history 2 2\nend 0\n\n", 3, "Trailing"),
+    (b"history 2 257\n", 1, "Number"),
+    (b"history 2 2\n\n", 2, "Form"),
+    (b"history 2 2\nshade 1.0 = done\n", 2, "Word"),
+    (b"history 2 2\nend 0\nend 0\n", 3, "Trailing"),
+];
+
+/// The same of texts that are no dumps.
+const DUMPS: &[(&[u8], u32, &str)] = &[
+    (b"", 1, "End"),
+    (b"rheap 2\n", 1, "Header"),
+    (b"rheap 1\nroots 1\n1.0 @1\n", 3, "Order"),
+    (b"rheap 1\nroots 1\n1.0 @0\nobjects 0\n", 4, "Count"),
+    (
+        b"rheap 1\nroots 1\n1.0 @0\nobjects 1\n@0 1 @1\n",
+        5,
+        "Count",
+    ),
+    (b"rheap 1\nroots 0\nobjects 0\n", 4, "End"),
+    (b"rheap 1\nroots 0\nobjects 0\nend", 4, "End"),
+    (b"rheap 1\nroots 0\nobjects 0\nend\nmore\n", 5, "Trailing"),
+    (b"rheap 1\nroots 0\nobjects 0\nend\nmore", 5, "End"),
+    (b"rheap 1\nroots 4097\n", 2, "Number"),
+    (b"rheap 1\nroots 1\nobjects 0\n", 3, "Number"),
+    (b"rheap 1\nroots 0\n1.0 @0\n", 3, "Form"),
+    (b"rheap 1\nroots 2\n1.0 1\n1.0 +5\n", 4, "Order"),
+    (b"rheap 1\nroots 2\n1.0 1\n1.0 nil\n", 4, "Form"),
+    (b"rheap 1\nroots 1\n1.0 +5\n", 3, "Number"),
+    (b"rheap 1\nroots 1\n1.0  5\n", 3, "Form"),
+    (b"rheap 1\nroots 1\n16.0 5\n", 3, "Number"),
+    (b"rheap 1\nroots 1\n1.0 2305843009213693952\n", 3, "Number"),
+    (b"rheap 1\nroots 1\n1.0 @16777216\n", 3, "Number"),
+];
+
+/// The same of lines of objects, after one root that refers to object 0.
+const OBJECTS: &[(&[u8], u32, &str)] = &[
+    (b"objects 16777217\n", 4, "Number"),
+    (b"objects 1\nend\n", 5, "Form"),
+    (b"objects 1\n@0\n", 5, "Form"),
+    (b"objects 1\n0 0\n", 5, "Form"),
+    (b"objects 1\n@1 4096\n", 5, "Order"),
+    (b"objects 1\n@0 4096\n", 5, "Number"),
+    (b"objects 1\n@0 2 x\n", 5, "Form"),
+    (b"objects 1\n@0 1 x\n", 5, "Number"),
+    (b"objects 3\n@0 2 @2 @1\n", 5, "Order"),
+    (b"objects 2\n@0 0\n@1 0\n", 6, "Count"),
+    (b"objects 1\n@0 0\n@1 0\n", 6, "Form"),
+];
+
+/// Expects each of these texts, after `first`, to be answered with its fault and nothing else.
+fn expect_faults<R: AllocGlobal + Abort>(
+    rt: &R,
+    ask: &Ask<'_>,
+    first: &[u8],
+    faults: &[(&[u8], u32, &str)],
+) -> Result<(), Fail> {
+    for &(rest, line, kind) in faults {
+        let text = repeated(rt, first, rest, 1)?;
+        let told = format!(in rt.alloc(); "rheap: line {line}: {kind}\n")?;
+        drives_to(rt, ask, &text, 1, b"", told.as_bytes());
+    }
+    Ok(())
+}
+
+#[test]
+fn first_faults(rt: HostRuntime) -> Result<(), Fail> {
+    expect_faults(&rt, &RUN, b"", TRACES)?;
+    expect_faults(&rt, &RUN, b"heap 16 8 4 2 2\n", LINES)?;
+    expect_faults(&rt, &REPLAY, b"", HISTORIES)?;
+    expect_faults(&rt, &DUMP, b"", DUMPS)?;
+    expect_faults(&rt, &DUMP, b"rheap 1\nroots 1\n1.0 @0\n", OBJECTS)
+}
+
+/// First lines of heaps that can't be made, each with why.
+const HEAPS: &[(&[u8], &[u8])] = &[
+    (b"heap 7 0 0 0 0\n", b"rheap: heap: BadSpace\n"),
+    (b"heap 16 0 4 2 2\n", b"rheap: heap: BadRatio\n"),
+    (b"heap 16 8 4 0 2\n", b"rheap: heap: BadRoots\n"),
+    (b"heap 16 8 4 2 257\n", b"rheap: heap: BadRoots\n"),
+    (b"heap 16 8 0 2 2\n", b"rheap: heap: BadLog\n"),
 ];
 
 #[test]
-fn texts_of_faults(rt: HostRuntime) {
-    for &(kind, name) in KINDS {
-        expect_text(&rt, kind, name);
+fn heaps_that_cannot_be_made(rt: HostRuntime) {
+    for &(text, told) in HEAPS {
+        drives_to(&rt, &RUN, text, 1, b"", told);
     }
+}
+
+/// What a text begins with, the byte that follows, how often it does, the end, and what is told.
+const LONG: &[(&[u8], &[u8], u32, &[u8], &[u8])] = &[
+    (b"", b"9", 256, b"", b"rheap: line 1: Cut\n"),
+    (b"", b"9", 256, b"\n", b"rheap: line 1: Header\n"),
+    (b"", b"9", 257, b"", b"rheap: line 1: Long\n"),
+    (b"", b"9", 257, b"\n", b"rheap: line 1: Long\n"),
+    (b"", b" ", 257, b"\n", b"rheap: line 1: Long\n"),
+];
+
+/// The same of histories.
+const LONG_HISTORIES: &[(&[u8], &[u8])] = &[
+    (b"history 2 2\n", b"rheap: line 2: Long\n"),
+    (b"history 2 2\nend 0\n", b"rheap: line 3: Long\n"),
+];
+
+#[test]
+fn long_lines(rt: HostRuntime) -> Result<(), Fail> {
+    for &(first, byte, bytes, end, told) in LONG {
+        let mut text = repeated(&rt, first, byte, bytes)?;
+        text.extend_from_slice(end)?;
+        drives_to(&rt, &RUN, &text, 1, b"", told);
+    }
+    for &(first, told) in LONG_HISTORIES {
+        let text = repeated(&rt, first, b"9", 257)?;
+        drives_to(&rt, &REPLAY, &text, 1, b"", told);
+    }
+    Ok(())
+}
+
+#[test]
+fn files_that_are_too_long(rt: HostRuntime) -> Result<(), Fail> {
+    let text = vec![in rt.alloc(); b'9'; 16_777_217]?;
+    for ask in &[RUN, REPLAY] {
+        drives_to(&rt, ask, &text, 1, b"", b"rheap: too long\n");
+    }
+    Ok(())
+}
+
+#[test]
+fn texts_of_faults(rt: HostRuntime) {
     let fault = TraceFault {
         line: 2,
         kind: Kind::Word,
     };
-    expect_text(&rt, fault, "line 2: Word");
+    let found = parse(rt.alloc(), b"heap 16 8 4 2 2\n1 fly 1.0\n").err();
+    assert!(rt; matches!(found, Some(ParseError::Fault(found)) if found == fault));
     expect_text(&rt, ParseError::Fault(fault), "line 2: Word");
     expect_text(&rt, ParseError::OutOfMemory, "out of memory");
     expect_text(&rt, Write, "write failed");
+    let fault = DumpFault {
+        line: 4,
+        kind: DumpKind::Count,
+    };
+    expect_text(&rt, DumpReadError::Fault(fault), "line 4: Count");
+    expect_text(&rt, DumpReadError::Read, "read failed");
 }
 
 #[test]

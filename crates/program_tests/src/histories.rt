@@ -1,59 +1,58 @@
 //! Histories: recorded, checked, reported, written and read.
 
 use crate::devices::SlowWriter;
+use crate::driving::{REPLAY, drives_to};
 use crate::expectations::{expect_equal, expect_refusals};
-use refusing::refused_in_turn;
+use crate::texts::{RIGHT, RIGHT_REPORT, WRONG, WRONG_REPORT, repeated};
+use refusing::{RefusingAllocator, refused_in_turn};
 use rh_layout::{Command, Refusal, Reply, RootId};
 use rh_replay::{
-    HistoryError, HistoryFault, HistoryKind, Recorder, RecorderError, TraceFull, Verdict, check,
-    read_history, report, write_history,
+    HistoryError, HistoryKind, Recorder, RecorderError, TraceFull, Verdict, check, read_history,
+    report, write_history,
 };
 use rh_trace::{Kind, Write, command_of, write_answer, write_command};
+use std::alloc::Allocator;
 use std::process::Abort;
 use std::test::Fail;
 
-/// A history whose third answer is wrong.
-pub const WRONG: &[u8] =
+/// A history whose third answer is another number, and the report on it.
+const OTHER_NUMBER: &[u8] =
     b"history 2 2\n1 alloc 1.0 1 = object 1\n1 store 1.0 0 5 = done\n1 load 1.1 1.0 0 = int 6\nend 3\n";
 
-/// The same with the right answer.
-pub const RIGHT: &[u8] =
-    b"history 2 2\n1 alloc 1.0 1 = object 1\n1 store 1.0 0 5 = done\n1 load 1.1 1.0 0 = int 5\nend 3\n";
+const OTHER_NUMBER_REPORT: &[u8] = b"owner 1 calls 3\nwrong 3 expected int 5\n";
 
 /// A history without a call.
-pub const EMPTY: &[u8] = b"history 2 2\nend 0\n";
+const EMPTY: &[u8] = b"history 2 2\nend 0\n";
 
 const A: RootId = RootId { owner: 1, slot: 0 };
 
 const ALLOC: Command = Command::Alloc { dst: A, fields: 1 };
 
-/// The fault that a text has, and its line.
-fn fault_of(rt: &impl AllocGlobal, text: &[u8]) -> Option<(u32, HistoryKind)> {
-    match read_history(rt.alloc(), text) {
-        Err(HistoryError::Fault(HistoryFault { line, kind })) => Some((line, kind)),
-        _ => None,
-    }
-}
+/// Histories, each with its verdict and the report on it.
+const HISTORIES: &[(&[u8], Verdict, &[u8])] = &[
+    (RIGHT, Verdict::Legal(3), RIGHT_REPORT),
+    (
+        WRONG,
+        Verdict::Wrong {
+            at: 2,
+            expected: Err(Refusal::NoRoot),
+        },
+        WRONG_REPORT,
+    ),
+    (
+        OTHER_NUMBER,
+        Verdict::Wrong {
+            at: 3,
+            expected: Ok(Reply::Int(5)),
+        },
+        OTHER_NUMBER_REPORT,
+    ),
+    (EMPTY, Verdict::Legal(0), b"legal 0\n"),
+];
 
 #[test]
 fn replays_a_history(rt: HostRuntime) -> Result<(), Fail> {
-    let wrong = Verdict::Wrong {
-        at: 3,
-        expected: Ok(Reply::Int(5)),
-    };
-    for (text, verdict, told) in [
-        (
-            WRONG,
-            wrong,
-            b"owner 1 calls 3\nwrong 3 expected int 5\n".as_slice(),
-        ),
-        (
-            RIGHT,
-            Verdict::Legal(3),
-            b"owner 1 calls 3\nlegal 3\n".as_slice(),
-        ),
-        (EMPTY, Verdict::Legal(0), b"legal 0\n".as_slice()),
-    ] {
+    for &(text, verdict, told) in HISTORIES {
         let history = read_history(rt.alloc(), text).ok().ok_or("a history")?;
         let found = check(rt.alloc(), &history).ok();
         expect_equal(&rt, found, Some(verdict));
@@ -66,6 +65,15 @@ fn replays_a_history(rt: HostRuntime) -> Result<(), Fail> {
     }
     Ok(())
 }
+
+/// Owners, slots and a limit with which no recorder is made, each with why.
+const NO_RECORDERS: &[(u32, u32, u32, RecorderError)] = &[
+    (0, 2, 0, RecorderError::BadRoots),
+    (17, 2, 1, RecorderError::BadRoots),
+    (2, 257, 1, RecorderError::BadRoots),
+    (2, 2, 0, RecorderError::BadHistory),
+    (2, 2, 1_048_577, RecorderError::BadHistory),
+];
 
 #[test]
 fn a_recorder_takes_as_many_calls_as_its_limit(rt: HostRuntime) -> Result<(), Fail> {
@@ -80,103 +88,101 @@ fn a_recorder_takes_as_many_calls_as_its_limit(rt: HostRuntime) -> Result<(), Fa
         check(rt.alloc(), recorder.history()).ok(),
         Some(Verdict::Legal(1)),
     );
-    for (owners, slots, limit, error) in [
-        (0, 2, 0, RecorderError::BadRoots),
-        (17, 2, 1, RecorderError::BadRoots),
-        (2, 257, 1, RecorderError::BadRoots),
-        (2, 2, 0, RecorderError::BadHistory),
-        (2, 2, 1_048_577, RecorderError::BadHistory),
-    ] {
+    for &(owners, slots, limit, error) in NO_RECORDERS {
         let made = Recorder::new(rt.alloc(), owners, slots, limit);
         expect_equal(&rt, made.err(), Some(error));
     }
+    assert!(rt; Recorder::new(rt.alloc(), 16, 256, 1_048_576).is_ok());
     Ok(())
 }
 
 #[test]
-fn names_the_faults_of_a_trace(rt: HostRuntime) {
-    for (text, line, kind) in [
-        (b"".as_slice(), 1, Kind::Empty),
-        (b"history 2 2", 1, Kind::Cut),
-        (b"history  2 2\n", 1, Kind::Form),
-        (b"heap 2 2\n", 1, Kind::Header),
-        (b"history 2 2 2\n", 1, Kind::Header),
-        (b"history 17 2\n", 1, Kind::Number),
-        (b"history 2 0\n", 1, Kind::Number),
-        (b"history 2 2\n1 = done\n", 2, Kind::Form),
-        (b"history 2 2\n= done\n", 2, Kind::Word),
-        (b"history 2 2\nbegin = done\n", 2, Kind::Word),
-        (b"history 2 2\n1 drop = done\n", 2, Kind::Form),
-        (b"history 2 2\n1 drop 10 = done\n", 2, Kind::Root),
-        (b"history 2 2\nend 0 = done\n", 2, Kind::Form),
-        (b"history 2 2\nend 4294967296\n", 2, Kind::Number),
-        (b"history 2 2\nend 0\nx", 3, Kind::Cut),
-    ] {
-        expect_equal(
-            &rt,
-            fault_of(&rt, text),
-            Some((line, HistoryKind::Line(kind))),
-        );
-    }
+fn refused_memory_of_a_history(rt: HostRuntime) {
+    let memory = RefusingAllocator::new(rt.alloc(), 1);
+    let found = read_history(&memory, RIGHT).err();
+    assert!(rt; matches!(found, Some(HistoryError::OutOfMemory)));
 }
 
 #[test]
-fn names_the_faults_of_a_history(rt: HostRuntime) {
-    for (text, line, kind) in [
-        (b"history 2 2\n".as_slice(), 2, HistoryKind::End),
-        (b"history 2 2\n1 drop 1.0 =\n", 2, HistoryKind::Answer),
-        (b"history 2 2\n1 drop 1.0\n", 2, HistoryKind::Answer),
-        (
-            b"history 2 2\n1 drop 1.0 = done = done\n",
-            2,
-            HistoryKind::Answer,
-        ),
-        (
-            b"history 2 2\n1 drop 1.0 = int +5\n",
-            2,
-            HistoryKind::Answer,
-        ),
-        (
-            b"history 2 2\n1 drop 1.0 = refused LogFull\n",
-            2,
-            HistoryKind::Answer,
-        ),
-        (b"history 2 2\nend 1\n", 2, HistoryKind::Count),
-        (b"history 2 2\nend 0\n\n", 3, HistoryKind::Trailing),
-    ] {
-        expect_equal(&rt, fault_of(&rt, text), Some((line, kind)));
-    }
+fn refused_memory_of_a_check(rt: HostRuntime) -> Result<(), Fail> {
+    let history = read_history(rt.alloc(), RIGHT).ok().ok_or("a history")?;
+    let memory = RefusingAllocator::new(rt.alloc(), 1);
+    assert!(rt; check(&memory, &history).is_err());
+    Ok(())
 }
 
-#[test]
-fn refused_memory_of_histories(rt: HostRuntime) {
-    let refused = refused_in_turn(rt.alloc(), |memory| match read_history(memory, RIGHT) {
-        Ok(history) => match check(memory, &history) {
-            Ok(verdict) => {
-                expect_equal(&rt, verdict, Verdict::Legal(3));
-                false
-            }
-            Err(_) => true,
-        },
+/// Makes a recorder. Answers whether memory was refused.
+fn is_refused_a_recorder<A: Allocator + Copy>(rt: &impl Abort, memory: A) -> bool {
+    match Recorder::new(memory, 2, 2, 4) {
+        Ok(recorder) => {
+            expect_equal(rt, recorder.limit(), 4);
+            false
+        }
         Err(error) => {
-            assert!(rt; matches!(error, HistoryError::OutOfMemory));
+            assert!(rt; matches!(error, RecorderError::OutOfMemory));
             true
         }
-    });
-    expect_refusals(&rt, refused, 3);
-    let refused = refused_in_turn(rt.alloc(), |memory| {
-        match Recorder::new(memory, 2, 2, 4) {
-            Ok(recorder) => {
-                expect_equal(&rt, recorder.limit(), 4);
-                false
-            }
-            Err(error) => {
-                assert!(rt; matches!(error, RecorderError::OutOfMemory));
-                true
-            }
-        }
-    });
+    }
+}
+
+#[test]
+fn refused_memory_of_recorders(rt: HostRuntime) {
+    let refused = refused_in_turn(rt.alloc(), |memory| is_refused_a_recorder(&rt, memory));
     expect_refusals(&rt, refused, 1);
+}
+
+/// What is told of a history that was cut after so many bytes.
+fn expect_cut<R: AllocGlobal + Abort>(rt: &R, text: &[u8]) {
+    let ends = text.iter().filter(|byte| **byte == b'\n').count();
+    let kind = if text.is_empty() {
+        "Empty"
+    } else if text.ends_with(b"\n") {
+        "End"
+    } else {
+        "Cut"
+    };
+    let told = format!(in rt.alloc(); "rheap: line {}: {kind}\n", (ends as u64).saturating_add(1));
+    let told = told.expect(rt, "memory is ample");
+    drives_to(rt, &REPLAY, text, 1, b"", told.as_bytes());
+}
+
+#[test]
+fn a_history_cut_after_each_byte(rt: HostRuntime) {
+    for count in 0..RIGHT.len() {
+        expect_cut(&rt, &RIGHT[..count]);
+    }
+}
+
+/// How many calls a history of this text has, or the fault of the text and its line.
+fn read(rt: &impl AllocGlobal, text: &[u8]) -> Option<Result<usize, (u32, HistoryKind)>> {
+    match read_history(rt.alloc(), text) {
+        Ok(history) => Some(Ok(history.calls().len())),
+        Err(HistoryError::Fault(fault)) => Some(Err((fault.line, fault.kind))),
+        Err(HistoryError::OutOfMemory) => None,
+    }
+}
+
+#[test]
+fn the_longest_history(rt: HostRuntime) -> Result<(), Fail> {
+    let mut text = repeated(&rt, b"history 1 1\n", b"0 drop 0.0 = done\n", 1_048_574)?;
+    let unended = Err((1_048_576, HistoryKind::End));
+    expect_equal(&rt, read(&rt, &text), Some(unended));
+    text.extend_from_slice(b"end 1048574\n")?;
+    let history = read_history(rt.alloc(), &text).ok().ok_or("a history")?;
+    let verdict = check(rt.alloc(), &history).ok();
+    expect_equal(&rt, verdict, Some(Verdict::Legal(1_048_574)));
+    Ok(())
+}
+
+#[test]
+fn a_history_of_too_many_lines(rt: HostRuntime) -> Result<(), Fail> {
+    let mut text = repeated(&rt, b"history 1 1\n", b"0 drop 0.0 = done\n", 1_048_575)?;
+    let unended = Err((1_048_577, HistoryKind::End));
+    expect_equal(&rt, read(&rt, &text), Some(unended));
+    text.extend_from_slice(b"end 1048575\n")?;
+    let long = Err((1_048_577, HistoryKind::Line(Kind::Long)));
+    expect_equal(&rt, read(&rt, &text), Some(long));
+    Ok(())
 }
 
 #[test]
@@ -191,11 +197,7 @@ fn single_lines_have_no_line_end(rt: HostRuntime) {
         write_answer(&Ok(Reply::Same(true)), &mut writer),
         Ok(()),
     );
-    expect_equal(
-        &rt,
-        writer.text.as_slice(),
-        b"1 alloc 1.0 1same yes".as_slice(),
-    );
+    expect_equal(&rt, writer.text.as_slice(), b"1 alloc 1.0 1same yes");
     let mut writer = SlowWriter::new(&rt, 1000, 1);
     expect_equal(
         &rt,

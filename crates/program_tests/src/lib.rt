@@ -4,11 +4,9 @@
 #[cfg(test)]
 mod command_line;
 #[cfg(test)]
-mod counts;
-#[cfg(test)]
-mod cycles;
-#[cfg(test)]
 mod devices;
+#[cfg(test)]
+mod driving;
 #[cfg(test)]
 mod dumps;
 #[cfg(test)]
@@ -25,8 +23,6 @@ mod leading;
 mod reading;
 #[cfg(test)]
 mod reading_dumps;
-#[cfg(test)]
-mod replays;
 #[cfg(test)]
 mod running;
 #[cfg(test)]

@@ -1,80 +1,118 @@
 //! Runs of traces.
 
-use crate::devices::{InterruptedReader, InterruptedWriter, SlowReader, SlowWriter};
+use crate::devices::{InterruptedWriter, SlowReader, SlowWriter};
 use crate::expectations::{expect_equal, expect_prefix, expect_refusals};
 use crate::texts::{
-    BOUNDARY, BOUNDARY_ANSWERS, CUT, DUMPS, DUMPS_ANSWERS, EMPTY_DUMP, EMPTY_DUMP_ANSWERS,
-    LONG_ANSWER, LONG_HEADER, LONG_LINE, ORDER_OF_REFUSALS, ORDER_OF_REFUSALS_ANSWERS, SHARING,
-    SHARING_ANSWERS, WHOLE_NUMBER_RANGE, WHOLE_NUMBER_RANGE_ANSWERS, WITHOUT_FIELDS,
-    WITHOUT_FIELDS_ANSWERS, repeated,
+    DUMPS, DUMPS_ANSWERS, FOUR_CYCLES, FOUR_CYCLES_ANSWERS, JOINED, JOINED_ANSWERS, LARGE_TRAYS,
+    LARGE_TRAYS_ANSWERS, LONG_ANSWER, LONG_HEADER, LONG_LINE, TOO_MANY, TOO_MANY_ANSWERS,
+    TWO_EPOCHS, TWO_EPOCHS_ANSWERS, WHOLE_CYCLE, WHOLE_CYCLE_ANSWERS, WITHOUT_FIELDS,
+    WITHOUT_FIELDS_ANSWERS, add_numbered, repeated,
 };
 use refusing::refused_in_turn;
 use rh_core::ConfigFault;
 use rh_trace::{Kind, RunFault, Summary, TraceFault, run_trace};
+use std::alloc::Allocator;
+use std::cell::Cell;
 use std::process::Abort;
 use std::test::Fail;
 
-/// What a run answers, and what it writes.
-fn run(rt: &impl AllocGlobal, input: &[u8]) -> (Result<Summary, RunFault>, Vec<u8>) {
-    let mut reader = input;
-    let mut written = Vec::new(rt.alloc());
-    let outcome = run_trace(rt.alloc(), &mut reader, &mut written);
-    (outcome, written)
+/// Runs a trace, which is read a byte a time and whose answers are taken so many bytes a time, and
+/// expects these answers, and the summary that their last line tells. Answers in how many writes
+/// they came.
+fn expect_run(
+    rt: &(impl AllocGlobal + Abort),
+    (input, answers): (&[u8], &[u8]),
+    most: usize,
+) -> Result<u32, Fail> {
+    let mut reader = SlowReader::new(input, 0);
+    let mut writer = SlowWriter::new(rt, most, 0);
+    let outcome = run_trace(rt.alloc(), &mut reader, &mut writer);
+    expect_equal(rt, writer.text.as_slice(), answers);
+    let Summary {
+        commands,
+        refused,
+        flips,
+        root_words,
+    } = outcome.ok().ok_or("a run")?;
+    let total = format!(in rt.alloc();
+        "\ntotal commands {commands} refused {refused} flips {flips} rootwords {root_words}\n"
+    )?;
+    assert!(rt; answers.ends_with(total.as_bytes()));
+    Ok(writer.writes)
 }
 
-#[test]
-fn answers_and_summaries(rt: HostRuntime) {
-    for &(input, answers, commands, refused) in &[
-        (WITHOUT_FIELDS, WITHOUT_FIELDS_ANSWERS, 2, 1),
-        (BOUNDARY, BOUNDARY_ANSWERS, 6, 3),
-        (WHOLE_NUMBER_RANGE, WHOLE_NUMBER_RANGE_ANSWERS, 8, 2),
-        (SHARING, SHARING_ANSWERS, 6, 0),
-        (ORDER_OF_REFUSALS, ORDER_OF_REFUSALS_ANSWERS, 6, 5),
-        (EMPTY_DUMP, EMPTY_DUMP_ANSWERS, 0, 0),
-        (DUMPS, DUMPS_ANSWERS, 3, 1),
-    ] {
-        let (outcome, written) = run(&rt, input);
-        let summary = Summary {
-            commands,
-            refused,
-            flips: 0,
-            root_words: 0,
-        };
-        expect_equal(&rt, outcome, Ok(summary));
-        expect_equal(&rt, written.as_slice(), answers);
-    }
-}
-
-/// Texts that aren't run, each with why.
-const NOT_RUN: &[(&[u8], RunFault)] = &[
-    (
-        CUT,
-        RunFault::Trace(TraceFault {
-            line: 3,
-            kind: Kind::Cut,
-        }),
-    ),
-    (b"heap 7 0 0 0 0\n", RunFault::New(ConfigFault::BadSpace)),
-    (b"heap 7 8 4 2 2\n", RunFault::New(ConfigFault::BadSpace)),
-    (b"heap 16 0 4 2 2\n", RunFault::New(ConfigFault::BadRatio)),
-    (b"heap 16 8 4 0 2\n", RunFault::New(ConfigFault::BadRoots)),
-    (b"heap 16 8 4 2 257\n", RunFault::New(ConfigFault::BadRoots)),
-    (b"heap 16 8 0 2 2\n", RunFault::New(ConfigFault::BadLog)),
+/// Traces, each with its answers, and how many lines these are.
+const RUNS: &[(&[u8], &[u8], u32)] = &[
+    (WITHOUT_FIELDS, WITHOUT_FIELDS_ANSWERS, 3),
+    (WHOLE_CYCLE, WHOLE_CYCLE_ANSWERS, 11),
+    (JOINED, JOINED_ANSWERS, 22),
+    (TWO_EPOCHS, TWO_EPOCHS_ANSWERS, 23),
+    (FOUR_CYCLES, FOUR_CYCLES_ANSWERS, 85),
+    (TOO_MANY, TOO_MANY_ANSWERS, 9),
 ];
 
 #[test]
-fn what_is_not_run_writes_nothing(rt: HostRuntime) {
-    for &(text, fault) in NOT_RUN {
-        let (outcome, written) = run(&rt, text);
-        expect_equal(&rt, outcome, Err(fault));
-        expect_equal(&rt, written.len(), 0);
+fn answers_each_in_one_write(rt: HostRuntime) -> Result<(), Fail> {
+    for &(input, answers, lines) in RUNS {
+        let run = (input, answers);
+        expect_equal(&rt, expect_run(&rt, run, 1000)?, lines);
+        expect_run(&rt, run, 1)?;
     }
+    // A dump may come in any number of writes.
+    expect_run(&rt, (DUMPS, DUMPS_ANSWERS), 1000)?;
+    Ok(())
+}
+
+#[test]
+fn a_hundred_cycles(rt: HostRuntime) -> Result<(), Fail> {
+    let text = repeated(&rt, b"heap 16 8 4 2 2\n", b"begin\nflip\n", 100)?;
+    let mut answers = Vec::new(rt.alloc());
+    add_numbered(
+        &rt,
+        &mut answers,
+        100,
+        ("cycle ", "\nflipped roots 0 live 0\n"),
+    )?;
+    answers.extend_from_slice(b"total commands 0 refused 0 flips 100 rootwords 0\n")?;
+    expect_equal(&rt, expect_run(&rt, (&text, &answers), 1000)?, 201);
+    Ok(())
+}
+
+/// The first lines of a trace in which an object is placed, with credit for one item.
+const PLACED: &[u8] =
+    b"heap 64 1 8 2 2\n1 alloc 1.0 1\nbegin\n1 alloc 1.1 7\n1 drop 1.1\nshade 1.0\n";
+
+/// Lines of a trace that has 64 trays, t1 to t64.
+const BEYOND: &[u8] =
+    b"deal copies 0 t65\ndeal entries 1 t65\ndeal entries 1 t64\njoin t65 t1\njoin t65 t66\njoin t1 t64\ndeal copies 1 t64\ngive t65\ntrays\n";
+
+/// What is answered to these, before the trays.
+const BEYOND_ANSWERS: &[u8] =
+    b"refused TooManyTrays\nrefused TooManyTrays\nrefused NothingToDeal\nrefused TooManyTrays\nrefused NoTray\njoined 0\ndealt 1 passed 0\nrefused NoTray\n";
+
+/// The last tray, and what is counted.
+const BEYOND_LAST: &[u8] =
+    b"tray t64 epoch 1 entries 1\ntotal commands 3 refused 0 flips 0 rootwords 0\n";
+
+#[test]
+fn a_trace_has_64_trays(rt: HostRuntime) -> Result<(), Fail> {
+    let mut text = repeated(&rt, PLACED, b"", 0)?;
+    add_numbered(&rt, &mut text, 64, ("deal copies 0 t", "\n"))?;
+    text.extend_from_slice(BEYOND)?;
+    let first = b"object 1\ncycle 1\nobject 7\ndone\nplaced\n";
+    let mut answers = repeated(&rt, first, b"dealt 0 passed 0\n", 64)?;
+    answers.extend_from_slice(BEYOND_ANSWERS)?;
+    add_numbered(&rt, &mut answers, 63, ("tray t", " epoch 1 entries 0\n"))?;
+    answers.extend_from_slice(BEYOND_LAST)?;
+    expect_run(&rt, (&text, &answers), 1000)?;
+    Ok(())
 }
 
 #[test]
 fn the_greatest_trace(rt: HostRuntime) -> Result<(), Fail> {
     let mut text = repeated(&rt, LONG_HEADER, LONG_LINE, 1_048_575)?;
-    let (outcome, written) = run(&rt, &text);
+    let mut written = Vec::new(rt.alloc());
+    let outcome = run_trace(rt.alloc(), &mut { text.as_slice() }, &mut written);
     let summary = Summary {
         commands: 1_048_575,
         refused: 0,
@@ -86,54 +124,36 @@ fn the_greatest_trace(rt: HostRuntime) -> Result<(), Fail> {
     answers.extend_from_slice(b"total commands 1048575 refused 0 flips 0 rootwords 0\n")?;
     assert!(rt; written.as_slice() == answers.as_slice());
     text.push(b'\n')?;
-    let (outcome, written) = run(&rt, &text);
+    let outcome = run_trace(rt.alloc(), &mut { text.as_slice() }, &mut written);
     expect_equal(&rt, outcome, Err(RunFault::Long));
-    expect_equal(&rt, written.len(), 0);
+    expect_equal(&rt, written.len(), answers.len());
     Ok(())
 }
 
-#[test]
-fn one_byte_a_time(rt: HostRuntime) {
-    let mut reader = SlowReader::new(BOUNDARY, 0);
-    let mut writer = SlowWriter::new(&rt, 1, 0);
-    assert!(rt; run_trace(rt.alloc(), &mut reader, &mut writer).is_ok());
-    expect_equal(&rt, writer.text.as_slice(), BOUNDARY_ANSWERS);
-}
+/// Texts that aren't run, the read that fails, and why they aren't.
+const NOT_RUN: &[(&[u8], u32, RunFault)] = &[
+    (WITHOUT_FIELDS, 1, RunFault::Read),
+    (WITHOUT_FIELDS, 2, RunFault::Read),
+    (WITHOUT_FIELDS, 3, RunFault::Read),
+    (
+        b"heap 16 8 4 2 2\n1 alloc 1.0 2\n1 alloc 1.0",
+        0,
+        RunFault::Trace(TraceFault {
+            line: 3,
+            kind: Kind::Cut,
+        }),
+    ),
+    (b"heap 7 8 4 2 2\n", 0, RunFault::New(ConfigFault::BadSpace)),
+];
 
 #[test]
-fn each_line_in_one_write(rt: HostRuntime) {
-    let mut reader = BOUNDARY;
-    let mut writer = SlowWriter::new(&rt, 1000, 0);
-    assert!(rt; run_trace(rt.alloc(), &mut reader, &mut writer).is_ok());
-    expect_equal(&rt, writer.writes, 7);
-}
-
-#[test]
-fn failing_reader(rt: HostRuntime) {
-    for &nth in &[1, 2, 3] {
-        let mut reader = SlowReader::new(BOUNDARY, nth);
-        let mut written = Vec::new(rt.alloc());
-        let outcome = run_trace(rt.alloc(), &mut reader, &mut written);
-        expect_equal(&rt, outcome, Err(RunFault::Read));
-        expect_equal(&rt, written.len(), 0);
-    }
-}
-
-#[test]
-fn reads_end(rt: HostRuntime) {
-    let empty = TraceFault {
-        line: 1,
-        kind: Kind::Empty,
-    };
-    for &(ends_at, fault) in &[
-        (33_554_432, RunFault::Trace(empty)),
-        (33_554_433, RunFault::Read),
-    ] {
-        let mut reader = InterruptedReader { reads: 0, ends_at };
+fn what_is_not_run_writes_nothing(rt: HostRuntime) {
+    for &(text, nth, fault) in NOT_RUN {
+        let mut reader = SlowReader::new(text, nth);
         let mut written = Vec::new(rt.alloc());
         let outcome = run_trace(rt.alloc(), &mut reader, &mut written);
         expect_equal(&rt, outcome, Err(fault));
-        expect_equal(&rt, (reader.reads, written.len()), (33_554_432, 0));
+        expect_equal(&rt, written.len(), 0);
     }
 }
 
@@ -156,24 +176,89 @@ fn interrupted_writes_are_made_again(rt: HostRuntime) {
     }
 }
 
+/// A trace, how many bytes of a write are taken, the write that fails, what is written by then, and
+/// how many writes were asked for. A write that takes no byte isn't made again.
+const FAILING: &[(&[u8], usize, u32, &[u8], u32)] = &[
+    (WITHOUT_FIELDS, 1000, 1, b"", 1),
+    (WITHOUT_FIELDS, 1000, 2, b"object 0\n", 2),
+    (WITHOUT_FIELDS, 1000, 3, b"object 0\nrefused NoField\n", 3),
+    (WITHOUT_FIELDS, 3, 3, b"object", 3),
+    (WITHOUT_FIELDS, 0, 0, b"", 1),
+    (TWO_EPOCHS, 1000, 4, b"object 2\ncycle 1\nobject 3\n", 4),
+    (WHOLE_CYCLE, 1000, 1, b"", 1),
+    (WHOLE_CYCLE, 1000, 4, b"object 2\ncycle 1\nobject 1\n", 4),
+];
+
+/// Runs a trace whose nth write fails.
+fn expect_failed(
+    rt: &(impl AllocGlobal + Abort),
+    input: &[u8],
+    (most, nth): (usize, u32),
+    written: &[u8],
+    writes: u32,
+) {
+    let mut reader = input;
+    let mut writer = SlowWriter::new(rt, most, nth);
+    let outcome = run_trace(rt.alloc(), &mut reader, &mut writer);
+    expect_equal(rt, outcome, Err(RunFault::Write));
+    expect_equal(rt, writer.text.as_slice(), written);
+    expect_equal(rt, writer.writes, writes);
+}
+
 #[test]
 fn failing_writer(rt: HostRuntime) {
-    // The bytes of a write that are taken, the write that fails, what is written by then, and how
-    // many writes were asked for. One that takes no byte isn't made again.
-    for &(most, nth, prefix, writes) in &[
-        (1000, 1, b"".as_slice(), 1),
-        (1000, 2, b"object 0\n".as_slice(), 2),
-        (1000, 3, b"object 0\nrefused NoField\n".as_slice(), 3),
-        (3, 3, b"object".as_slice(), 3),
-        (0, 0, b"".as_slice(), 1),
-    ] {
-        let mut reader = WITHOUT_FIELDS;
-        let mut writer = SlowWriter::new(&rt, most, nth);
-        let outcome = run_trace(rt.alloc(), &mut reader, &mut writer);
-        expect_equal(&rt, outcome, Err(RunFault::Write));
-        expect_equal(&rt, writer.text.as_slice(), prefix);
-        expect_equal(&rt, writer.writes, writes);
+    for &(input, most, nth, written, writes) in FAILING {
+        expect_failed(&rt, input, (most, nth), written, writes);
     }
+    // The write of the total line.
+    for &(input, answers, writes) in &[
+        (TWO_EPOCHS, TWO_EPOCHS_ANSWERS, 23),
+        (WHOLE_CYCLE, WHOLE_CYCLE_ANSWERS, 11),
+    ] {
+        let written = answers.split_at(answers.len().saturating_sub(47)).0;
+        expect_failed(&rt, input, (1000, writes), written, writes);
+    }
+}
+
+/// Runs a trace. Answers how many writes were made before memory was refused, if it was.
+fn writes_before_refusal<A: Allocator + Copy>(
+    rt: &(impl AllocGlobal + Abort),
+    memory: A,
+    input: &[u8],
+    answers: &[u8],
+) -> Option<u32> {
+    let mut reader = SlowReader::new(input, 0);
+    let mut writer = SlowWriter::new(rt, 1000, 0);
+    let outcome = run_trace(memory, &mut reader, &mut writer);
+    expect_prefix(rt, answers, &writer.text);
+    if outcome.is_ok() {
+        expect_equal(rt, writer.text.len(), answers.len());
+        return None;
+    }
+    expect_equal(rt, outcome, Err(RunFault::OutOfMemory));
+    Some(writer.writes)
+}
+
+/// Runs a trace, each of its allocations refused in turn, and expects so many refusals or more.
+/// Answers a bit for each number of writes that were made before one of them: the lowest bit for
+/// none, the next for one, and so on.
+fn writes_before_refusals(
+    rt: &(impl AllocGlobal + Abort),
+    (input, answers): (&[u8], &[u8]),
+    least: u64,
+) -> u32 {
+    let seen = Cell::new(0_u32);
+    let refused = refused_in_turn(rt.alloc(), |memory| {
+        match writes_before_refusal(rt, memory, input, answers) {
+            Some(writes) => {
+                seen.set(seen.get() | 1_u32.wrapping_shl(writes));
+                true
+            }
+            None => false,
+        }
+    });
+    expect_refusals(rt, refused, least);
+    seen.get()
 }
 
 #[test]
@@ -181,34 +266,31 @@ fn refused_memory(rt: HostRuntime) -> Result<(), Fail> {
     let text = repeated(&rt, LONG_HEADER, LONG_LINE, 48)?;
     let mut answers = repeated(&rt, b"", LONG_ANSWER, 48)?;
     answers.extend_from_slice(b"total commands 48 refused 0 flips 0 rootwords 0\n")?;
-    let refused = refused_in_turn(rt.alloc(), |memory| {
-        let mut reader = SlowReader::new(&text, 0);
-        let mut writer = SlowWriter::new(&rt, 1000, 0);
-        let outcome = run_trace(memory, &mut reader, &mut writer);
-        if outcome.is_ok() {
-            expect_equal(&rt, writer.text.as_slice(), answers.as_slice());
-            return false;
-        }
-        expect_equal(&rt, outcome, Err(RunFault::OutOfMemory));
-        expect_equal(&rt, writer.text.len(), 0);
-        true
-    });
-    expect_refusals(&rt, refused, 12);
+    // Commands want no memory.
+    let seen = writes_before_refusals(&rt, (&text, &answers), 12);
+    expect_equal(&rt, seen, 0b1);
+    writes_before_refusals(&rt, (DUMPS, DUMPS_ANSWERS), 8);
     Ok(())
 }
 
+/// Traces that use trays, with their answers, how many refusals there are at least, and the numbers
+/// of writes before them: none, or those before a join, or before a deal for which the tray has no
+/// room.
+const TRAYS: &[(&[u8], &[u8], u64, u32)] = &[
+    (JOINED, JOINED_ANSWERS, 20, 0b1_1110_1010_0001),
+    (TWO_EPOCHS, TWO_EPOCHS_ANSWERS, 18, 0b1111_0000_0010_0001),
+    (
+        LARGE_TRAYS,
+        LARGE_TRAYS_ANSWERS,
+        25,
+        0b11_1100_1011_1101_1100_0001,
+    ),
+];
+
 #[test]
-fn refused_memory_at_a_dump(rt: HostRuntime) {
-    let refused = refused_in_turn(rt.alloc(), |memory| {
-        let mut reader = DUMPS;
-        let mut writer = SlowWriter::new(&rt, 1000, 0);
-        let outcome = run_trace(memory, &mut reader, &mut writer);
-        expect_prefix(&rt, DUMPS_ANSWERS, &writer.text);
-        if outcome.is_ok() {
-            return false;
-        }
-        expect_equal(&rt, outcome, Err(RunFault::OutOfMemory));
-        true
-    });
-    expect_refusals(&rt, refused, 8);
+fn refused_memory_of_trays(rt: HostRuntime) {
+    for &(input, answers, least, writes) in TRAYS {
+        let seen = writes_before_refusals(&rt, (input, answers), least);
+        expect_equal(&rt, seen, writes);
+    }
 }

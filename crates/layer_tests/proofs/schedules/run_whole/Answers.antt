@@ -1,5 +1,5 @@
 use Rattle.std.proofs.Common.{ap, sym, ◌∙◌}
-use Rattle.rh_core.specs.declared.outcomes.Kind.TheVariants.{Copies, Entries}
+use Rattle.rh_layout.specs.declared.kind.Kind.TheVariants.{Copies, Entries}
 use Rattle.rh_core.specs.Heap.{HeapState}
 use Rattle.rh_core.specs.Dealing.{undealt_count}
 use Rattle.rh_core.specs.Schedules.{no_dealing}

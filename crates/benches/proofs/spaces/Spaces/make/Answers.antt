@@ -3,7 +3,7 @@ use Rattle.std.proofs.Common.{sym, subst}
 use Rattle.rh_space.specs.Space.{SpaceState, new_object}
 use Rattle.rh_place.specs.Joint.{JointState}
 use Rattle.rh_place.specs.Mirrors.{Mirrors}
-use Rattle.place_bench.proofs.spaces.Spaces.make.Goals as goal
+use Rattle.benches.proofs.spaces.Spaces.make.Goals as goal
 
 -- either way the space is the joint's
 Mirrors-bump : {E : Type 0} (r : Result ℕ E) (s s' : SpaceState) (j : JointState) (n : ℕ) → IfOk r (λ a. s' ≡ record s { objects = s.objects ++ new_object n ∷ [] }) → OnErr r (s' ≡ s) → Mirrors s j → Mirrors (record s { objects = s.objects ++ new_object n ∷ [] }) j → Mirrors s' j

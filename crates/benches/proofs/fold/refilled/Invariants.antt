@@ -1,5 +1,5 @@
 use Rattle.std.proofs.Common.{◌+◌, ◌≤◌, length}
-use Rattle.fold_bench.proofs.refilled.Given as goal
+use Rattle.benches.proofs.fold.refilled.Given as goal
 
 abbrev pub invariant-loop-number : goal.invariant-loop-number
 invariant-loop-number l = 64 ≤ length l.replica.entries + l.replica.room

@@ -1,46 +1,17 @@
 //! Folds items, piece by piece, into a partial replica of many places or, by refilling, of few, and
 //! prints how many places it has: what `bench/fold` times.
-#![tactic(auto)]
 
 ghost use Rattle.std.specs.Prelude.{◌<◌};
 
 use rh_layout::Value;
 use rh_partial::{Item, MAX_PIECE_ITEMS, PartialReplica, Piece};
 use std::alloc::Global;
-use std::env;
-use std::process::ExitCode;
-use std::rt::Env;
 
 /// The places that the items of a fold are spread over.
 const FOLD_PLACES: u64 = 4_096;
 
 /// The places that the items of a refill are spread over.
 const REFILL_PLACES: u64 = 64;
-
-/// What is timed, by the first argument, `fold` or `refill`, and how many items, by the second.
-#[derive(Clone, Copy)]
-struct Asked {
-    refills: bool,
-    items: u64,
-}
-
-/// What the arguments ask for; a fold of 64 items where they ask for nothing.
-fn read_arguments(rt: &(impl Env + AllocGlobal)) -> Asked {
-    let mut asked = Asked {
-        refills: false,
-        items: 64,
-    };
-    let Ok(mut args) = env::args(rt) else {
-        return asked;
-    };
-    if let Some(what) = args.nth(1) {
-        asked.refills = what.as_str() == "refill";
-    }
-    if let Some(items) = args.next() {
-        asked.items = items.as_str().parse::<u64>().unwrap_or(64);
-    }
-    asked
-}
 
 /// The next of a sequence of numbers that look random (Knuth's linear congruential generator for 64
 /// bits).
@@ -102,15 +73,21 @@ fn refilled(alloc: Global, items: u64) -> Option<usize> {
     Some(replica.len())
 }
 
-fn main(rt: HostRuntime) -> ExitCode {
-    let asked = read_arguments(&rt);
-    let places = if asked.refills {
-        refilled(rt.alloc(), asked.items)
-    } else {
-        folded(rt.alloc(), asked.items)
+/// Runs the bench that the first argument names, `fold` or `refill`, on as many items as the second
+/// says: a fold, on 64, where they don't say. Nothing where it failed.
+pub fn run(rt: &(impl Print + AllocGlobal), what: Option<&str>, items: Option<&str>) -> Option<()> {
+    let is_refilled = match what {
+        Some(text) => text == "refill",
+        None => false,
     };
-    match places {
-        Some(places) if println!(rt; "places {places}").is_ok() => ExitCode::SUCCESS,
-        _ => ExitCode::FAILURE,
-    }
+    let items = match items {
+        Some(text) => text.parse::<u64>().unwrap_or(64),
+        None => 64,
+    };
+    let places = if is_refilled {
+        refilled(rt.alloc(), items)?
+    } else {
+        folded(rt.alloc(), items)?
+    };
+    println!(rt; "places {places}").ok()
 }

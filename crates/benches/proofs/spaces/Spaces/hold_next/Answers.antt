@@ -1,5 +1,5 @@
 use Rattle.rh_place.specs.lemmas.Placements.{is_placed-field}
-use Rattle.place_bench.proofs.spaces.Spaces.hold_next.Goals as goal
+use Rattle.benches.proofs.spaces.Spaces.hold_next.Goals as goal
 
 pub accept-requires-clause-mirrors : goal.accept-requires-clause-mirrors
 accept-requires-clause-mirrors c =

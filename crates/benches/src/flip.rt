@@ -1,43 +1,12 @@
 //! Collects a heap of so many live words, to which 4,096 roots refer, and moves the roots: what
 //! `bench/flip` times.
-#![tactic(auto)]
 
-mod chain;
-
-use chain::{closed, filled};
+use crate::chain::{closed, filled};
 use rh_core::{Flipped, Heap};
-use std::env;
-use std::process::ExitCode;
-use std::rt::Env;
 use std::time::{CpuClock, Duration};
 
 /// How many cycles are played, of whose flips the shortest counts.
 const CYCLES: u32 = 9;
-
-/// What the arguments ask for.
-#[derive(Clone, Copy)]
-struct Asked {
-    /// How many words live, rounded down to whole objects: the first argument, or 1,000.
-    words: u32,
-    /// Whether the time of the shortest flip is told: where there is a second argument.
-    timed: bool,
-}
-
-/// Reads the arguments.
-fn read_arguments(rt: &(impl Env + AllocGlobal)) -> Asked {
-    let mut asked = Asked {
-        words: 1000,
-        timed: false,
-    };
-    let Ok(mut args) = env::args(rt) else {
-        return asked;
-    };
-    if let Some(words) = args.nth(1) {
-        asked.words = words.as_str().parse::<u32>().unwrap_or(1000);
-    }
-    asked.timed = args.next().is_some();
-    asked
-}
 
 /// Ends a cycle. Answers what the flip did, and the processor time that it took; nothing where it
 /// was refused or the clock failed.
@@ -63,21 +32,24 @@ fn shortest_flip(rt: &(impl CpuClock + AllocGlobal), words: u32) -> Option<(Flip
     Some(shortest)
 }
 
-fn main(rt: HostRuntime) -> ExitCode {
-    let asked = read_arguments(&rt);
-    let Some((flipped, time)) = shortest_flip(&rt, asked.words) else {
-        return ExitCode::FAILURE;
+/// Runs the bench on a heap of which as many words live, rounded down to whole objects, as the
+/// first argument says, or 1,000. Where there is a second one the time of the shortest flip is
+/// told. Nothing where it failed.
+pub fn run(
+    rt: &(impl Print + CpuClock + AllocGlobal),
+    words: Option<&str>,
+    timed: Option<&str>,
+) -> Option<()> {
+    let words = match words {
+        Some(text) => text.parse::<u32>().unwrap_or(1000),
+        None => 1000,
     };
+    let (flipped, time) = shortest_flip(rt, words)?;
     let (roots, words) = (flipped.roots, flipped.live_words);
-    let told = if asked.timed {
+    if timed.is_some() {
         let nanoseconds = time.as_nanos();
-        println!(rt; "roots {roots} live words {words} nanoseconds {nanoseconds}")
+        println!(rt; "roots {roots} live words {words} nanoseconds {nanoseconds}").ok()
     } else {
-        println!(rt; "roots {roots} live words {words}")
-    };
-    if told.is_ok() {
-        ExitCode::SUCCESS
-    } else {
-        ExitCode::FAILURE
+        println!(rt; "roots {roots} live words {words}").ok()
     }
 }

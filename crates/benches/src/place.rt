@@ -1,29 +1,12 @@
 //! Places the objects of a space, holds each of their fields, and exchanges the two spaces: what
 //! `bench/place` times.
-#![tactic(auto)]
 
-mod spaces;
-
+use crate::spaces::Spaces;
 use rh_layout::size_of;
-use spaces::Spaces;
 use std::alloc::Global;
-use std::env;
-use std::process::ExitCode;
-use std::rt::Env;
 
 /// The fields of each object.
 const FIELDS: u32 = 8;
-
-/// How many words from-space has: the first argument, or 64.
-fn word_count(rt: &(impl Env + AllocGlobal)) -> u32 {
-    let Ok(mut args) = env::args(rt) else {
-        return 64;
-    };
-    match args.nth(1) {
-        Some(text) => text.as_str().parse::<u32>().unwrap_or(64),
-        None => 64,
-    }
-}
 
 /// Fills a space of so many words with objects, places them, holds their fields, and exchanges the
 /// spaces. Answers how many pairs were held; nothing where memory was refused, the words are out of
@@ -46,9 +29,13 @@ fn collected(alloc: Global, words: u32) -> Option<u32> {
     if spaces.exchange() { Some(items) } else { None }
 }
 
-fn main(rt: HostRuntime) -> ExitCode {
-    match collected(rt.alloc(), word_count(&rt)) {
-        Some(items) if println!(rt; "items {items}").is_ok() => ExitCode::SUCCESS,
-        _ => ExitCode::FAILURE,
-    }
+/// Runs the bench on a from-space of as many words as the argument says, or 64; nothing where it
+/// failed.
+pub fn run(rt: &(impl Print + AllocGlobal), words: Option<&str>) -> Option<()> {
+    let words = match words {
+        Some(text) => text.parse::<u32>().unwrap_or(64),
+        None => 64,
+    };
+    let items = collected(rt.alloc(), words)?;
+    println!(rt; "items {items}").ok()
 }

@@ -1,0 +1,141 @@
+//! The program's commands, over a text and two writers.
+
+use crate::devices::{Broken, InterruptedReader, Unflushed};
+use crate::expectations::{expect_equal, expect_refusals};
+use crate::texts::{
+    RIGHT, RIGHT_REPORT, WITHOUT_FIELDS, WITHOUT_FIELDS_ANSWERS, WRONG, WRONG_REPORT,
+};
+use refusing::refused_in_turn;
+use rh_cli::{Ask, Subcommand, drive};
+use std::alloc::Allocator;
+use std::process::Abort;
+
+pub const RUN: Ask<'static> = Ask {
+    subcommand: Subcommand::Run,
+    file: "-",
+};
+
+pub const REPLAY: Ask<'static> = Ask {
+    subcommand: Subcommand::Replay,
+    file: "-",
+};
+
+pub const DUMP: Ask<'static> = Ask {
+    subcommand: Subcommand::Dump,
+    file: "-",
+};
+
+/// Does with the text what is asked, and compares the status and what is written to both writers.
+pub fn drives_to<R: AllocGlobal + Abort>(
+    rt: &R,
+    ask: &Ask<'_>,
+    text: &[u8],
+    status: u8,
+    answers: &[u8],
+    told: &[u8],
+) {
+    let mut reader = text;
+    let mut out = Vec::new(rt.alloc());
+    let mut err = Vec::new(rt.alloc());
+    let answer = drive(rt.alloc(), ask, &mut reader, &mut out, &mut err);
+    expect_equal(rt, answer, status);
+    expect_equal(rt, out.as_slice(), answers);
+    expect_equal(rt, err.as_slice(), told);
+}
+
+/// The dump of an object that refers to itself.
+const ITSELF: &[u8] = b"rheap 1\nroots 1\n1.0 @0\nobjects 1\n@0 1 @0\nend\n";
+
+/// What is asked, of which text, and the answers.
+const ASKED: &[(Ask<'static>, &[u8], &[u8])] = &[
+    (RUN, WITHOUT_FIELDS, WITHOUT_FIELDS_ANSWERS),
+    (REPLAY, RIGHT, RIGHT_REPORT),
+    (DUMP, ITSELF, b"roots 1 objects 1\n"),
+];
+
+#[test]
+fn statuses_and_texts(rt: HostRuntime) {
+    for &(ask, text, answers) in ASKED {
+        drives_to(&rt, &ask, text, 0, answers, b"");
+    }
+    // Of a wrong history standard error has nothing.
+    drives_to(&rt, &REPLAY, WRONG, 4, WRONG_REPORT, b"");
+}
+
+#[test]
+fn devices_that_fail(rt: HostRuntime) {
+    for &(ask, text, _) in ASKED {
+        let mut out = Vec::new(rt.alloc());
+        let mut err = Vec::new(rt.alloc());
+        let unread = drive(rt.alloc(), &ask, &mut Broken, &mut out, &mut err);
+        let unwritten = drive(rt.alloc(), &ask, &mut { text }, &mut Broken, &mut err);
+        let unflushed = drive(rt.alloc(), &ask, &mut { text }, &mut Unflushed, &mut err);
+        // What can't be told still has its status.
+        let untold = drive(rt.alloc(), &ask, &mut Broken, &mut out, &mut Broken);
+        expect_equal(&rt, [unread, unwritten, unflushed, untold], [1, 1, 1, 1]);
+        expect_equal(
+            &rt,
+            err.as_slice(),
+            b"rheap: read failed\nrheap: write failed\nrheap: write failed\n".as_slice(),
+        );
+        expect_equal(&rt, out.len(), 0);
+    }
+}
+
+/// Does what is asked where each read is interrupted but the last one, which comes to the end, or
+/// where that would be one read more, and expects so many reads, and what is told of an empty text,
+/// or of a failed read.
+fn expect_reads<R: AllocGlobal + Abort>(rt: &R, ask: &Ask<'_>, reads: u32, told: &[u8]) {
+    for &(more, text) in &[(0, told), (1, b"rheap: read failed\n".as_slice())] {
+        let ends_at = reads.saturating_add(more);
+        let mut reader = InterruptedReader { reads: 0, ends_at };
+        let mut out = Vec::new(rt.alloc());
+        let mut err = Vec::new(rt.alloc());
+        let status = drive(rt.alloc(), ask, &mut reader, &mut out, &mut err);
+        expect_equal(rt, (status, reader.reads, out.len()), (1, reads, 0));
+        expect_equal(rt, err.as_slice(), text);
+    }
+}
+
+#[test]
+fn reads_of_traces_end(rt: HostRuntime) {
+    expect_reads(&rt, &RUN, 33_554_432, b"rheap: line 1: Empty\n");
+}
+
+#[test]
+fn reads_of_histories_end(rt: HostRuntime) {
+    expect_reads(&rt, &REPLAY, 33_554_432, b"rheap: line 1: Empty\n");
+}
+
+#[test]
+fn reads_of_dumps_end(rt: HostRuntime) {
+    expect_reads(&rt, &DUMP, 536_870_912, b"rheap: line 1: End\n");
+}
+
+/// Does what is asked. Answers whether memory was refused: then standard error says so, and to
+/// standard output a prefix of the answers is written, without their last line.
+fn is_refused<A: Allocator + Copy>(
+    rt: &(impl AllocGlobal + Abort),
+    memory: A,
+    &(ask, text, answers): &(Ask<'static>, &[u8], &[u8]),
+) -> bool {
+    let mut out = Vec::new(rt.alloc());
+    let mut err = Vec::new(rt.alloc());
+    let status = drive(memory, &ask, &mut { text }, &mut out, &mut err);
+    if status == 0 {
+        expect_equal(rt, out.as_slice(), answers);
+        return false;
+    }
+    expect_equal(rt, status, 3);
+    assert!(rt; answers.starts_with(out.as_slice()) && out.len() < answers.len());
+    expect_equal(rt, err.as_slice(), b"rheap: out of memory\n".as_slice());
+    true
+}
+
+#[test]
+fn refused_memory(rt: HostRuntime) {
+    for asked in ASKED {
+        let refused = refused_in_turn(rt.alloc(), |memory| is_refused(&rt, memory, asked));
+        expect_refusals(&rt, refused, 3);
+    }
+}
