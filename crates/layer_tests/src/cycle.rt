@@ -1,7 +1,7 @@
 //! Collection cycles, where no trace reaches.
 
 ghost use Rattle.std.specs.Prelude.{◌≡◌, true, Err};
-ghost use Rattle.rh_core.specs.declared.refusals.BeginError.TheVariants.{CycleOn};
+ghost use Rattle.rh_core.specs.declared.errors.BeginError.TheVariants.{CycleOn};
 
 use crate::commands::{SIZES, alloc, item, replica_of, root, store};
 use crate::expectations::expect_equal;

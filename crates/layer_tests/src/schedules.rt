@@ -3,8 +3,8 @@
 ghost use Rattle.std.specs.Prelude.{◌≡◌, OnOk};
 ghost use Rattle.rh_layout.specs.declared.kind.Kind.TheVariants.{Copies, Entries};
 ghost use Rattle.rh_core.specs.Dealing.{undealt_count};
-ghost use Rattle.rh_core.specs.Run.{answers_of};
-ghost use Rattle.rh_core.specs.Schedules.{dealing_over, no_dealing, AreGiven, HasBegun};
+ghost use Rattle.rh_core.specs.runs.Run.{answers_of};
+ghost use Rattle.rh_core.specs.runs.Schedules.{dealing_over, no_dealing, AreGiven, HasBegun};
 
 use crate::commands::{SIZES, alloc, replica_of, root, store};
 use crate::expectations::expect_equal;

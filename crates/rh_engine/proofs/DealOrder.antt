@@ -9,8 +9,8 @@ use Rattle.rh_core.specs.Dealing.{deal_step}
 use Rattle.rh_core.specs.Heap.{HeapState}
 use Rattle.rh_core.specs.declared.outcomes.Dealt.{Dealt}
 use Rattle.rh_layout.specs.declared.kind.Kind.{Kind}
-use Rattle.rh_core.specs.declared.refusals.DealError.{DealError}
-use Rattle.rh_core.specs.declared.refusals.DealError.TheVariants as deal_errors
+use Rattle.rh_core.specs.declared.errors.DealError.{DealError}
+use Rattle.rh_core.specs.declared.errors.DealError.TheVariants as deal_errors
 use Rattle.rh_engine.specs.Trays.{Tray, tray_named, tray_or_empty, empty_tray, is_beyond}
 use Rattle.rh_engine.specs.Engine.{EngineState, deal_done, deal_unless as line_unless, deal_line_step, IsOneTooMany, IsOfOtherEpoch, refusals_of_deal}
 use Rattle.rh_engine.specs.declared.engine.Counted.{Counted}

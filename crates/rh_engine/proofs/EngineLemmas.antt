@@ -6,9 +6,9 @@ use Rattle.rh_core.specs.Giving.{give_step, give_unless, give_refusal}
 use Rattle.rh_core.specs.Heap.{HeapState}
 use Rattle.rh_core.specs.declared.outcomes.Dealt.{Dealt}
 use Rattle.rh_layout.specs.declared.kind.Kind.{Kind}
-use Rattle.rh_core.specs.declared.refusals.DealError.{DealError}
-use Rattle.rh_core.specs.declared.refusals.DealError.TheVariants as deal_errors
-use Rattle.rh_core.specs.declared.refusals.GiveError.{GiveError}
+use Rattle.rh_core.specs.declared.errors.DealError.{DealError}
+use Rattle.rh_core.specs.declared.errors.DealError.TheVariants as deal_errors
+use Rattle.rh_core.specs.declared.errors.GiveError.{GiveError}
 use Rattle.rh_partial.specs.PartialReplica.{ReplicaState}
 use Rattle.rh_engine.specs.Trays.{tray_of, replica_of, tray_or_empty, is_beyond}
 use Rattle.rh_engine.specs.Engine.{EngineState, tray_refusal}

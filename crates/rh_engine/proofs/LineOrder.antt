@@ -3,7 +3,7 @@ use Rattle.std.proofs.Common.{◌≡◌, ℕ, zero, suc, ◌<◌, ◌⊎◌, inl
 use Rattle.rh_text.specs.Stages.{IsLeast, IsFaultless}
 use Rattle.rh_core.specs.Giving.{give_step}
 use Rattle.rh_core.specs.declared.outcomes.Given.{Given}
-use Rattle.rh_core.specs.declared.refusals.GiveError.{GiveError}
+use Rattle.rh_core.specs.declared.errors.GiveError.{GiveError}
 use Rattle.rh_engine.specs.Trays.{Tray, Trays, tray_named, is_beyond, with_join, join_found, replica_of}
 use Rattle.rh_engine.specs.Engine.{EngineState, join_line_step, give_line_step, given_or_refused, give_found, refusals_of_join, refusals_of_give}
 use Rattle.rh_engine.specs.declared.engine.GiveRefusal.{GiveRefusal}

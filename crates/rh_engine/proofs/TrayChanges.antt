@@ -9,7 +9,7 @@ use Rattle.rh_core.specs.Dealing.{deal_step}
 use Rattle.rh_core.specs.Heap.{HeapState}
 use Rattle.rh_core.specs.declared.outcomes.Dealt.{Dealt}
 use Rattle.rh_layout.specs.declared.kind.Kind.{Kind}
-use Rattle.rh_core.specs.declared.refusals.DealError.{DealError}
+use Rattle.rh_core.specs.declared.errors.DealError.{DealError}
 use Rattle.rh_engine.specs.Trays.{Tray, Trays, tray_named, trays_with, tray_with, tray_or_empty, empty_tray, joined_trays, joined_into, join_found, with_join, is_beyond, IsInOrder, content_of_tray, IsChangedAlone, IsFoldedInto, IsJoinOf, IsJoinedInto}
 use Rattle.rh_engine.specs.Engine.{EngineState, tray_refusal, with_dealt, counts_of_dealt, deal_done, deal_unless, deal_line_step, join_line_step, IsDealtInto}
 use Rattle.rh_engine.specs.declared.engine.Counted.{Counted}

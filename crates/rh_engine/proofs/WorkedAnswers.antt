@@ -4,11 +4,11 @@ use Rattle.std.specs.Prelude.{◌++◌, true, false, codes}
 use Rattle.std.specs.Fmt.{digits}
 use Rattle.rh_layout.specs.declared.value.Value.TheVariants.{Nil}
 use Rattle.rh_core.specs.declared.outcomes.Shaded.TheVariants as shades
-use Rattle.rh_core.specs.declared.refusals.BeginError.TheVariants as begins
-use Rattle.rh_core.specs.declared.refusals.DealError.TheVariants as deals
-use Rattle.rh_core.specs.declared.refusals.FlipError.TheVariants as flips
-use Rattle.rh_core.specs.declared.refusals.GiveError.TheVariants as gives
-use Rattle.rh_core.specs.declared.refusals.ShadeError.TheVariants as shade_errors
+use Rattle.rh_core.specs.declared.errors.BeginError.TheVariants as begins
+use Rattle.rh_core.specs.declared.errors.DealError.TheVariants as deals
+use Rattle.rh_core.specs.declared.errors.FlipError.TheVariants as flips
+use Rattle.rh_core.specs.declared.errors.GiveError.TheVariants as gives
+use Rattle.rh_core.specs.declared.errors.ShadeError.TheVariants as shade_errors
 use Rattle.rh_core.specs.declared.stat.Stat.{Stat}
 use Rattle.rh_engine.specs.declared.engine.DealRefusal.TheVariants as deal_refusals
 use Rattle.rh_engine.specs.declared.engine.GiveRefusal.TheVariants as give_refusals

@@ -5,16 +5,16 @@ use Rattle.rh_core.specs.declared.outcomes.Flipped.{Flipped}
 use Rattle.rh_core.specs.declared.outcomes.Given.{Given}
 use Rattle.rh_core.specs.declared.outcomes.Shaded.{Shaded}
 use Rattle.rh_core.specs.declared.outcomes.Shaded.TheVariants as shades
-use Rattle.rh_core.specs.declared.refusals.BeginError.{BeginError}
-use Rattle.rh_core.specs.declared.refusals.BeginError.TheVariants as begins
-use Rattle.rh_core.specs.declared.refusals.DealError.{DealError}
-use Rattle.rh_core.specs.declared.refusals.DealError.TheVariants as deals
-use Rattle.rh_core.specs.declared.refusals.FlipError.{FlipError}
-use Rattle.rh_core.specs.declared.refusals.FlipError.TheVariants as flips
-use Rattle.rh_core.specs.declared.refusals.GiveError.{GiveError}
-use Rattle.rh_core.specs.declared.refusals.GiveError.TheVariants as gives
-use Rattle.rh_core.specs.declared.refusals.ShadeError.{ShadeError}
-use Rattle.rh_core.specs.declared.refusals.ShadeError.TheVariants as shade_errors
+use Rattle.rh_core.specs.declared.errors.BeginError.{BeginError}
+use Rattle.rh_core.specs.declared.errors.BeginError.TheVariants as begins
+use Rattle.rh_core.specs.declared.errors.DealError.{DealError}
+use Rattle.rh_core.specs.declared.errors.DealError.TheVariants as deals
+use Rattle.rh_core.specs.declared.errors.FlipError.{FlipError}
+use Rattle.rh_core.specs.declared.errors.FlipError.TheVariants as flips
+use Rattle.rh_core.specs.declared.errors.GiveError.{GiveError}
+use Rattle.rh_core.specs.declared.errors.GiveError.TheVariants as gives
+use Rattle.rh_core.specs.declared.errors.ShadeError.{ShadeError}
+use Rattle.rh_core.specs.declared.errors.ShadeError.TheVariants as shade_errors
 use Rattle.rh_core.specs.declared.stat.Stat.{Stat}
 use Rattle.rh_engine.specs.declared.engine.Counted.{Counted}
 use Rattle.rh_engine.specs.declared.engine.DealRefusal.{DealRefusal}

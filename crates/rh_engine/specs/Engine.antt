@@ -9,12 +9,12 @@ use Rattle.rh_core.specs.declared.outcomes.Flipped.{Flipped}
 use Rattle.rh_core.specs.declared.outcomes.Given.{Given}
 use Rattle.rh_layout.specs.declared.kind.Kind.{Kind}
 use Rattle.rh_core.specs.declared.outcomes.Shaded.{Shaded}
-use Rattle.rh_core.specs.declared.refusals.BeginError.{BeginError}
-use Rattle.rh_core.specs.declared.refusals.DealError.{DealError}
-use Rattle.rh_core.specs.declared.refusals.DealError.TheVariants as deal_errors
-use Rattle.rh_core.specs.declared.refusals.FlipError.{FlipError}
-use Rattle.rh_core.specs.declared.refusals.GiveError.{GiveError}
-use Rattle.rh_core.specs.declared.refusals.ShadeError.{ShadeError}
+use Rattle.rh_core.specs.declared.errors.BeginError.{BeginError}
+use Rattle.rh_core.specs.declared.errors.DealError.{DealError}
+use Rattle.rh_core.specs.declared.errors.DealError.TheVariants as deal_errors
+use Rattle.rh_core.specs.declared.errors.FlipError.{FlipError}
+use Rattle.rh_core.specs.declared.errors.GiveError.{GiveError}
+use Rattle.rh_core.specs.declared.errors.ShadeError.{ShadeError}
 use Rattle.rh_text.specs.Stages.{◌when◌, ◌▸◌, no_fault}
 use Rattle.rh_core.specs.Heap.{HeapState}
 use Rattle.rh_core.specs.Commands.{heap_step}

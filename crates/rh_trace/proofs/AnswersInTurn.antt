@@ -6,10 +6,9 @@ use Rattle.std.specs.Int.{from_bool}
 use Rattle.std.proofs.lemmas.List.{drop_more, take_more}
 use Rattle.std.proofs.lemmas.List.Sums.{count_by_more_yes, count_by_more_no}
 use Rattle.rh_mutator.specs.declared.config.ConfigFault.{ConfigFault}
-use Rattle.rh_core.specs.declared.refusals.HeapError.{HeapError}
+use Rattle.rh_core.specs.declared.errors.HeapError.{HeapError}
 use Rattle.rh_core.specs.Config.{fault_of}
-use Rattle.rh_core.specs.Cycle.{IsWellFormed}
-use Rattle.rh_core.specs.Heap.{HeapState, new_heap}
+use Rattle.rh_core.specs.Heap.{HeapState, new_heap, IsWellFormed}
 use Rattle.rh_syntax.specs.declared.fault.TraceFault.{TraceFault}
 use Rattle.rh_trace.specs.declared.run_fault.RunFault.TheVariants as faults
 use Rattle.rh_syntax.specs.declared.line.Line.{Line}

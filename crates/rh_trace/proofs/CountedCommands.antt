@@ -6,7 +6,7 @@ use Rattle.rh_core.specs.declared.event.Event.TheVariants as events
 use Rattle.rh_layout.specs.declared.kind.Kind.{Kind}
 use Rattle.rh_core.specs.Dealing.{deal_step}
 use Rattle.rh_core.specs.Heap.{HeapState}
-use Rattle.rh_core.specs.Run.{event_step, answers_of}
+use Rattle.rh_core.specs.runs.Run.{event_step, answers_of}
 use Rattle.rh_engine.specs.declared.engine.DealRefusal.{DealRefusal}
 use Rattle.rh_syntax.specs.declared.line.Asked.{Asked}
 use Rattle.rh_syntax.specs.declared.line.Asked.TheVariants as asked

@@ -8,8 +8,8 @@ use Rattle.rh_partial.specs.PartialReplica.{ReplicaState}
 use Rattle.rh_core.specs.declared.outcomes.Dealt.{Dealt}
 use Rattle.rh_core.specs.declared.outcomes.Flipped.{Flipped}
 use Rattle.rh_layout.specs.declared.kind.Kind.{Kind}
-use Rattle.rh_core.specs.declared.refusals.DealError.{DealError}
-use Rattle.rh_core.specs.declared.refusals.FlipError.{FlipError}
+use Rattle.rh_core.specs.declared.errors.DealError.{DealError}
+use Rattle.rh_core.specs.declared.errors.FlipError.{FlipError}
 use Rattle.rh_core.specs.Commands.{heap_step}
 use Rattle.rh_core.specs.Cycle.{begin_step, flip_step}
 use Rattle.rh_core.specs.Dealing.{deal_step}

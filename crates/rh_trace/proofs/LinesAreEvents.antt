@@ -5,12 +5,12 @@ use Rattle.rh_core.specs.declared.event.Event.TheVariants as events
 use Rattle.rh_core.specs.declared.outcomes.Dealt.{Dealt}
 use Rattle.rh_layout.specs.declared.kind.Kind.{Kind}
 use Rattle.rh_core.specs.declared.outcomes.Given.{Given}
-use Rattle.rh_core.specs.declared.refusals.DealError.{DealError}
-use Rattle.rh_core.specs.declared.refusals.GiveError.{GiveError}
+use Rattle.rh_core.specs.declared.errors.DealError.{DealError}
+use Rattle.rh_core.specs.declared.errors.GiveError.{GiveError}
 use Rattle.rh_core.specs.Dealing.{deal_step}
 use Rattle.rh_core.specs.Giving.{give_step}
 use Rattle.rh_core.specs.Heap.{HeapState}
-use Rattle.rh_core.specs.Run.{event_step, answers_of, heap_after}
+use Rattle.rh_core.specs.runs.Run.{event_step, answers_of, heap_after}
 use Rattle.rh_engine.specs.declared.engine.DealRefusal.{DealRefusal}
 use Rattle.rh_syntax.specs.declared.line.Asked.{Asked}
 use Rattle.rh_syntax.specs.declared.line.Asked.TheVariants as asked

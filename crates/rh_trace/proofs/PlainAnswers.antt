@@ -9,16 +9,15 @@ use Rattle.rh_mutator.specs.declared.config.Config.{Config}
 use Rattle.rh_mutator.specs.declared.config.ConfigFault.{ConfigFault}
 use Rattle.rh_core.specs.Config.{fault_of}
 use Rattle.rh_core.specs.Mutator.{StandsFor}
-use Rattle.rh_core.specs.Heap.{HeapState, new_heap}
+use Rattle.rh_core.specs.Heap.{HeapState, new_heap, IsWellFormed}
 use Rattle.rh_core.specs.declared.event.Event.{Event}
 use Rattle.rh_core.specs.declared.event.Event.TheVariants as happenings
 use Rattle.rh_core.specs.declared.outcomes.Dealt.{Dealt}
 use Rattle.rh_layout.specs.declared.kind.Kind.{Kind}
-use Rattle.rh_core.specs.declared.refusals.DealError.{DealError}
-use Rattle.rh_core.specs.Cycle.{IsWellFormed}
+use Rattle.rh_core.specs.declared.errors.DealError.{DealError}
 use Rattle.rh_core.specs.Dealing.{deal_step}
-use Rattle.rh_core.specs.Run as events
-use Rattle.rh_core.specs.Run.{event_step}
+use Rattle.rh_core.specs.runs.Run as events
+use Rattle.rh_core.specs.runs.Run.{event_step}
 use Rattle.rh_core.specs.Stat.{stat_of}
 use Rattle.rh_engine.specs.declared.engine.DealRefusal.{DealRefusal}
 use Rattle.rh_engine.specs.Trays.{Trays, Tray, tray_named, replica_of}

@@ -9,9 +9,9 @@ use Rattle.rh_core.specs.Giving.{HaveDistinctPlaces}
 use Rattle.rh_core.specs.Heap.{HeapState}
 use Rattle.rh_core.specs.declared.outcomes.Dealt.{Dealt}
 use Rattle.rh_layout.specs.declared.kind.Kind.{Kind}
-use Rattle.rh_core.specs.declared.refusals.DealError.{DealError}
-use Rattle.rh_core.specs.declared.refusals.DealError.TheVariants as deal_errors
-use Rattle.rh_core.proofs.EntryPlaces.{places-apart}
+use Rattle.rh_core.specs.declared.errors.DealError.{DealError}
+use Rattle.rh_core.specs.declared.errors.DealError.TheVariants as deal_errors
+use Rattle.rh_core.proofs.entries.EntryPlaces.{places-apart}
 use Rattle.rh_engine.specs.declared.engine.DealRefusal.{DealRefusal}
 use Rattle.rh_engine.specs.declared.engine.DealRefusal.TheVariants as deal_refusals
 use Rattle.rh_syntax.specs.declared.line.Asked.{Asked}

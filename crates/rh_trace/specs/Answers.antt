@@ -5,9 +5,9 @@ use Rattle.std.specs.Result.{result_ok}
 use Rattle.rh_layout.specs.declared.command.Reply.{Reply}
 use Rattle.rh_layout.specs.declared.refusal.Refusal.{Refusal}
 use Rattle.rh_core.specs.declared.outcomes as outcomes
-use Rattle.rh_core.specs.declared.refusals.BeginError.{BeginError}
-use Rattle.rh_core.specs.declared.refusals.FlipError.{FlipError}
-use Rattle.rh_core.specs.declared.refusals.ShadeError.{ShadeError}
+use Rattle.rh_core.specs.declared.errors.BeginError.{BeginError}
+use Rattle.rh_core.specs.declared.errors.FlipError.{FlipError}
+use Rattle.rh_core.specs.declared.errors.ShadeError.{ShadeError}
 use Rattle.rh_core.specs.declared.stat as stats
 use Rattle.rh_dump.specs.Dump.{GraphState}
 use Rattle.rh_dump.specs.Line.{dump_text}

@@ -6,8 +6,8 @@ use Rattle.rh_core.specs.declared.event.Event.{Event}
 use Rattle.rh_core.specs.declared.event.Event.TheVariants as events
 use Rattle.rh_core.specs.declared.outcomes.Dealt.{Dealt}
 use Rattle.rh_core.specs.declared.outcomes.Given.{Given}
-use Rattle.rh_core.specs.declared.refusals.DealError.{DealError}
-use Rattle.rh_core.specs.declared.refusals.GiveError.{GiveError}
+use Rattle.rh_core.specs.declared.errors.DealError.{DealError}
+use Rattle.rh_core.specs.declared.errors.GiveError.{GiveError}
 use Rattle.rh_engine.specs.declared.engine.Counted.{Counted}
 use Rattle.rh_engine.specs.declared.engine.DealRefusal.{DealRefusal}
 use Rattle.rh_engine.specs.declared.engine.DealRefusal.TheVariants as deal_refusals

@@ -7,9 +7,9 @@ use Rattle.rh_layout.specs.declared.refusal.Refusal.{Refusal}
 use Rattle.rh_mutator.specs.declared.config.Config.{Config}
 use Rattle.rh_mutator.specs.declared.config.ConfigFault.{ConfigFault}
 use Rattle.rh_core.specs.declared.outcomes as outcomes
-use Rattle.rh_core.specs.declared.refusals.BeginError.{BeginError}
-use Rattle.rh_core.specs.declared.refusals.FlipError.{FlipError}
-use Rattle.rh_core.specs.declared.refusals.ShadeError.{ShadeError}
+use Rattle.rh_core.specs.declared.errors.BeginError.{BeginError}
+use Rattle.rh_core.specs.declared.errors.FlipError.{FlipError}
+use Rattle.rh_core.specs.declared.errors.ShadeError.{ShadeError}
 use Rattle.rh_core.specs.declared.stat.Stat.{Stat}
 use Rattle.rh_core.specs.Config.{fault_of}
 use Rattle.rh_core.specs.Heap.{new_heap}

@@ -4,8 +4,7 @@ ghost use Rattle.std.specs.Prelude.{◌≡◌, ◌⊎◌, List, ℕ, false, IfOk
 ghost use Rattle.std.specs.List.{flat_map};
 ghost use Rattle.std.specs.Io.KnownBytes.{Appends, Consumes, Keeps};
 ghost use Rattle.rh_core.specs.Config.{fault_of};
-ghost use Rattle.rh_core.specs.Cycle.{IsWellFormed};
-ghost use Rattle.rh_core.specs.Heap.{new_heap};
+ghost use Rattle.rh_core.specs.Heap.{new_heap, IsWellFormed};
 ghost use Rattle.rh_text.specs.Calls.{AreSpent};
 ghost use Rattle.rh_text.specs.Output.{AppendsPrefix, AppendsLess};
 ghost use Rattle.rh_trace.specs.Answers.{Answered, answered_text};

@@ -4,7 +4,7 @@ ghost use Rattle.std.specs.Prelude.{◌≡◌, ℕ, ◌^◌, List, [], Some};
 ghost use Rattle.rh_layout.specs.declared.kind.Kind.{Kind as KindOf};
 ghost use Rattle.rh_core.specs.Giving.{HaveDistinctPlaces};
 ghost use Rattle.rh_core.specs.Heap.{new_heap};
-ghost use Rattle.rh_core.specs.Run.{answers_of, heap_after};
+ghost use Rattle.rh_core.specs.runs.Run.{answers_of, heap_after};
 ghost use Rattle.rh_core.specs.Stat.{stat_of};
 ghost use Rattle.rh_trace.specs.Answers as answers;
 ghost use Rattle.rh_engine.specs.Engine.{EngineState, deal_line_step, give_line_step, join_line_step};

@@ -1,7 +1,7 @@
 //! Laws of what a run adds up to.
 
 ghost use Rattle.std.specs.Prelude.{◌≡◌, ◌+◌, List, count_by};
-ghost use Rattle.rh_core.specs.Run.{answers_of};
+ghost use Rattle.rh_core.specs.runs.Run.{answers_of};
 ghost use Rattle.rh_syntax.specs.declared.line.Line.{Line as LineOf};
 ghost use Rattle.rh_engine.specs.Engine.{EngineState};
 ghost use Rattle.rh_trace.specs.Events.{events_of, is_command, is_refused_command};

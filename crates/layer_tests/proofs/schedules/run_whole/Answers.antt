@@ -2,7 +2,7 @@ use Rattle.std.proofs.Common.{ap, sym, ◌∙◌}
 use Rattle.rh_layout.specs.declared.kind.Kind.TheVariants.{Copies, Entries}
 use Rattle.rh_core.specs.Heap.{HeapState}
 use Rattle.rh_core.specs.Dealing.{undealt_count}
-use Rattle.rh_core.specs.Schedules.{no_dealing}
+use Rattle.rh_core.specs.runs.Schedules.{no_dealing}
 use Rattle.layer_tests.proofs.schedules.run_whole.Goals as goal
 
 pub returns : goal.returns

@@ -1,7 +1,7 @@
 use Rattle.std.proofs.Common.{◌≡◌, [], None, Some, Ok, Err, inr, refl, ap, subst, sym, ◌∙◌}
 use Rattle.std.specs.List.{flat_map}
 use Rattle.std.specs.Io.KnownBytes.{Appends}
-use Rattle.rh_core.specs.declared.refusals.HeapError.TheVariants as errors
+use Rattle.rh_core.specs.declared.errors.HeapError.TheVariants as errors
 use Rattle.rh_core.specs.Config.{fault_of}
 use Rattle.rh_core.specs.Heap.{HeapState, new_heap}
 use Rattle.rh_trace.specs.Answers.{answered_text}
