@@ -1,3 +1,5 @@
+use Rattle.std.proofs.Common.{ap}
+use Rattle.rh_core.specs.Heap.{HeapState}
 use Rattle.rh_trace.proofs.CountedFlips.{flip_counts, flips_of-lines, root_words_of-lines}
 use Rattle.rh_trace.proofs.laws.summaries.a_summary_has_what_the_heap_counted.Goals as goal
 
@@ -11,11 +13,11 @@ returns-clause-flips c =
     let ended = c.a_flip_ends_the_cycle.ensures.ended in
     let refused = c.a_flip_is_refused_exactly_where_its_cycle_is_not_closed.ensures.refused in
     flips_of-lines (record {
-      command = λ h owner what. ((command h owner what).8, (command h owner what).9);
+      command = λ h owner what. (ap (λ (g : HeapState). g.flips) (command h owner what), ap (λ (g : HeapState). g.root_words) (command h owner what));
       begin = λ h. ((begin h).6, (begin h).7);
-      shade = λ h root. ((shade h root).8, (shade h root).9);
-      deal = λ h kind most. ((deal h kind most).4, (deal h kind most).5);
-      give = λ h r. ((give h r).8, (give h r).9);
+      shade = λ h root. (ap (λ (g : HeapState). g.flips) (shade h root), ap (λ (g : HeapState). g.root_words) (shade h root));
+      deal = λ h kind most. (ap (λ (g : HeapState). g.flips) (deal h kind most), ap (λ (g : HeapState). g.root_words) (deal h kind most));
+      give = λ h r. (ap (λ (g : HeapState). g.flips) (give h r), ap (λ (g : HeapState). g.root_words) (give h r));
       flip = λ h. flip_counts h (λ f same. ((ended h f same).7, (ended h f same).8)) (refused h);
     })
 
@@ -29,10 +31,10 @@ returns-clause-root_words c =
     let ended = c.a_flip_ends_the_cycle.ensures.ended in
     let refused = c.a_flip_is_refused_exactly_where_its_cycle_is_not_closed.ensures.refused in
     root_words_of-lines (record {
-      command = λ h owner what. ((command h owner what).8, (command h owner what).9);
+      command = λ h owner what. (ap (λ (g : HeapState). g.flips) (command h owner what), ap (λ (g : HeapState). g.root_words) (command h owner what));
       begin = λ h. ((begin h).6, (begin h).7);
-      shade = λ h root. ((shade h root).8, (shade h root).9);
-      deal = λ h kind most. ((deal h kind most).4, (deal h kind most).5);
-      give = λ h r. ((give h r).8, (give h r).9);
+      shade = λ h root. (ap (λ (g : HeapState). g.flips) (shade h root), ap (λ (g : HeapState). g.root_words) (shade h root));
+      deal = λ h kind most. (ap (λ (g : HeapState). g.flips) (deal h kind most), ap (λ (g : HeapState). g.root_words) (deal h kind most));
+      give = λ h r. (ap (λ (g : HeapState). g.flips) (give h r), ap (λ (g : HeapState). g.root_words) (give h r));
       flip = λ h. flip_counts h (λ f same. ((ended h f same).7, (ended h f same).8)) (refused h);
     })
