@@ -4,12 +4,12 @@ use Rattle.std.specs.Io.KnownBytes.{Appends, Keeps}
 use Rattle.rh_text.specs.declared.output.Write.{Write}
 use Rattle.rh_text.specs.Output.{AppendsLess}
 use Rattle.rh_text.specs.lemmas.Appends.{Keeps-same}
-use Rattle.rh_dump.specs.declared.fault.DumpFault.{DumpFault}
-use Rattle.rh_dump.specs.declared.read_error.DumpReadError.{DumpReadError}
-use Rattle.rh_dump.specs.declared.read_error.DumpReadError.TheVariants as errors
+use Rattle.rh_dump.specs.declared.reading.fault.DumpFault.{DumpFault}
+use Rattle.rh_dump.specs.declared.reading.read_error.DumpReadError.{DumpReadError}
+use Rattle.rh_dump.specs.declared.reading.read_error.DumpReadError.TheVariants as errors
 use Rattle.rh_dump.specs.Dump.{GraphState}
-use Rattle.rh_dump.specs.Putting.{Reads}
-use Rattle.rh_dump.specs.Reading.{graph_of_text}
+use Rattle.rh_dump.specs.texts.Putting.{Reads}
+use Rattle.rh_dump.specs.texts.Reading.{graph_of_text}
 use Rattle.rh_cli.specs.declared.fault.LineFault.TheVariants as faults
 use Rattle.rh_cli.specs.Count.{ConcludesCount, IsSentStatus, counts_line}
 use Rattle.rh_cli.proofs.Flushed.{Appends-kept}

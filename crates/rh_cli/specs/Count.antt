@@ -4,7 +4,7 @@ use Rattle.std.specs.Io.KnownBytes.{Appends, Keeps}
 use Rattle.rh_text.specs.declared.output.Write.{Write}
 use Rattle.rh_text.specs.Output.{AppendsLess}
 use Rattle.rh_dump.specs.Dump.{GraphState}
-use Rattle.rh_dump.specs.Reading.{graph_of_text}
+use Rattle.rh_dump.specs.texts.Reading.{graph_of_text}
 use Rattle.rh_cli.specs.declared.fault.LineFault.{LineFault}
 use Rattle.rh_cli.specs.declared.fault.LineFault.TheVariants as faults
 use Rattle.rh_cli.specs.Fault.{status_of}

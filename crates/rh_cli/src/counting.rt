@@ -2,7 +2,7 @@
 
 ghost use Rattle.std.specs.Prelude.{◌≡◌, ◌↔◌, List, ℕ, Ok, IfSome, IfErr, IsOk, IsTrue};
 ghost use Rattle.std.specs.Io.KnownBytes.{Consumes};
-ghost use Rattle.rh_dump.specs.Reading.{graph_of_text};
+ghost use Rattle.rh_dump.specs.texts.Reading.{graph_of_text};
 ghost use Rattle.rh_cli.specs.Count.{ConcludesCount, IsSentStatus, counts_line};
 ghost use Rattle.rh_cli.specs.Fault.{status_after, IsLateFault};
 

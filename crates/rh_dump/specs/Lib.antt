@@ -4,9 +4,5 @@ pub mod Numbering
 pub mod Dumpable
 pub mod Meeting
 pub mod PlainDump
-pub mod Line
-pub mod Part
-pub mod Reading
-pub mod Putting
-pub mod Faults
+pub mod texts
 pub mod lemmas

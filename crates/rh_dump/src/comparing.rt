@@ -1,7 +1,7 @@
 //! Whether two graphs have equal dump texts.
 
 ghost use Rattle.std.specs.Prelude.{◌≡◌, ◌↔◌, IsTrue};
-ghost use Rattle.rh_dump.specs.Line.{dump_text};
+ghost use Rattle.rh_dump.specs.texts.Line.{dump_text};
 
 use crate::dump_graph::Graph;
 use rh_layout::{RootId, Value};

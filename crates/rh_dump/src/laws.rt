@@ -12,10 +12,10 @@ ghost use Rattle.rh_dump.specs.PlainDump.{plain_dump_of};
 ghost use Rattle.rh_dump.specs.Dumpable.{IsDumpable};
 ghost use Rattle.rh_dump.specs.Numbering.{names_after, dump_below, ReachesObjectsBelow};
 ghost use Rattle.rh_dump.specs.Dump.{GraphState, IsGraph};
-ghost use Rattle.rh_dump.specs.Faults.{dump_faults};
-ghost use Rattle.rh_dump.specs.Line.{dump_text};
-ghost use Rattle.rh_dump.specs.Reading.{graph_of_text};
-ghost use Rattle.rh_dump.specs.declared.fault.DumpFault.{DumpFault as FaultOf};
+ghost use Rattle.rh_dump.specs.texts.Faults.{dump_faults};
+ghost use Rattle.rh_dump.specs.texts.Line.{dump_text};
+ghost use Rattle.rh_dump.specs.texts.Reading.{graph_of_text};
+ghost use Rattle.rh_dump.specs.declared.reading.fault.DumpFault.{DumpFault as FaultOf};
 
 use crate::limits::{LAST_OBJECT, MAX_DUMP_BYTES, MAX_DUMP_READS, MAX_OBJECTS, MAX_ROOTS};
 

@@ -3,17 +3,24 @@
 ghost use Rattle.std.specs.Prelude.{◌≡◌, [], false, IfSome, IsErrOf};
 ghost use Rattle.rh_text.specs.Calls.{AreSpent};
 ghost use Rattle.rh_text.specs.RawLine.{lines_of};
-ghost use Rattle.rh_dump.specs.Putting.{put_lines, error_in, Gives, Reads, ReadsDump};
-ghost use Rattle.rh_dump.specs.Reading.{end_or_fault, lines_from, graph_of_text};
-ghost use Rattle.rh_dump.specs.declared.due.Due.TheVariants as dues;
+ghost use Rattle.rh_dump.specs.texts.Putting.{put_lines, error_in, Gives, Reads, ReadsDump};
+ghost use Rattle.rh_dump.specs.texts.Reading.{end_or_fault, lines_from, graph_of_text};
+ghost use Rattle.rh_dump.specs.declared.reading.due.Due.TheVariants as dues;
 
-use crate::due::Due;
+mod due;
+pub mod fault;
+mod line_parts;
+mod line_reading;
+mod parts;
+pub mod read_error;
+
 use crate::dump_graph::Graph;
-use crate::fault::{DumpFault, DumpKind};
 use crate::graph_builder::GraphBuilder;
 use crate::limits::{MAX_DUMP_BYTES, MAX_DUMP_READS};
-use crate::line_reading::read_raw_line;
-use crate::read_error::{DumpReadError, LineError};
+use crate::reading::due::Due;
+use crate::reading::fault::{DumpFault, DumpKind};
+use crate::reading::line_reading::read_raw_line;
+use crate::reading::read_error::{DumpReadError, LineError};
 use rh_text::{Calls, InputFault, first_line, read_past};
 use std::alloc::Allocator;
 use std::io;

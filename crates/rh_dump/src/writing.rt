@@ -6,11 +6,15 @@ ghost use Rattle.std.specs.List.{flat_map};
 ghost use Rattle.rh_text.specs.Calls.{AreSpent};
 ghost use Rattle.rh_text.specs.Output.{AppendsLess};
 ghost use Rattle.rh_dump.specs.Graph.{graph_in, objects_in, total};
-ghost use Rattle.rh_dump.specs.Line.{spell_dump_line, object_line, root_lines, object_lines};
-ghost use Rattle.rh_dump.specs.Line.{dump_text};
+ghost use Rattle.rh_dump.specs.texts.Line.{spell_dump_line, object_line, root_lines, object_lines};
+ghost use Rattle.rh_dump.specs.texts.Line.{dump_text};
+
+mod spelling;
 
 use crate::dump_graph::Graph;
-use crate::spelling::{put_head, put_next_value, put_object_head, put_objects_line, put_root_line};
+use crate::writing::spelling::{
+    put_head, put_next_value, put_object_head, put_objects_line, put_root_line,
+};
 use rh_layout::{RootId, Value};
 use rh_text::{Calls, LineText, Write, send};
 use std::alloc::Allocator;

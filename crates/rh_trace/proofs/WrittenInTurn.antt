@@ -7,7 +7,7 @@ use Rattle.std.proofs.lemmas.List.Concat.{flat_map-append}
 use Rattle.rh_text.specs.Output.{AppendsLess}
 use Rattle.rh_text.specs.lemmas.Appends.{Appends-none, Appends-less, less-more}
 use Rattle.rh_dump.specs.Dump.{GraphState}
-use Rattle.rh_dump.specs.Line.{header_line, roots_line, objects_line, end_line, root_lines, object_lines, spell_dump_line, dump_text}
+use Rattle.rh_dump.specs.texts.Line.{header_line, roots_line, objects_line, end_line, root_lines, object_lines, spell_dump_line, dump_text}
 use Rattle.rh_trace.specs.declared.stop.Stop.{Stop}
 use Rattle.rh_trace.specs.Answers.{with_line_end}
 use Rattle.rh_trace.specs.Run.{Writes}

@@ -10,7 +10,7 @@ use Rattle.rh_core.specs.declared.errors.FlipError.{FlipError}
 use Rattle.rh_core.specs.declared.errors.ShadeError.{ShadeError}
 use Rattle.rh_core.specs.declared.stat as stats
 use Rattle.rh_dump.specs.Dump.{GraphState}
-use Rattle.rh_dump.specs.Line.{dump_text}
+use Rattle.rh_dump.specs.texts.Line.{dump_text}
 use Rattle.rh_syntax.specs.CommandAnswers.{answer_text}
 use Rattle.rh_engine.specs.CycleAnswers.{begin_text, shade_text, deal_text, give_text, join_text, flip_text, tray_text, stat_text}
 use Rattle.rh_engine.specs.Trays as trays

@@ -5,7 +5,7 @@ ghost use Rattle.std.specs.List.{flat_map};
 ghost use Rattle.rh_text.specs.Calls.{AreSpent};
 ghost use Rattle.rh_text.specs.Output.{AppendsLess};
 ghost use Rattle.rh_core.specs.Stat.{stat_of};
-ghost use Rattle.rh_dump.specs.Line.{dump_text};
+ghost use Rattle.rh_dump.specs.texts.Line.{dump_text};
 ghost use Rattle.rh_trace.specs.Answers as answers;
 ghost use Rattle.rh_syntax.specs.CommandAnswers.{answer_text};
 ghost use Rattle.rh_trace.specs.Answers.{answered_text, with_line_end, trays_text};

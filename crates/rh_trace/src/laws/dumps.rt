@@ -8,7 +8,7 @@ ghost use Rattle.rh_model.specs.Plain.{PlainHeap, IsPlain};
 ghost use Rattle.rh_core.specs.Mutator.{StandsFor, graph_of};
 ghost use Rattle.rh_core.specs.Heap.{HeapState, IsHeap};
 ghost use Rattle.rh_dump.specs.Dump.{IsGraph};
-ghost use Rattle.rh_dump.specs.Line.{dump_text};
+ghost use Rattle.rh_dump.specs.texts.Line.{dump_text};
 ghost use Rattle.rh_dump.specs.PlainDump.{plain_dump_of};
 ghost use Rattle.rh_trace.specs.HeapDump.{dump_of};
 

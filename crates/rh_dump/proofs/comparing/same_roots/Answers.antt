@@ -1,5 +1,5 @@
 use Rattle.std.proofs.lemmas.Slice.Eq.{slice_eq-Decides}
-use Rattle.rh_dump.proofs.SameValues.{entry_eq-Decides}
+use Rattle.rh_dump.proofs.graphs.SameValues.{entry_eq-Decides}
 use Rattle.rh_dump.proofs.comparing.same_roots.Goals as goal
 
 pub returns : goal.returns

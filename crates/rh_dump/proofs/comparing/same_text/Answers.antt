@@ -1,6 +1,6 @@
 use Rattle.std.proofs.Common.{◌≡◌, true, sym, ◌∙◌}
 use Rattle.std.proofs.lemmas.Bool.{false≢true}
-use Rattle.rh_dump.proofs.SameTexts.{flat_at, same_flat, flat_roots, flat_counts, flat_values}
+use Rattle.rh_dump.proofs.graphs.SameTexts.{flat_at, same_flat, flat_roots, flat_counts, flat_values}
 use Rattle.rh_dump.proofs.comparing.same_text.Goals as goal
 
 pub returns-then-not-same_roots : goal.returns-then-not-same_roots

@@ -1,5 +1,5 @@
 use Rattle.std.proofs.lemmas.Slice.Eq.{slice_eq-Decides}
-use Rattle.rh_dump.proofs.SameValues.{value_eq-Decides}
+use Rattle.rh_dump.proofs.graphs.SameValues.{value_eq-Decides}
 use Rattle.rh_dump.proofs.comparing.same_values.Goals as goal
 
 pub returns : goal.returns

@@ -1,7 +1,7 @@
 use Rattle.std.proofs.Common.{length}
 use Rattle.rh_model.specs.Plain as plain
-use Rattle.rh_dump.proofs.PlainDump.{IsDumpable-plain}
-use Rattle.rh_dump.proofs.DumpedGraphs.{IsGraph-dump_below}
+use Rattle.rh_dump.proofs.graphs.PlainDump.{IsDumpable-plain}
+use Rattle.rh_dump.proofs.graphs.DumpedGraphs.{IsGraph-dump_below}
 use Rattle.rh_dump.proofs.laws.dumps_are_graphs.Goals as goal
 
 pub returns-clause-graphs : goal.returns-clause-graphs

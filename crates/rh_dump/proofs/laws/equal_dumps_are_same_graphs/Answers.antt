@@ -1,4 +1,4 @@
-use Rattle.rh_dump.proofs.SameNumbers.{dump_below-exact}
+use Rattle.rh_dump.proofs.graphs.SameNumbers.{dump_below-exact}
 use Rattle.rh_dump.proofs.laws.equal_dumps_are_same_graphs.Goals as goal
 
 pub returns : goal.returns

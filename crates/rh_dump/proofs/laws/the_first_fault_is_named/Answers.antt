@@ -1,4 +1,4 @@
-use Rattle.rh_dump.proofs.FirstFault.{first_fault, no_fault_of_dump, faultless_is_dump}
+use Rattle.rh_dump.proofs.texts.FirstFault.{first_fault, no_fault_of_dump, faultless_is_dump}
 use Rattle.rh_dump.proofs.laws.the_first_fault_is_named.Goals as goal
 
 pub returns-clause-first : goal.returns-clause-first

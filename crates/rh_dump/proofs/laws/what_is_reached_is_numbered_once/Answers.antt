@@ -1,4 +1,4 @@
-use Rattle.rh_dump.proofs.Numbered.{Reached-exact, IsOnce-names_after}
+use Rattle.rh_dump.proofs.numbers.Numbered.{Reached-exact, IsOnce-names_after}
 use Rattle.rh_dump.proofs.laws.what_is_reached_is_numbered_once.Goals as goal
 
 pub returns-clause-reached : goal.returns-clause-reached

@@ -1,5 +1,5 @@
-use Rattle.rh_dump.proofs.SpelledIsRead.{graph_within-text}
-use Rattle.rh_dump.proofs.ReadIsSpelled.{graph_within-means}
+use Rattle.rh_dump.proofs.texts.SpelledIsRead.{graph_within-text}
+use Rattle.rh_dump.proofs.texts.ReadIsSpelled.{graph_within-means}
 use Rattle.rh_dump.proofs.laws.what_is_spelled_is_read.Goals as goal
 
 pub returns-clause-spelled : goal.returns-clause-spelled

@@ -1,7 +1,7 @@
 use Rattle.std.proofs.Common.{sym, ap, subst, ◌∙◌, arith}
 use Rattle.rh_dump.specs.Dumpable.{IsDumpable}
 use Rattle.rh_dump.specs.Meeting.{NumberingState, numbering_after}
-use Rattle.rh_dump.proofs.NumberingSteps.{rooted, IsDumpOf-last}
+use Rattle.rh_dump.proofs.numbers.NumberingSteps.{rooted, IsDumpOf-last}
 use Rattle.rh_dump.proofs.numbering.numbered_graph.Goals as goal
 
 pub new-requires : goal.new-requires

@@ -2,10 +2,10 @@ use Rattle.std.proofs.Common.{Ok, sym, ap, ◌∙◌}
 use Rattle.rh_text.specs.RawLine.{lines_of}
 use Rattle.rh_dump.specs.Dump.{GraphState}
 use Rattle.rh_dump.specs.Graph.{FlatGraph}
-use Rattle.rh_dump.specs.Reading.{lines_from}
-use Rattle.rh_dump.specs.Putting.{put_lines}
-use Rattle.rh_dump.specs.declared.due.Due.TheVariants as dues
-use Rattle.rh_dump.proofs.PutLines.{whole, whole_error}
+use Rattle.rh_dump.specs.texts.Reading.{lines_from}
+use Rattle.rh_dump.specs.texts.Putting.{put_lines}
+use Rattle.rh_dump.specs.declared.reading.due.Due.TheVariants as dues
+use Rattle.rh_dump.proofs.texts.PutLines.{whole, whole_error}
 use Rattle.rh_dump.proofs.reading.graph_in_text.Goals as goal
 
 pub finish-requires-clause-filled : goal.finish-requires-clause-filled

@@ -1,6 +1,6 @@
 use Rattle.std.proofs.Common.{rules, ℕ, Vec}
 use Rattle.rh_dump.specs.Dump.{GraphState}
-use Rattle.rh_dump.proofs.ReadInput.{reads_past, reads_told}
+use Rattle.rh_dump.proofs.texts.ReadInput.{reads_past, reads_told}
 use Rattle.rh_dump.proofs.reading.read_dump_told.Goals as goal
 
 pub returns-in-Ok-clause-told : goal.returns-in-Ok-clause-told

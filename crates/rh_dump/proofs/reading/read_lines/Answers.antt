@@ -2,11 +2,11 @@ use Rattle.std.proofs.Common.{◌≡◌, ℕ, ◌+◌, ◌-◌, length, sym, ap,
 use Rattle.std.proofs.lemmas.Bool.{eqb-true}
 use Rattle.std.proofs.lemmas.List.{nil_from_length}
 use Rattle.rh_text.specs.RawLine.{RawLine, lines_of, raw_text}
-use Rattle.rh_dump.specs.Reading.{lines_from}
-use Rattle.rh_dump.specs.Putting.{put_lines}
-use Rattle.rh_dump.specs.declared.due.Due.{Due}
-use Rattle.rh_dump.specs.declared.due.Due.TheVariants as dues
-use Rattle.rh_dump.proofs.PutLines.{lines_next, lines_error, lines_ended, goes_on, length-rest}
+use Rattle.rh_dump.specs.texts.Reading.{lines_from}
+use Rattle.rh_dump.specs.texts.Putting.{put_lines}
+use Rattle.rh_dump.specs.declared.reading.due.Due.{Due}
+use Rattle.rh_dump.specs.declared.reading.due.Due.TheVariants as dues
+use Rattle.rh_dump.proofs.texts.PutLines.{lines_next, lines_error, lines_ended, goes_on, length-rest}
 use Rattle.rh_dump.proofs.reading.read_lines.Goals as goal
 
 pub returns-in-Err : goal.returns-in-Err

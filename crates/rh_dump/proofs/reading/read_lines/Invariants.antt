@@ -1,8 +1,8 @@
 use Rattle.std.proofs.Common.{◌≡◌, ◌+◌, ◌-◌, ◌≤◌, length}
 use Rattle.rh_text.specs.RawLine.{lines_of}
-use Rattle.rh_dump.specs.Reading.{lines_from}
-use Rattle.rh_dump.specs.Putting.{put_lines, IsDue}
-use Rattle.rh_dump.specs.declared.due.Due.TheVariants as dues
+use Rattle.rh_dump.specs.texts.Reading.{lines_from}
+use Rattle.rh_dump.specs.texts.Putting.{put_lines, IsDue}
+use Rattle.rh_dump.specs.declared.reading.due.Due.TheVariants as dues
 use Rattle.rh_dump.proofs.reading.read_lines.Given as goal
 
 abbrev pub invariant-loop-rest : goal.invariant-loop-rest

@@ -2,9 +2,9 @@ use Rattle.std.proofs.Common.{ap, sym, ◌∙◌}
 use Rattle.std.proofs.lemmas.Result.{err_from_is_err_and}
 use Rattle.rh_dump.specs.Dump.{GraphState}
 use Rattle.rh_dump.specs.Graph.{graph_in}
-use Rattle.rh_dump.specs.Line.{spell_dump_line, objects_line, dump_text}
-use Rattle.rh_dump.proofs.ObjectsIn.{length-objects_in}
-use Rattle.rh_dump.proofs.Sending.{text_end, head_next, head_less, roots_next, roots_less, count_next, count_less, all_next, all_less, on_ok, on_err, Sent-last, Sent-last_less}
+use Rattle.rh_dump.specs.texts.Line.{spell_dump_line, objects_line, dump_text}
+use Rattle.rh_dump.proofs.numbers.ObjectsIn.{length-objects_in}
+use Rattle.rh_dump.proofs.texts.Sending.{text_end, head_next, head_less, roots_next, roots_less, count_next, count_less, all_next, all_less, on_ok, on_err, Sent-last, Sent-last_less}
 use Rattle.rh_dump.proofs.writing.write_flat.Goals as goal
 
 pub returns-in_err-send-clause-err : goal.returns-in_err-send-clause-err

@@ -1,7 +1,7 @@
 use Rattle.std.proofs.Common.{◌≡◌, ◌++◌, ap, sym, ◌∙◌}
 use Rattle.std.proofs.lemmas.Result.{err_from_is_err_and}
-use Rattle.rh_dump.specs.Line.{spell_dump_line, object_line}
-use Rattle.rh_dump.proofs.Sending.{Sent-begin, Sent-next, Sent-less, fields_text, fields_step, value_piece, object_line_text, loop_next, loop_less}
+use Rattle.rh_dump.specs.texts.Line.{spell_dump_line, object_line}
+use Rattle.rh_dump.proofs.texts.Sending.{Sent-begin, Sent-next, Sent-less, fields_text, fields_step, value_piece, object_line_text, loop_next, loop_less}
 use Rattle.rh_dump.proofs.writing.write_object.Goals as goal
 
 pub returns-in_err-send-clause-err : goal.returns-in_err-send-clause-err

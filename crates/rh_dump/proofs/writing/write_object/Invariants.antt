@@ -1,8 +1,8 @@
 use Rattle.std.proofs.Common.{◌≡◌, ◌++◌, ◌∷◌, [], false, drop}
 use Rattle.std.specs.List.{flat_map}
 use Rattle.rh_text.specs.lemmas.Appends.{Sent}
-use Rattle.rh_dump.specs.Line.{spell_dump_line, object_line}
-use Rattle.rh_dump.proofs.Sending.{value_piece}
+use Rattle.rh_dump.specs.texts.Line.{spell_dump_line, object_line}
+use Rattle.rh_dump.proofs.texts.Sending.{value_piece}
 use Rattle.rh_dump.proofs.writing.write_object.Given as goal
 
 abbrev pub invariant-loop-value : goal.invariant-loop-value

@@ -1,6 +1,6 @@
 use Rattle.std.proofs.Common.{length, arith}
 use Rattle.std.proofs.lemmas.Result.{err_from_is_err_and}
-use Rattle.rh_dump.proofs.Sending.{objects_text, objects_next, objects_less, total_more}
+use Rattle.rh_dump.proofs.texts.Sending.{objects_text, objects_next, objects_less, total_more}
 use Rattle.rh_dump.proofs.writing.write_objects.Goals as goal
 
 pub returns-in_err-write_object-clause-err : goal.returns-in_err-write_object-clause-err

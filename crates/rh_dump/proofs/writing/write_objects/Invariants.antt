@@ -2,7 +2,7 @@ use Rattle.std.proofs.Common.{◌≡◌, false, drop, length}
 use Rattle.std.specs.List.{flat_map}
 use Rattle.rh_text.specs.lemmas.Appends.{Sent}
 use Rattle.rh_dump.specs.Graph.{objects_in, total}
-use Rattle.rh_dump.specs.Line.{spell_dump_line, object_lines}
+use Rattle.rh_dump.specs.texts.Line.{spell_dump_line, object_lines}
 use Rattle.rh_dump.proofs.writing.write_objects.Given as goal
 
 abbrev pub invariant-loop-count : goal.invariant-loop-count

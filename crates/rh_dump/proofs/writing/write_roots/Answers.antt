@@ -1,6 +1,6 @@
 use Rattle.std.proofs.Common.{refl, ◌∙◌}
 use Rattle.std.proofs.lemmas.Result.{err_from_is_err_and}
-use Rattle.rh_dump.proofs.Sending.{roots_text, root_text_line, loop_next, loop_less}
+use Rattle.rh_dump.proofs.texts.Sending.{roots_text, root_text_line, loop_next, loop_less}
 use Rattle.rh_dump.proofs.writing.write_roots.Goals as goal
 
 pub returns-in_err-send-clause-err : goal.returns-in_err-send-clause-err

@@ -1,7 +1,7 @@
 use Rattle.std.proofs.Common.{◌≡◌, false, drop}
 use Rattle.std.specs.List.{flat_map}
 use Rattle.rh_text.specs.lemmas.Appends.{Sent}
-use Rattle.rh_dump.specs.Line.{spell_dump_line, root_lines}
+use Rattle.rh_dump.specs.texts.Line.{spell_dump_line, root_lines}
 use Rattle.rh_dump.proofs.writing.write_roots.Given as goal
 
 abbrev pub invariant-loop-entry : goal.invariant-loop-entry

@@ -3,7 +3,7 @@ use Rattle.std.specs.Io.KnownBytes.{Appends}
 use Rattle.std.proofs.lemmas.Result.{err_from_is_err_and}
 use Rattle.rh_text.specs.Output.{AppendsLess}
 use Rattle.rh_trace.specs.HeapDump.{dump_of}
-use Rattle.rh_dump.specs.Line.{dump_text}
+use Rattle.rh_dump.specs.texts.Line.{dump_text}
 use Rattle.rh_trace.proofs.WrittenInTurn.{nothing_of_dump}
 use Rattle.rh_trace.proofs.playing.write_heap_dump.Goals as goal
 

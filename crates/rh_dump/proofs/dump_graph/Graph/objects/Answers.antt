@@ -1,6 +1,6 @@
 use Rattle.std.proofs.Common.{rules, ◌≡◌, length, sym, ap, ◌∙◌}
 use Rattle.rh_dump.specs.Dump.{GraphState}
-use Rattle.rh_dump.proofs.ObjectsIn.{length-objects_in}
+use Rattle.rh_dump.proofs.numbers.ObjectsIn.{length-objects_in}
 use Rattle.rh_dump.proofs.dump_graph.Graph.objects.Goals as goal
 
 pub returns : goal.returns

@@ -3,7 +3,7 @@ use Rattle.std.specs.Prelude.{List, ℕ, Some, slice_get}
 use Rattle.std.proofs.lemmas.Option.{slice_get_read, slice_get_within, same_Some}
 use Rattle.rh_dump.specs.Numbering.{with_name, number_in}
 use Rattle.rh_dump.specs.Meeting.{NumberingState}
-use Rattle.rh_dump.proofs.Index.{IsIndexOf-known, IsIndexOf-new}
+use Rattle.rh_dump.proofs.numbers.Index.{IsIndexOf-known, IsIndexOf-new}
 use Rattle.rh_dump.proofs.numbering.Numbering.known_number.Goals as goal
 
 pub returns-then-known-len-clause-new : goal.returns-then-known-len-clause-new

@@ -5,7 +5,7 @@ use Rattle.std.proofs.lemmas.List.{length-set}
 use Rattle.std.proofs.lemmas.Option.{slice_get-get_or}
 use Rattle.rh_dump.specs.Numbering.{with_name, number_in}
 use Rattle.rh_dump.specs.Meeting.{NumberingState, IsIndexOf}
-use Rattle.rh_dump.proofs.Index.{IsIndexOf-few, IsIndexOf-push, IsIndexOf-added, with_name-state}
+use Rattle.rh_dump.proofs.numbers.Index.{IsIndexOf-few, IsIndexOf-push, IsIndexOf-added, with_name-state}
 use Rattle.rh_dump.proofs.numbering.Numbering.number.Goals as goal
 
 pub overflow_cast-next : goal.overflow_cast-next

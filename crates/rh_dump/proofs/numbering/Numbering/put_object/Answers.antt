@@ -1,8 +1,8 @@
 use Rattle.std.proofs.Common.{◌≡◌, ◌<◌, length, take, sym, ap, subst, ◌∙◌, arith}
 use Rattle.rh_dump.specs.Numbering.{values_in}
 use Rattle.rh_dump.specs.Meeting.{NumberingState, IsBelow, with_count, with_fields}
-use Rattle.rh_dump.proofs.FlatDump.{take-all}
-use Rattle.rh_dump.proofs.NumberingSteps.{with_fields-none, fields-next, IsBelow-field}
+use Rattle.rh_dump.proofs.numbers.FlatDump.{take-all}
+use Rattle.rh_dump.proofs.numbers.NumberingSteps.{with_fields-none, fields-next, IsBelow-field}
 use Rattle.rh_dump.proofs.numbering.Numbering.put_object.Goals as goal
 
 pub loop-field-init : goal.loop-field-init

@@ -4,7 +4,7 @@ use Rattle.std.proofs.lemmas.Option.{slice_get_within}
 use Rattle.rh_dump.specs.Numbering.{names_after}
 use Rattle.rh_dump.specs.Dumpable.{IsDumpable}
 use Rattle.rh_dump.specs.Meeting.{NumberingState}
-use Rattle.rh_dump.proofs.NumberingSteps.{objects-next, names_after-below, names_after-longer, last_number}
+use Rattle.rh_dump.proofs.numbers.NumberingSteps.{objects-next, names_after-below, names_after-longer, last_number}
 use Rattle.rh_dump.proofs.numbering.Numbering.put_objects.Goals as goal
 
 pub loop-name-init : goal.loop-name-init

@@ -3,7 +3,7 @@ use Rattle.rh_model.specs.Graph.{root_value}
 use Rattle.rh_dump.specs.Numbering.{filled_roots}
 use Rattle.rh_dump.specs.Dumpable.{IsDumpable}
 use Rattle.rh_dump.specs.Meeting.{NumberingState, with_roots}
-use Rattle.rh_dump.proofs.NumberingSteps.{with_roots-none, owners-next, roots_of-all}
+use Rattle.rh_dump.proofs.numbers.NumberingSteps.{with_roots-none, owners-next, roots_of-all}
 use Rattle.rh_dump.proofs.numbering.Numbering.put_roots.Goals as goal
 
 pub loop-owner-init : goal.loop-owner-init

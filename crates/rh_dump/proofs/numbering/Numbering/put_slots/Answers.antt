@@ -2,8 +2,8 @@ use Rattle.std.proofs.Common.{◌≡◌, sym, ap, subst, ◌∙◌, arith}
 use Rattle.rh_model.specs.Graph.{root_value}
 use Rattle.rh_dump.specs.Numbering.{filled_slots}
 use Rattle.rh_dump.specs.Meeting.{NumberingState, IsBelow, with_roots}
-use Rattle.rh_dump.proofs.RootLists.{root_named}
-use Rattle.rh_dump.proofs.NumberingSteps.{with_roots-none, slots-next, IsBelow-root}
+use Rattle.rh_dump.proofs.numbers.RootLists.{root_named}
+use Rattle.rh_dump.proofs.numbers.NumberingSteps.{with_roots-none, slots-next, IsBelow-root}
 use Rattle.rh_dump.proofs.numbering.Numbering.put_slots.Goals as goal
 
 pub loop-slot-init : goal.loop-slot-init

@@ -1,5 +1,5 @@
 use Rattle.rh_model.specs.PlainValue.{value_of_plain}
-use Rattle.rh_dump.proofs.PlainDump.{IsBelow-read_root}
+use Rattle.rh_dump.proofs.graphs.PlainDump.{IsBelow-read_root}
 use Rattle.rh_dump.proofs.plain_dump.PlainObjectGraph.held.Goals as goal
 
 pub value_of-requires : goal.value_of-requires

@@ -1,4 +1,4 @@
-use Rattle.rh_dump.proofs.PlainDump.{IsDumpable-plain}
+use Rattle.rh_dump.proofs.graphs.PlainDump.{IsDumpable-plain}
 use Rattle.rh_dump.proofs.plain_dump.PlainObjectGraph.limit.Goals as goal
 
 pub returns-clause-dumpable : goal.returns-clause-dumpable

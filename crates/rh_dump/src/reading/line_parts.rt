@@ -1,0 +1,154 @@
+//! The parts of a dump's line, read by what is due.
+
+ghost use Rattle.std.specs.Prelude.{◌≡◌, ◌<◌, length, IfOk, OnOk};
+ghost use Rattle.std.specs.Option.{option_map};
+ghost use Rattle.rh_text.specs.Parts.{parts_of, parts_left};
+ghost use Rattle.rh_text.specs.Steps.{Shows};
+ghost use Rattle.rh_dump.specs.Meeting.{IsBelow};
+ghost use Rattle.rh_dump.specs.texts.Part.{object_head};
+ghost use Rattle.rh_dump.specs.texts.Putting.{start_of};
+ghost use Rattle.rh_dump.specs.texts.Reading.{formed_parts, part_after, roots_of_parts};
+ghost use Rattle.rh_dump.specs.texts.Reading.{objects_of_parts, root_of_parts, own_number};
+
+use crate::limits::{LAST_OBJECT, MAX_OBJECTS, MAX_ROOTS};
+use crate::reading::fault::DumpKind;
+use crate::reading::parts::{after_at, number_or_fault, root_or_fault, value_or_fault};
+use rh_layout::{MAX_FIELDS, RootId, Value};
+use rh_text::{is_formed, next_part, two_parts};
+
+/// The parts of a line that is well formed.
+#[tactic(auto, unfolding(crate::specs::texts::Reading::formed_parts))]
+pub fn formed_parts(line: &[u8]) -> Result<Option<&[u8]>, DumpKind>
+    ensures { Shows (λ x. parts_left x) result (formed_parts line.now) }
+{
+    if is_formed(line) {
+        Ok(Some(line))
+    } else {
+        Err(DumpKind::Form)
+    }
+}
+
+/// The part after this keyword, where these two are all.
+#[tactic(auto, unfolding(crate::specs::texts::Reading::part_after))]
+fn part_after<'a>(keyword: &[u8], rest: Option<&'a [u8]>) -> Result<&'a [u8], DumpKind>
+    ensures { Shows (λ x. x.now) result (part_after keyword.now (parts_left rest.entry)) }
+{
+    let (first, second) = two_parts(rest).ok_or(DumpKind::Form)?;
+    if first == keyword {
+        Ok(second)
+    } else {
+        Err(DumpKind::Form)
+    }
+}
+
+/// `roots R`.
+#[tactic(auto, unfolding(crate::specs::texts::Reading::roots_of_parts))]
+pub fn roots_of_parts(rest: Option<&[u8]>) -> Result<u32, DumpKind>
+    ensures { result ≡ roots_of_parts (parts_left rest.entry) }
+{
+    let count = part_after(b"roots", rest)?;
+    number_or_fault(MAX_ROOTS, count)
+}
+
+/// `objects N`, where so many objects were met.
+#[tactic(auto, unfolding(crate::specs::texts::Reading::objects_of_parts))]
+pub fn objects_of_parts(met: u32, rest: Option<&[u8]>) -> Result<u32, DumpKind>
+    ensures { result ≡ objects_of_parts met (parts_left rest.entry) }
+{
+    let part = part_after(b"objects", rest)?;
+    let count = number_or_fault(MAX_OBJECTS, part)?;
+    if count < met {
+        Err(DumpKind::Count)
+    } else {
+        Ok(count)
+    }
+}
+
+/// A root that isn't nil; how many objects there are isn't known yet.
+#[tactic(auto, unfolding(crate::specs::texts::Reading::root_of_parts))]
+pub fn root_of_parts(
+    last: Option<RootId>,
+    met: u32,
+    rest: Option<&[u8]>,
+) -> Result<(RootId, Value), DumpKind>
+    ensures value { result ≡ root_of_parts last met (parts_left rest.entry) }
+    ensures below { IfOk result (λ root. IsBelow MAX_OBJECTS root.1) }
+{
+    let (root, value) = two_parts(rest).ok_or(DumpKind::Form)?;
+    if value == b"nil".as_slice() {
+        return Err(DumpKind::Form);
+    }
+    let root = root_or_fault(last, root)?;
+    let value = value_or_fault(MAX_OBJECTS, met, value)?;
+    Ok((root, value))
+}
+
+/// What stands after the `@` of the first part, the second part, and the parts after it.
+#[tactic(auto, unfolding(crate::specs::texts::Part::object_head))]
+fn object_head(rest: Option<&[u8]>) -> Option<(&[u8], &[u8], Option<&[u8]>)>
+    ensures { option_map (λ x. (x.0.now, x.1.now, parts_left x.2)) result
+        ≡ object_head (parts_left rest.entry) }
+{
+    let (first, rest) = next_part(rest)?;
+    let own = after_at(first)?;
+    let (second, rest) = next_part(rest)?;
+    Some((own, second, rest))
+}
+
+/// An object's own number, which is the next and was met.
+#[tactic(auto, unfolding(crate::specs::texts::Reading::own_number))]
+fn own_number(number: u32, met: u32, digits: &[u8]) -> Result<u32, DumpKind>
+    ensures value { result ≡ own_number number met digits.now }
+    ensures met { OnOk result (number < met) }
+{
+    let own = number_or_fault(LAST_OBJECT, digits)?;
+    if own != number {
+        return Err(DumpKind::Order);
+    }
+    if number < met {
+        Ok(own)
+    } else {
+        Err(DumpKind::Count)
+    }
+}
+
+/// How many parts a line has.
+fn count_parts(line: &[u8]) -> usize
+    ensures { result ≡ length (parts_of line.now) }
+{
+    let mut count = 1usize;
+    for byte in line {
+        if *byte == b' ' {
+            count += 1;
+        }
+    }
+    count
+}
+
+/// How many parts are left of a line.
+fn count_left(rest: Option<&[u8]>) -> usize
+    ensures { result ≡ length (parts_left rest.entry) }
+{
+    match rest {
+        None => 0,
+        Some(line) => count_parts(line),
+    }
+}
+
+/// How many fields an object has, by its line, and the parts of their values, which are as many.
+#[tactic(auto, unfolding(crate::specs::texts::Putting::start_of))]
+pub fn start_of(number: u32, met: u32, line: &[u8]) -> Result<(u32, Option<&[u8]>), DumpKind>
+    ensures value { Shows (λ x. (x.0, parts_left x.1)) result (start_of number met line.now) }
+    ensures met { OnOk result (number < met) }
+    ensures count { IfOk result (λ x. length (parts_left x.1) ≡ x.0) }
+{
+    let parts = formed_parts(line)?;
+    let (own, fields, values) = object_head(parts).ok_or(DumpKind::Form)?;
+    own_number(number, met, own)?;
+    let count = number_or_fault(MAX_FIELDS, fields)?;
+    if count_left(values) == count as usize {
+        Ok((count, values))
+    } else {
+        Err(DumpKind::Form)
+    }
+}
