@@ -71,7 +71,8 @@ IsDue dues.End = ⊤
 IsDue dues.Nothing = ⊤
 
 -- what a function returned, seen by view, is what reading gives, unless memory ran out
-abbrev pub Tells : {X Y : Type 0} → (X → Y) → Result X LineError → Result Y DumpKind → Type 0
+abbrev pub Tells : {Returned Told : Type 0} → (Returned → Told) → Result Returned LineError
+    → Result Told DumpKind → Type 0
 Tells view (Ok x) read = read ≡ Ok (view x)
 Tells view (Err (Kind kind)) read = read ≡ Err kind
 Tells view (Err OutOfMemory) read = Unit {0}
@@ -82,7 +83,8 @@ error_in number (Kind kind) = errors.Fault (fault_at number kind)
 error_in number OutOfMemory = errors.OutOfMemory
 
 -- the same of a text at hand, of which no read is made
-abbrev pub Gives : {X Y : Type 0} → (X → Y) → Result X DumpReadError → Result Y DumpFault → Type 0
+abbrev pub Gives : {Returned Told : Type 0} → (Returned → Told) → Result Returned DumpReadError
+    → Result Told DumpFault → Type 0
 Gives view (Ok x) read = read ≡ Ok (view x)
 Gives view (Err (errors.Fault fault)) read = read ≡ Err fault
 Gives view (Err errors.Read) read = ⊥
@@ -90,7 +92,8 @@ Gives view (Err errors.OutOfMemory) read = Unit {0}
 
 -- How reading a dump ends, by the input that a reader had: with the graph whose dump it is, seen by
 -- view, or with its first fault. A read that failed and want of memory say nothing of it.
-abbrev pub Reads : {X : Type 0} → (X → GraphState) → Result X DumpReadError → List ℕ → Type 0
+abbrev pub Reads : {Returned : Type 0} → (Returned → GraphState)
+    → Result Returned DumpReadError → List ℕ → Type 0
 Reads view (Ok x) input = graph_of_text input ≡ Ok (view x)
 Reads view (Err (errors.Fault fault)) input = graph_of_text input ≡ Err fault
 Reads view (Err errors.Read) input = Unit {0}
@@ -98,14 +101,15 @@ Reads view (Err errors.OutOfMemory) input = Unit {0}
 
 -- All bytes that a reader had were taken where it gave a graph; where it gave a fault, all of them
 -- or more than a dump may have.
-abbrev pub TakesAll : {X : Type 0} → Result X DumpReadError → List ℕ → Option (List ℕ) → Type 0
+abbrev pub TakesAll : {Returned : Type 0} → Result Returned DumpReadError → List ℕ
+    → Option (List ℕ) → Type 0
 TakesAll (Ok x) bytes left = IsAtEnd left
 TakesAll (Err (errors.Fault fault)) bytes left = (268435456 < length bytes) ⊎ IsAtEnd left
 TakesAll (Err errors.Read) bytes left = Unit {0}
 TakesAll (Err errors.OutOfMemory) bytes left = Unit {0}
 
 -- the reader gave some bytes, and reading ends by these
-abbrev pub ReadsDump : {X : Type 0} → Option (List ℕ) → Option (List ℕ) → (X → GraphState)
-    → Result X DumpReadError → Type 0
+abbrev pub ReadsDump : {Returned : Type 0} → Option (List ℕ) → Option (List ℕ)
+    → (Returned → GraphState) → Result Returned DumpReadError → Type 0
 ReadsDump old new view result =
     (bytes : List ℕ) × Consumes old new bytes × Reads view result bytes × TakesAll result bytes new
