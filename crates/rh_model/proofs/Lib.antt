@@ -1,12 +1,7 @@
-mod ReachedPaired
-mod SameGraphTransitive
-mod SameGraphSymmetric
+mod same_graphs
 mod PlainAsDefined
 mod RefusalOrder
-mod SameGraphReflexive
 mod ReachedLeast
-mod SameValueEqual
 mod CommandEffects
 mod StaysWellFormed
-mod SameGraphReached
 mod Stored

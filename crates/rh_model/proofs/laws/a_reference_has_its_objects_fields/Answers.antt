@@ -1,4 +1,4 @@
-use Rattle.rh_model.proofs.SameGraphReached.{value_fields-reference}
+use Rattle.rh_model.proofs.same_graphs.SameGraphReached.{value_fields-reference}
 use Rattle.rh_model.proofs.laws.a_reference_has_its_objects_fields.Goals as goal
 
 pub returns : goal.returns

@@ -1,4 +1,4 @@
-use Rattle.rh_model.proofs.ReachedPaired.{reached_there, reached_here}
+use Rattle.rh_model.proofs.same_graphs.ReachedPaired.{reached_there, reached_here}
 use Rattle.rh_model.proofs.laws.pairs_what_is_reached.Goals as goal
 
 pub returns-clause-there : goal.returns-clause-there

@@ -1,4 +1,4 @@
-use Rattle.rh_model.proofs.SameGraphSymmetric.{SameGraph-symmetric, SameGraph-plain_symmetric}
+use Rattle.rh_model.proofs.same_graphs.SameGraphSymmetric.{SameGraph-symmetric, SameGraph-plain_symmetric}
 use Rattle.rh_model.proofs.laws.same_graph_is_symmetric.Goals as goal
 
 pub returns-clause-limited : goal.returns-clause-limited
