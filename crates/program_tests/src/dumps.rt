@@ -33,7 +33,8 @@ const TWO_ROOTS: (&[u8], &[u8]) = (
 /// An object that refers to itself, and twice to another, which is met first through a field; and
 /// one that no root reaches.
 const SHARED: (&[u8], &[u8]) = (
-    b"heap 64 8 8 2 3\n1 alloc 1.0 3\n1 alloc 1.2 3\n1 alloc 1.1 0\n1 store 1.0 0 1.0\n1 store 1.0 1 1.1\n1 store 1.0 2 1.1\n1 drop 1.1\n1 drop 1.2\n",
+    b"heap 64 8 8 2 3\n1 alloc 1.0 3\n1 alloc 1.2 3\n1 alloc 1.1 0\n1 store 1.0 0 1.0\n\
+        1 store 1.0 1 1.1\n1 store 1.0 2 1.1\n1 drop 1.1\n1 drop 1.2\n",
     b"rheap 1\nroots 1\n1.0 @0\nobjects 2\n@0 3 @0 @1 @1\n@1 0\nend\n",
 );
 

@@ -1,8 +1,8 @@
 //! Histories: recorded, checked, reported, written and read.
 
 use crate::devices::SlowWriter;
-use crate::driving::{REPLAY, drives_to};
 use crate::expectations::{expect_equal, expect_refusals};
+use crate::program::driving::{REPLAY, drives_to};
 use crate::texts::{RIGHT, RIGHT_REPORT, WRONG, WRONG_REPORT, repeated};
 use refusing::{RefusingAllocator, refused_in_turn};
 use rh_layout::{Command, Refusal, Reply, RootId};
@@ -17,7 +17,8 @@ use std::test::Fail;
 
 /// A history whose third answer is another number, and the report on it.
 const OTHER_NUMBER: &[u8] =
-    b"history 2 2\n1 alloc 1.0 1 = object 1\n1 store 1.0 0 5 = done\n1 load 1.1 1.0 0 = int 6\nend 3\n";
+    b"history 2 2\n1 alloc 1.0 1 = object 1\n1 store 1.0 0 5 = done\n1 load 1.1 1.0 0 = int 6\n\
+        end 3\n";
 
 const OTHER_NUMBER_REPORT: &[u8] = b"owner 1 calls 3\nwrong 3 expected int 5\n";
 

@@ -2,11 +2,7 @@
 #![tactic(auto)]
 
 #[cfg(test)]
-mod command_line;
-#[cfg(test)]
 mod devices;
-#[cfg(test)]
-mod driving;
 #[cfg(test)]
 mod dumps;
 #[cfg(test)]
@@ -14,20 +10,12 @@ mod expectations;
 #[cfg(test)]
 mod failed_calls;
 #[cfg(test)]
-mod faults;
-#[cfg(test)]
 mod histories;
 #[cfg(test)]
-mod leading;
-#[cfg(test)]
-mod reading;
+mod program;
 #[cfg(test)]
 mod reading_dumps;
 #[cfg(test)]
-mod running;
-#[cfg(test)]
-mod terminal;
-#[cfg(test)]
 mod texts;
 #[cfg(test)]
-mod trays;
+mod traces;

@@ -13,7 +13,8 @@ use std::test::Fail;
 /// An object that holds each kind of value, itself among them, and twice another, which is met
 /// first through a field; and two roots.
 const EACH_KIND: &[u8] =
-    b"rheap 1\nroots 2\n0.3 @0\n15.9 -2305843009213693952\nobjects 2\n@0 5 nil @0 0 @1 @1\n@1 0\nend\n";
+    b"rheap 1\nroots 2\n0.3 @0\n15.9 -2305843009213693952\nobjects 2\n@0 5 nil @0 0 @1 @1\n@1 0\n\
+        end\n";
 
 /// The dump of a heap without objects.
 const EMPTY: &[u8] = b"rheap 1\nroots 0\nobjects 0\nend\n";

@@ -3,7 +3,7 @@ use Rattle.std.proofs.Common.{sym, subst}
 use Rattle.rh_space.specs.Space.{SpaceState, new_object}
 use Rattle.rh_place.specs.Joint.{JointState}
 use Rattle.rh_place.specs.Mirrors.{Agrees, Mirrors}
-use Rattle.layer_tests.proofs.place.Spaces.make.Goals as goal
+use Rattle.layer_tests.proofs.layers.place.Spaces.make.Goals as goal
 
 -- either way the space is the joint's
 made : {E : Type 0} (P : SpaceState → Type 0) (r : Result ℕ E) (s s' : SpaceState) (n : ℕ) → IfOk r (λ a. s' ≡ record s { objects = s.objects ++ new_object n ∷ [] }) → OnErr r (s' ≡ s) → P s → P (record s { objects = s.objects ++ new_object n ∷ [] }) → P s'

@@ -4,7 +4,7 @@ use Rattle.std.proofs.Common.{arith, ap, sym, ◌∙◌}
 use Rattle.rh_space.specs.Space.{Object, fields_at}
 use Rattle.rh_place.specs.lemmas.Placements.{is_placed-forwarding}
 use Rattle.rh_place.specs.lemmas.Mirrors.{object_at-placed}
-use Rattle.layer_tests.proofs.place.Spaces.hold.Goals as goal
+use Rattle.layer_tests.proofs.layers.place.Spaces.hold.Goals as goal
 
 pub accept-requires-clause-place : goal.accept-requires-clause-place
 accept-requires-clause-place g c =

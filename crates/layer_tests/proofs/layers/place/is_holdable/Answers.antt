@@ -1,7 +1,7 @@
 use Rattle.std.specs.Prelude.{◌≡◌, IsTrue, is_some}
 use Rattle.std.proofs.Common.{ap, ◌∙◌, subst}
 use Rattle.rh_place.specs.lemmas.Placements.{is_some-forwarding}
-use Rattle.layer_tests.proofs.place.is_holdable.Goals as goal
+use Rattle.layer_tests.proofs.layers.place.is_holdable.Goals as goal
 
 pub returns-in-Ref : goal.returns-in-Ref
 returns-in-Ref c told =

@@ -1,5 +1,5 @@
 use Rattle.std.proofs.Common.{refl, ◌∙◌}
-use Rattle.layer_tests.proofs.giving.given_late.Goals as goal
+use Rattle.layer_tests.proofs.heaps.giving.given_late.Goals as goal
 
 pub returns : goal.returns
 returns g c = λ on other.

@@ -84,11 +84,13 @@ const PLACED: &[u8] =
 
 /// Lines of a trace that has 64 trays, t1 to t64.
 const BEYOND: &[u8] =
-    b"deal copies 0 t65\ndeal entries 1 t65\ndeal entries 1 t64\njoin t65 t1\njoin t65 t66\njoin t1 t64\ndeal copies 1 t64\ngive t65\ntrays\n";
+    b"deal copies 0 t65\ndeal entries 1 t65\ndeal entries 1 t64\njoin t65 t1\njoin t65 t66\n\
+        join t1 t64\ndeal copies 1 t64\ngive t65\ntrays\n";
 
 /// What is answered to these, before the trays.
 const BEYOND_ANSWERS: &[u8] =
-    b"refused TooManyTrays\nrefused TooManyTrays\nrefused NothingToDeal\nrefused TooManyTrays\nrefused NoTray\njoined 0\ndealt 1 passed 0\nrefused NoTray\n";
+    b"refused TooManyTrays\nrefused TooManyTrays\nrefused NothingToDeal\nrefused TooManyTrays\n\
+        refused NoTray\njoined 0\ndealt 1 passed 0\nrefused NoTray\n";
 
 /// The last tray, and what is counted.
 const BEYOND_LAST: &[u8] =

@@ -1,7 +1,7 @@
 //! The program, from its arguments to its status.
 
 use crate::expectations::{expect_equal, expect_prefix};
-use crate::terminal::Terminal;
+use crate::program::terminal::Terminal;
 use crate::texts::{WITHOUT_FIELDS, WITHOUT_FIELDS_ANSWERS};
 use rh_cli::{Ask, LineFault, Subcommand, play, read_words, tell};
 use std::cell::RefCell;

@@ -1,7 +1,7 @@
 //! Texts with faults, and what the program tells of them.
 
-use crate::driving::{DUMP, REPLAY, RUN, drives_to};
 use crate::expectations::{expect_equal, expect_text};
+use crate::program::driving::{DUMP, REPLAY, RUN, drives_to};
 use crate::texts::repeated;
 use rh_cli::Ask;
 use rh_dump::{DumpFault, DumpKind, DumpReadError};

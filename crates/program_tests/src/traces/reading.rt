@@ -17,15 +17,23 @@ use std::test::Fail;
 
 /// A first line, and one line of each keyword.
 const KEYWORDS: &[u8] =
-    b"heap 16 8 4 2 2\n1 alloc 1.0 2\n1 load 1.1 1.0 0\n1 store 1.0 0 5\n1 copy 1.1 0.0\n1 same 1.0 1.1\n1 drop 1.0\nbegin\nshade 1.0\ndeal copies 4294967295 t\ndeal entries 0 a_2z9\ngive abcdefghijklmnop\njoin t a_2z9\nflip\ntrays\nstat\ndump\n";
+    b"heap 16 8 4 2 2\n1 alloc 1.0 2\n1 load 1.1 1.0 0\n1 store 1.0 0 5\n1 copy 1.1 0.0\n\
+        1 same 1.0 1.1\n1 drop 1.0\nbegin\nshade 1.0\ndeal copies 4294967295 t\n\
+        deal entries 0 a_2z9\ngive abcdefghijklmnop\njoin t a_2z9\nflip\ntrays\nstat\ndump\n";
 
 /// Stores of each kind of operand, and lines of the greatest numbers.
 const OPERANDS: &[u8] =
-    b"heap 4294967295 0 1 2 3\n1 store 1.0 1 nil\n1 store 1.0 1 0\n1 store 1.0 1 -1\n1 store 1.0 1 9223372036854775807\n1 store 1.0 1 -9223372036854775808\n1 store 1.0 1 15.255\n4294967295 store 4294967295.4294967295 4294967295 4294967295.4294967295\n4294967295 store 4294967295.4294967295 4294967295 -9223372036854775808\n4294967295 load 4294967295.0 0.4294967295 4294967295\n0 drop 15.255\n";
+    b"heap 4294967295 0 1 2 3\n1 store 1.0 1 nil\n1 store 1.0 1 0\n1 store 1.0 1 -1\n\
+        1 store 1.0 1 9223372036854775807\n1 store 1.0 1 -9223372036854775808\n\
+        1 store 1.0 1 15.255\n\
+        4294967295 store 4294967295.4294967295 4294967295 4294967295.4294967295\n\
+        4294967295 store 4294967295.4294967295 4294967295 -9223372036854775808\n\
+        4294967295 load 4294967295.0 0.4294967295 4294967295\n0 drop 15.255\n";
 
 /// A trace with a line that asks for more fields than an object may have.
 const BOUNDARY: &[u8] =
-    b"heap 16 8 4 2 2\n1 alloc 1.0 2\n1 alloc 1.1 1\n1 alloc 0.0 4096\n1 alloc 0.0 8\n1 alloc 0.0 7\n1 alloc 0.1 0\n";
+    b"heap 16 8 4 2 2\n1 alloc 1.0 2\n1 alloc 1.1 1\n1 alloc 0.0 4096\n1 alloc 0.0 8\n\
+        1 alloc 0.0 7\n1 alloc 0.1 0\n";
 
 const A: RootId = RootId { owner: 1, slot: 0 };
 

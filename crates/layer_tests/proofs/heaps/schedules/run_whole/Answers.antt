@@ -3,7 +3,7 @@ use Rattle.rh_layout.specs.declared.kind.Kind.TheVariants.{Copies, Entries}
 use Rattle.rh_core.specs.Heap.{HeapState}
 use Rattle.rh_core.specs.Dealing.{undealt_count}
 use Rattle.rh_core.specs.runs.Schedules.{no_dealing}
-use Rattle.layer_tests.proofs.schedules.run_whole.Goals as goal
+use Rattle.layer_tests.proofs.heaps.schedules.run_whole.Goals as goal
 
 pub returns : goal.returns
 returns g c = λ begun copies entries given.

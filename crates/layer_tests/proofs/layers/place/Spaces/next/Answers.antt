@@ -1,7 +1,7 @@
 use Rattle.std.specs.Prelude.{◌≡◌}
 use Rattle.std.proofs.Common.{sym, subst}
 use Rattle.rh_place.specs.Mirrors.{Agrees, Mirrors}
-use Rattle.layer_tests.proofs.place.Spaces.next.Goals as goal
+use Rattle.layer_tests.proofs.layers.place.Spaces.next.Goals as goal
 
 pub invariant_of-self : goal.invariant_of-self
 invariant_of-self c =

@@ -1,6 +1,6 @@
 use Rattle.std.proofs.Common.{ap, ◌∙◌}
 use Rattle.rh_core.specs.Heap.{HeapState}
-use Rattle.layer_tests.proofs.cycle.begins_after.Goals as goal
+use Rattle.layer_tests.proofs.heaps.cycle.begins_after.Goals as goal
 
 pub returns : goal.returns
 returns g c = λ on.

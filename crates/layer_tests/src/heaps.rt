@@ -1,0 +1,8 @@
+//! The heap, and runs of events on it.
+
+mod cycle;
+mod giving;
+mod heap;
+mod random_events;
+mod runs;
+mod schedules;

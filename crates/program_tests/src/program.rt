@@ -1,0 +1,6 @@
+//! The program: its arguments, its commands, and what it tells of texts with faults.
+
+mod command_line;
+pub mod driving;
+mod faults;
+mod terminal;
