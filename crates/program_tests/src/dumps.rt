@@ -6,7 +6,7 @@ use rh_core::{Config, Heap};
 use rh_dump::limits::MAX_OBJECTS;
 use rh_dump::{Graph, plain_graph, same_text, write_dump};
 use rh_model::Plain;
-use rh_trace::{Asked, graph, parse};
+use rh_trace::{Request, graph, parse};
 use std::alloc::Allocator;
 use std::process::Abort;
 
@@ -41,8 +41,8 @@ const SHARED: (&[u8], &[u8]) = (
 /// Plays the commands of a trace on both heaps, which answer the same.
 fn play(rt: &(impl AllocGlobal + Abort), text: &[u8], heap: &mut Heap, plain: &mut Plain) {
     let trace = parse(rt.alloc(), text).ok().expect(rt, "a trace");
-    for line in trace.lines() {
-        if let Asked::Command { owner, command } = line.asks() {
+    for request in trace.requests() {
+        if let Request::Command { owner, command } = *request {
             let answer = heap.command(owner, &command);
             expect_equal(rt, plain.command(owner, &command).ok(), answer.ok());
         }

@@ -1,3 +1,4 @@
 pub mod LeadingLines
+pub mod OneRequest
 pub mod WorkedReading
 pub mod WorkedRefusals

@@ -3,6 +3,7 @@ use Rattle.std.proofs.Common.{◌≡◌, ℕ, List, [], ◌∷◌, ◌++◌, Res
 use Rattle.std.specs.Prelude.{codes, map}
 use Rattle.std.specs.Fmt.{digits}
 use Rattle.std.specs.List.{flat_map}
+use Rattle.rh_layout.specs.declared.command.Command.TheVariants.{Alloc, Load, Store, Copy, Same, Drop}
 use Rattle.rh_layout.specs.declared.kind.Kind.TheVariants.{Copies, Entries}
 use Rattle.rh_text.specs.Number.{number_of, integer_of}
 use Rattle.rh_text.specs.Parts.{is_formed, one_part, two_parts, three_parts, six_parts}
@@ -10,12 +11,12 @@ use Rattle.rh_text.specs.Root.{root_of}
 use Rattle.rh_syntax.specs.declared.fault.Kind.{Kind}
 use Rattle.rh_syntax.specs.declared.fault.Kind.TheVariants.{Empty, Cut, Form, Header, Word, Number, Root, Tray}
 use Rattle.rh_syntax.specs.declared.fault.TraceFault.{TraceFault}
-use Rattle.rh_syntax.specs.declared.line.Line.{Line}
-use Rattle.rh_syntax.specs.declared.line.Line.TheVariants.{Alloc, Load, Store, Copy, Same, Drop, Begin, Shade, Deal, Give, Join, Flip, Trays, Stat, Dump}
+use Rattle.rh_syntax.specs.declared.request.Request.{Request}
+use Rattle.rh_syntax.specs.declared.request.Request.TheVariants.{Command, Begin, Shade, Deal, Give, Join, Flip, Trays, Stat, Dump}
 use Rattle.rh_syntax.specs.Spelling.{Script}
 use Rattle.rh_layout.specs.declared.command.RootId.{RootId}
 use Rattle.rh_layout.specs.declared.command.Operand.TheVariants as operands
-use Rattle.rh_syntax.specs.Reading.{operand_or_fault, alloc_of, load_of, store_of, copy_of, same_of, drop_of, command_or_fault, kind_or_fault, shade_of, deal_of, give_of, join_of, keyword_line, line_of_parts, sizes_of, header_of_parts, checked_parts, line_or_kind, header_or_kind, lines_from, script_or_fault, trace_of}
+use Rattle.rh_syntax.specs.Reading.{operand_or_fault, alloc_of, load_of, store_of, copy_of, same_of, drop_of, command_or_fault, kind_or_fault, shade_of, deal_of, give_of, join_of, keyword_request, request_of_parts, sizes_of, header_of_parts, checked_parts, request_or_kind, header_or_kind, requests_from, script_or_fault, trace_of}
 use Rattle.rh_syntax.specs.TrayName.{is_tray_name}
 
 -- so many lines, each ended
@@ -46,11 +47,11 @@ unfolding digits script_or_fault header_or_kind checked_parts fault
 cut_before_form = refl
 
 form_before_number : trace_of (text (header ∷ codes "1x drop" ∷ [])) ≡ fault 2 Form
-unfolding digits script_or_fault header_or_kind line_or_kind lines_from checked_parts is_formed header_of_parts six_parts sizes_of number_of line_of_parts command_or_fault drop_of one_part text header fault
+unfolding digits script_or_fault header_or_kind request_or_kind requests_from checked_parts is_formed header_of_parts six_parts sizes_of number_of request_of_parts command_or_fault drop_of one_part text header fault
 form_before_number = refl
 
 dotted_operand : trace_of (text (header ∷ codes "1 store 1.0 0 -1.0" ∷ [])) ≡ fault 2 Root
-unfolding digits script_or_fault header_or_kind line_or_kind lines_from checked_parts is_formed header_of_parts six_parts sizes_of number_of line_of_parts command_or_fault store_of three_parts root_of operand_or_fault text header fault
+unfolding digits script_or_fault header_or_kind request_or_kind requests_from checked_parts is_formed header_of_parts six_parts sizes_of number_of request_of_parts command_or_fault store_of three_parts root_of operand_or_fault text header fault
 dotted_operand = refl
 
 -- lines, each with the kind of its fault after a header
@@ -80,18 +81,18 @@ found : List ℕ → Result Script TraceFault
 found line = trace_of (text (header ∷ line ∷ []))
 
 faults : map (λ (row : List ℕ × Kind). found row.0) faulty ≡ map (λ (row : List ℕ × Kind). fault 2 row.1) faulty
-unfolding digits script_or_fault header_or_kind line_or_kind lines_from checked_parts is_formed header_of_parts six_parts sizes_of number_of line_of_parts command_or_fault keyword_line shade_of deal_of give_of join_of one_part two_parts three_parts kind_or_fault root_of is_tray_name text header fault faulty found
+unfolding digits script_or_fault header_or_kind request_or_kind requests_from checked_parts is_formed header_of_parts six_parts sizes_of number_of request_of_parts command_or_fault keyword_request shade_of deal_of give_of join_of one_part two_parts three_parts kind_or_fault root_of is_tray_name text header fault faulty found
 faults = refl
 
 -- each line of a cycle, with the greatest number and the longest name
 cycle : List (List ℕ)
 cycle = codes "begin" ∷ codes "shade 1.0" ∷ codes "deal copies 4294967295 a" ∷ codes "deal entries 0 b_9" ∷ codes "give abcdefghijklmnop" ∷ codes "join a b_9" ∷ codes "flip" ∷ codes "trays" ∷ codes "stat" ∷ codes "dump" ∷ []
 
-cycle_lines : List Line
-cycle_lines = Begin ∷ Shade (record { owner = 1; slot = 0 }) ∷ Deal Copies 4294967295 (codes "a") ∷ Deal Entries 0 (codes "b_9") ∷ Give (codes "abcdefghijklmnop") ∷ Join (codes "a") (codes "b_9") ∷ Flip ∷ Trays ∷ Stat ∷ Dump ∷ []
+cycle_requests : List Request
+cycle_requests = Begin ∷ Shade (record { owner = 1; slot = 0 }) ∷ Deal Copies 4294967295 (codes "a") ∷ Deal Entries 0 (codes "b_9") ∷ Give (codes "abcdefghijklmnop") ∷ Join (codes "a") (codes "b_9") ∷ Flip ∷ Trays ∷ Stat ∷ Dump ∷ []
 
-read : trace_of (text (header ∷ cycle)) ≡ Ok (record { header = record { words = 16; ratio = 8; log = 4; owners = 2; slots = 2 }; lines = cycle_lines })
-unfolding digits script_or_fault header_or_kind line_or_kind lines_from checked_parts is_formed header_of_parts six_parts sizes_of number_of line_of_parts keyword_line shade_of deal_of give_of join_of one_part two_parts three_parts kind_or_fault root_of is_tray_name text header cycle cycle_lines
+read : trace_of (text (header ∷ cycle)) ≡ Ok (record { header = record { words = 16; ratio = 8; log = 4; owners = 2; slots = 2 }; requests = cycle_requests })
+unfolding digits script_or_fault header_or_kind request_or_kind requests_from checked_parts is_formed header_of_parts six_parts sizes_of number_of request_of_parts keyword_request shade_of deal_of give_of join_of one_part two_parts three_parts kind_or_fault root_of is_tray_name text header cycle cycle_requests
 read = refl
 
 -- a root of an owner and a slot
@@ -102,9 +103,9 @@ root owner slot = record { owner = owner; slot = slot }
 commands : List (List ℕ)
 commands = codes "3 alloc 1.0 2" ∷ codes "3 load 1.1 1.0 4" ∷ codes "3 store 1.0 4 nil" ∷ codes "3 copy 0.1 1.0" ∷ codes "3 same 1.0 1.1" ∷ codes "3 drop 1.0" ∷ []
 
-command_lines : List Line
-command_lines = Alloc 3 (root 1 0) 2 ∷ Load 3 (root 1 1) (root 1 0) 4 ∷ Store 3 (root 1 0) 4 operands.Nil ∷ Copy 3 (root 0 1) (root 1 0) ∷ Same 3 (root 1 0) (root 1 1) ∷ Drop 3 (root 1 0) ∷ []
+command_requests : List Request
+command_requests = Command 3 (Alloc (root 1 0) 2) ∷ Command 3 (Load (root 1 1) (root 1 0) 4) ∷ Command 3 (Store (root 1 0) 4 operands.Nil) ∷ Command 3 (Copy (root 0 1) (root 1 0)) ∷ Command 3 (Same (root 1 0) (root 1 1)) ∷ Command 3 (Drop (root 1 0)) ∷ []
 
-read_commands : trace_of (text (header ∷ commands)) ≡ Ok (record { header = record { words = 16; ratio = 8; log = 4; owners = 2; slots = 2 }; lines = command_lines })
-unfolding digits script_or_fault header_or_kind line_or_kind lines_from checked_parts is_formed header_of_parts six_parts sizes_of number_of integer_of line_of_parts command_or_fault alloc_of load_of store_of copy_of same_of drop_of one_part two_parts three_parts root_of operand_or_fault text header commands command_lines root
+read_commands : trace_of (text (header ∷ commands)) ≡ Ok (record { header = record { words = 16; ratio = 8; log = 4; owners = 2; slots = 2 }; requests = command_requests })
+unfolding digits script_or_fault header_or_kind request_or_kind requests_from checked_parts is_formed header_of_parts six_parts sizes_of number_of integer_of request_of_parts command_or_fault alloc_of load_of store_of copy_of same_of drop_of one_part two_parts three_parts root_of operand_or_fault text header commands command_requests root
 read_commands = refl

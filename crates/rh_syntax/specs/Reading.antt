@@ -19,9 +19,8 @@ use Rattle.rh_syntax.specs.declared.fault.TraceFault.{TraceFault}
 use Rattle.rh_syntax.specs.declared.fault.ParseError.{ParseError}
 use Rattle.rh_syntax.specs.declared.fault.ParseError.TheVariants as errors
 use Rattle.rh_syntax.specs.declared.line as declared
-use Rattle.rh_syntax.specs.declared.line.Line.{Line}
-use Rattle.rh_syntax.specs.declared.line.Line.TheVariants as lines
-use Rattle.rh_syntax.specs.Line.{line_of}
+use Rattle.rh_syntax.specs.declared.request.Request.{Request}
+use Rattle.rh_syntax.specs.declared.request.Request.TheVariants as requests
 use Rattle.rh_syntax.specs.TrayName.{tray_name_of}
 use Rattle.rh_syntax.specs.Spelling.{Script}
 
@@ -142,63 +141,64 @@ owned_command (first ∷ rest) =
 unfoldable pub single_command : List ℕ → Result (ℕ × Command) Kind
 single_command line = if not (is_formed line) then Err Form else owned_command (parts_of line)
 
--- this line, where nothing stands after its keyword
-abbrev pub alone : List (List ℕ) → Line → Result Line Kind
-alone [] line = Ok line
-alone (arg ∷ args) line = Err Form
+-- this request, where nothing stands after its keyword
+abbrev pub alone : List (List ℕ) → Request → Result Request Kind
+alone [] request = Ok request
+alone (arg ∷ args) request = Err Form
 
 -- shade ROOT
-unfoldable pub shade_of : List (List ℕ) → Result Line Kind
+unfoldable pub shade_of : List (List ℕ) → Result Request Kind
 shade_of args = do
   part ← or_fault (one_part args) Form
   root ← root_or_fault part
-  Ok (lines.Shade root)
+  Ok (requests.Shade root)
 
 -- deal copies MOST TRAY, or deal entries MOST TRAY
-unfoldable pub deal_of : List (List ℕ) → Result Line Kind
+unfoldable pub deal_of : List (List ℕ) → Result Request Kind
 deal_of args = do
   parts ← or_fault (three_parts args) Form
   kind ← kind_or_fault parts.0
   most ← number_or_fault parts.1
   tray ← tray_or_fault parts.2
-  Ok (lines.Deal kind most tray)
+  Ok (requests.Deal kind most tray)
 
 -- give TRAY
-unfoldable pub give_of : List (List ℕ) → Result Line Kind
+unfoldable pub give_of : List (List ℕ) → Result Request Kind
 give_of args = do
   part ← or_fault (one_part args) Form
   tray ← tray_or_fault part
-  Ok (lines.Give tray)
+  Ok (requests.Give tray)
 
 -- join TRAY TRAY
-unfoldable pub join_of : List (List ℕ) → Result Line Kind
+unfoldable pub join_of : List (List ℕ) → Result Request Kind
 join_of args = do
   parts ← or_fault (two_parts args) Form
   into ← tray_or_fault parts.0
   other ← tray_or_fault parts.1
-  Ok (lines.Join into other)
+  Ok (requests.Join into other)
 
--- a line that begins with its keyword
-unfoldable pub keyword_line : List ℕ → List (List ℕ) → Result Line Kind
-keyword_line keyword args =
-    if bytes_eq keyword (codes "begin") then alone args lines.Begin
+-- the request of a line that begins with its keyword
+unfoldable pub keyword_request : List ℕ → List (List ℕ) → Result Request Kind
+keyword_request keyword args =
+    if bytes_eq keyword (codes "begin") then alone args requests.Begin
     else if bytes_eq keyword (codes "shade") then shade_of args
     else if bytes_eq keyword (codes "deal") then deal_of args
     else if bytes_eq keyword (codes "give") then give_of args
     else if bytes_eq keyword (codes "join") then join_of args
-    else if bytes_eq keyword (codes "flip") then alone args lines.Flip
-    else if bytes_eq keyword (codes "trays") then alone args lines.Trays
-    else if bytes_eq keyword (codes "stat") then alone args lines.Stat
-    else if bytes_eq keyword (codes "dump") then alone args lines.Dump
+    else if bytes_eq keyword (codes "flip") then alone args requests.Flip
+    else if bytes_eq keyword (codes "trays") then alone args requests.Trays
+    else if bytes_eq keyword (codes "stat") then alone args requests.Stat
+    else if bytes_eq keyword (codes "dump") then alone args requests.Dump
     else Err Word
 
--- a line after the first: a command line where it begins with an owner, and else by its keyword
-unfoldable pub line_of_parts : List (List ℕ) → Result Line Kind
-line_of_parts [] = Err Form
-line_of_parts (first ∷ rest) =
+-- the request of a line after the first: a command where it begins with an owner, and else by its
+-- keyword
+unfoldable pub request_of_parts : List (List ℕ) → Result Request Kind
+request_of_parts [] = Err Form
+request_of_parts (first ∷ rest) =
     if begins_with_digit first
-    then (command_or_fault first rest >>= λ owned. Ok (line_of owned.0 owned.1))
-    else keyword_line first rest
+    then (command_or_fault first rest >>= λ owned. Ok (requests.Command owned.0 owned.1))
+    else keyword_request first rest
 
 -- WORDS RATIO LOG OWNERS SLOTS
 unfoldable pub sizes_of : List ℕ → List ℕ → List ℕ → List ℕ → List ℕ
@@ -225,11 +225,11 @@ checked_parts number line =
     else if not (is_formed line.bytes) then Err Form
     else Ok (parts_of line.bytes)
 
--- a raw line after the first, by its limits, its form and its parts
-unfoldable pub line_or_kind : ℕ → RawLine → Result Line Kind
-line_or_kind number line = do
+-- the request of a raw line after the first, by its limits, its form and its parts
+unfoldable pub request_or_kind : ℕ → RawLine → Result Request Kind
+request_or_kind number line = do
   parts ← checked_parts number line
-  line_of_parts parts
+  request_of_parts parts
 
 -- the first raw line, by its limits, its form and its parts
 unfoldable pub header_or_kind : RawLine → Result declared.Header.Header Kind
@@ -241,29 +241,29 @@ header_or_kind line = do
 abbrev pub fault_at : ℕ → Kind → TraceFault
 fault_at number kind = record { line = number; kind = kind }
 
--- a raw line after the first, its fault named with the line
-abbrev pub line_or_fault : ℕ → RawLine → Result Line TraceFault
-line_or_fault number line = with_fault (fault_at number) (line_or_kind number line)
+-- the request of a raw line after the first, its fault named with the line
+abbrev pub request_or_fault : ℕ → RawLine → Result Request TraceFault
+request_or_fault number line = with_fault (fault_at number) (request_or_kind number line)
 
 -- the first raw line, its fault named with the line
 abbrev pub header_or_fault : RawLine → Result declared.Header.Header TraceFault
 header_or_fault line = with_fault (fault_at 1) (header_or_kind line)
 
--- the lines from this number on
-unfoldable pub lines_from : ℕ → List RawLine → Result (List Line) TraceFault
-lines_from number [] = Ok []
-lines_from number (line ∷ lines) = do
-  first ← line_or_fault number line
-  others ← lines_from (number + 1) lines
+-- the requests of the lines from this number on
+unfoldable pub requests_from : ℕ → List RawLine → Result (List Request) TraceFault
+requests_from number [] = Ok []
+requests_from number (line ∷ lines) = do
+  first ← request_or_fault number line
+  others ← requests_from (number + 1) lines
   Ok (first ∷ others)
 
--- the header, and then the lines
+-- the header, and then the requests of the lines after it
 unfoldable pub script_or_fault : List RawLine → Result Script TraceFault
 script_or_fault [] = Err (fault_at 1 Empty)
 script_or_fault (line ∷ lines) = do
   header ← header_or_fault line
-  lines ← lines_from 2 lines
-  Ok (record { header = header; lines = lines })
+  requests ← requests_from 2 lines
+  Ok (record { header = header; requests = requests })
 
 -- the trace that the text spells, or its first fault
 abbrev pub trace_of : List ℕ → Result Script TraceFault

@@ -11,17 +11,16 @@ use Rattle.rh_layout.specs.declared.kind.Kind.TheVariants.{Copies, Entries}
 use Rattle.rh_text.specs.Number.{IsU32, IsI64}
 use Rattle.rh_text.specs.Parts.{spell_parts}
 use Rattle.rh_text.specs.Root.{root_text, RootFits}
-use Rattle.rh_syntax.specs.Line.{asked_of}
 use Rattle.rh_syntax.specs.TrayName.{IsTrayName}
-use Rattle.rh_syntax.specs.declared.line.Asked.{Asked}
-use Rattle.rh_syntax.specs.declared.line.Asked.TheVariants as asked
 use Rattle.rh_syntax.specs.declared.line.Header.{Header}
-use Rattle.rh_syntax.specs.declared.line.Line.{Line}
+use Rattle.rh_syntax.specs.declared.request.Request.{Request}
+use Rattle.rh_syntax.specs.declared.request.Request.TheVariants as requests
 
--- a trace without where it lies in memory: the first line's numbers, and the lines after it
+-- a trace without where it lies in memory: the first line's numbers, and the requests of the lines
+-- after it
 pub record Script : Type 0 where
   pub header : Header
-  pub lines : List Line
+  pub requests : List Request
 
 -- nil, a whole number, or OWNER.SLOT
 abbrev pub operand_text : Operand → List ℕ
@@ -47,23 +46,19 @@ abbrev pub kind_text : Kind → List ℕ
 kind_text Copies = codes "copies"
 kind_text Entries = codes "entries"
 
--- the parts of a line that asks this
-abbrev pub asked_parts : Asked → List (List ℕ)
-asked_parts (asked.Command owner command) = command_parts owner command
-asked_parts asked.Begin = codes "begin" ∷ []
-asked_parts (asked.Shade root) = codes "shade" ∷ root_text root ∷ []
-asked_parts (asked.Deal kind most tray) =
+-- the parts of a request's line
+abbrev pub request_parts : Request → List (List ℕ)
+request_parts (requests.Command owner command) = command_parts owner command
+request_parts requests.Begin = codes "begin" ∷ []
+request_parts (requests.Shade root) = codes "shade" ∷ root_text root ∷ []
+request_parts (requests.Deal kind most tray) =
     codes "deal" ∷ kind_text kind ∷ decimal most ∷ tray ∷ []
-asked_parts (asked.Give tray) = codes "give" ∷ tray ∷ []
-asked_parts (asked.Join into other) = codes "join" ∷ into ∷ other ∷ []
-asked_parts asked.Flip = codes "flip" ∷ []
-asked_parts asked.Trays = codes "trays" ∷ []
-asked_parts asked.Stat = codes "stat" ∷ []
-asked_parts asked.Dump = codes "dump" ∷ []
-
--- the parts of a line
-abbrev pub line_parts : Line → List (List ℕ)
-line_parts line = asked_parts (asked_of line)
+request_parts (requests.Give tray) = codes "give" ∷ tray ∷ []
+request_parts (requests.Join into other) = codes "join" ∷ into ∷ other ∷ []
+request_parts requests.Flip = codes "flip" ∷ []
+request_parts requests.Trays = codes "trays" ∷ []
+request_parts requests.Stat = codes "stat" ∷ []
+request_parts requests.Dump = codes "dump" ∷ []
 
 -- the parts of the first line
 abbrev pub header_parts : Header → List (List ℕ)
@@ -79,9 +74,9 @@ command_text owner command = join_with_byte 32 (command_parts owner command)
 abbrev pub spell_command : ℕ → Command → List ℕ
 spell_command owner command = spell_parts (command_parts owner command)
 
--- the text of a line
-abbrev pub spell_line : Line → List ℕ
-spell_line line = spell_parts (line_parts line)
+-- the text of a request's line
+abbrev pub spell_request : Request → List ℕ
+spell_request request = spell_parts (request_parts request)
 
 -- the text of the first line
 abbrev pub spell_header : Header → List ℕ
@@ -89,7 +84,7 @@ spell_header header = spell_parts (header_parts header)
 
 -- the text of a trace
 abbrev pub spelling : Script → List ℕ
-spelling script = spell_header script.header ++ flat_map spell_line script.lines
+spelling script = spell_header script.header ++ flat_map spell_request script.requests
 
 -- nil, a whole number of 64 bits, or a root whose numbers are below 2^32
 abbrev pub OperandFits : Operand → Type 0
@@ -107,23 +102,19 @@ CommandFits owner (Copy dst src) = IsU32 owner × RootFits dst × RootFits src
 CommandFits owner (Same a b) = IsU32 owner × RootFits a × RootFits b
 CommandFits owner (Drop root) = IsU32 owner × RootFits root
 
--- what is asked fits: an owner and a command that do, roots and a number of items whose numbers are
--- below 2^32, and names of trays
-abbrev pub AskedFits : Asked → Type 0
-AskedFits (asked.Command owner command) = CommandFits owner command
-AskedFits asked.Begin = ⊤
-AskedFits (asked.Shade root) = RootFits root
-AskedFits (asked.Deal kind most tray) = IsU32 most × IsTrayName tray
-AskedFits (asked.Give tray) = IsTrayName tray
-AskedFits (asked.Join into other) = IsTrayName into × IsTrayName other
-AskedFits asked.Flip = ⊤
-AskedFits asked.Trays = ⊤
-AskedFits asked.Stat = ⊤
-AskedFits asked.Dump = ⊤
-
--- a line that asks what fits
-abbrev pub LineFits : Line → Type 0
-LineFits line = AskedFits (asked_of line)
+-- what a request names fits: an owner and a command that do, roots and a number of items whose
+-- numbers are below 2^32, and names of trays
+abbrev pub RequestFits : Request → Type 0
+RequestFits (requests.Command owner command) = CommandFits owner command
+RequestFits requests.Begin = ⊤
+RequestFits (requests.Shade root) = RootFits root
+RequestFits (requests.Deal kind most tray) = IsU32 most × IsTrayName tray
+RequestFits (requests.Give tray) = IsTrayName tray
+RequestFits (requests.Join into other) = IsTrayName into × IsTrayName other
+RequestFits requests.Flip = ⊤
+RequestFits requests.Trays = ⊤
+RequestFits requests.Stat = ⊤
+RequestFits requests.Dump = ⊤
 
 -- a first line whose numbers have 32 bits
 abbrev pub HeaderFits : Header → Type 0
@@ -131,9 +122,9 @@ HeaderFits header =
     IsU32 header.words × IsU32 header.ratio × IsU32 header.log × IsU32 header.owners
     × IsU32 header.slots
 
--- what has a spelling: lines and a header whose numbers fit, and at most 1,048,576 lines with the
--- first
+-- what has a spelling: requests and a header whose numbers fit, and at most 1,048,576 lines with
+-- the first
 pub record IsScript (script : Script) : Type 0 where
   pub header : HeaderFits script.header
-  pub lines : AllByRecursion LineFits script.lines
-  pub few : length script.lines < 1048576
+  pub requests : AllByRecursion RequestFits script.requests
+  pub few : length script.requests < 1048576

@@ -3,12 +3,12 @@
 ghost use Rattle.std.specs.Prelude.{◌≡◌, ◌+◌, ◌≤◌, [], ◌∷◌, ◌++◌, length};
 ghost use Rattle.rh_text.specs.Parts.{parts_left, spell_parts};
 ghost use Rattle.rh_syntax.specs.Reading.{tray_or_fault, kind_or_fault, alone};
-ghost use Rattle.rh_syntax.specs.Reading.{shade_of, deal_of, give_of, join_of, keyword_line};
-ghost use Rattle.rh_syntax.specs.Spelling.{kind_text, spell_line};
-ghost use Rattle.rh_syntax.specs.declared.line.Line.TheVariants as lines;
+ghost use Rattle.rh_syntax.specs.Reading.{shade_of, deal_of, give_of, join_of, keyword_request};
+ghost use Rattle.rh_syntax.specs.Spelling.{kind_text, spell_request};
+ghost use Rattle.rh_syntax.specs.declared.request.Request.TheVariants as requests;
 
 use crate::fault::Kind;
-use crate::line::Line;
+use crate::request::Request;
 use crate::tray_name::{TrayName, tray_name_of};
 use crate::values::{number_or_fault, root_or_fault};
 use rh_layout::{Kind as PieceKind, RootId};
@@ -57,12 +57,12 @@ fn put_kind(text: &mut LineText, kind: PieceKind)
     }
 }
 
-/// The line, where nothing stands after its keyword.
-fn alone(rest: Option<&[u8]>, line: Line) -> Result<Line, Kind>
-    ensures { result ≡ alone (parts_left rest.entry) line }
+/// The request, where nothing stands after its keyword.
+fn alone(rest: Option<&[u8]>, request: Request) -> Result<Request, Kind>
+    ensures { result ≡ alone (parts_left rest.entry) request }
 {
     match next_part(rest) {
-        None => Ok(line),
+        None => Ok(request),
         Some(_) => Err(Kind::Form),
     }
 }
@@ -79,17 +79,17 @@ pub fn put_alone(text: &mut LineText, keyword: &[u8])
 
 /// `shade ROOT`, from what stands after the keyword.
 #[tactic(auto, unfolding(crate::specs::Reading::shade_of))]
-fn shade_of(rest: Option<&[u8]>) -> Result<Line, Kind>
+fn shade_of(rest: Option<&[u8]>) -> Result<Request, Kind>
     ensures { result ≡ shade_of (parts_left rest.entry) }
 {
     let root = one_part(rest).ok_or(Kind::Form)?;
     let root = root_or_fault(root)?;
-    Ok(Line::Shade { root })
+    Ok(Request::Shade { root })
 }
 
 /// The text becomes that of a `shade` line.
 pub fn put_shade_line(text: &mut LineText, root: RootId)
-    ensures { text.new ≡ spell_line (lines.Shade root) }
+    ensures { text.new ≡ spell_request (requests.Shade root) }
 {
     text.clear();
     text.put(b"shade ");
@@ -99,19 +99,19 @@ pub fn put_shade_line(text: &mut LineText, root: RootId)
 
 /// `deal copies MOST TRAY` or `deal entries MOST TRAY`, from what stands after the keyword.
 #[tactic(auto, unfolding(crate::specs::Reading::deal_of))]
-fn deal_of(rest: Option<&[u8]>) -> Result<Line, Kind>
+fn deal_of(rest: Option<&[u8]>) -> Result<Request, Kind>
     ensures { result ≡ deal_of (parts_left rest.entry) }
 {
     let (kind, most, tray) = three_parts(rest).ok_or(Kind::Form)?;
     let kind = kind_or_fault(kind)?;
     let most = number_or_fault(most)?;
     let tray = tray_or_fault(tray)?;
-    Ok(Line::Deal { kind, most, tray })
+    Ok(Request::Deal { kind, most, tray })
 }
 
 /// The text becomes that of a `deal` line.
 pub fn put_deal_line(text: &mut LineText, kind: PieceKind, most: u32, tray: TrayName)
-    ensures { text.new ≡ spell_line (lines.Deal kind most tray) }
+    ensures { text.new ≡ spell_request (requests.Deal kind most tray) }
 {
     text.clear();
     text.put(b"deal ");
@@ -123,17 +123,17 @@ pub fn put_deal_line(text: &mut LineText, kind: PieceKind, most: u32, tray: Tray
 
 /// `give TRAY`, from what stands after the keyword.
 #[tactic(auto, unfolding(crate::specs::Reading::give_of))]
-fn give_of(rest: Option<&[u8]>) -> Result<Line, Kind>
+fn give_of(rest: Option<&[u8]>) -> Result<Request, Kind>
     ensures { result ≡ give_of (parts_left rest.entry) }
 {
     let tray = one_part(rest).ok_or(Kind::Form)?;
     let tray = tray_or_fault(tray)?;
-    Ok(Line::Give { tray })
+    Ok(Request::Give { tray })
 }
 
 /// The text becomes that of a `give` line.
 pub fn put_give_line(text: &mut LineText, tray: TrayName)
-    ensures { text.new ≡ spell_line (lines.Give tray) }
+    ensures { text.new ≡ spell_request (requests.Give tray) }
 {
     text.clear();
     text.put(b"give");
@@ -143,18 +143,18 @@ pub fn put_give_line(text: &mut LineText, tray: TrayName)
 
 /// `join TRAY TRAY`, from what stands after the keyword.
 #[tactic(auto, unfolding(crate::specs::Reading::join_of))]
-fn join_of(rest: Option<&[u8]>) -> Result<Line, Kind>
+fn join_of(rest: Option<&[u8]>) -> Result<Request, Kind>
     ensures { result ≡ join_of (parts_left rest.entry) }
 {
     let (into, other) = two_parts(rest).ok_or(Kind::Form)?;
     let into = tray_or_fault(into)?;
     let other = tray_or_fault(other)?;
-    Ok(Line::Join { into, other })
+    Ok(Request::Join { into, other })
 }
 
 /// The text becomes that of a `join` line.
 pub fn put_join_line(text: &mut LineText, into: TrayName, other: TrayName)
-    ensures { text.new ≡ spell_line (lines.Join into other) }
+    ensures { text.new ≡ spell_request (requests.Join into other) }
 {
     text.clear();
     text.put(b"join");
@@ -163,13 +163,13 @@ pub fn put_join_line(text: &mut LineText, into: TrayName, other: TrayName)
     text.put(b"\n");
 }
 
-/// A line that begins with its keyword, from what stands after it.
-#[tactic(auto, unfolding(crate::specs::Reading::keyword_line))]
-pub fn keyword_line(keyword: &[u8], rest: Option<&[u8]>) -> Result<Line, Kind>
-    ensures { result ≡ keyword_line keyword.now (parts_left rest.entry) }
+/// The request of a line that begins with its keyword, from what stands after it.
+#[tactic(auto, unfolding(crate::specs::Reading::keyword_request))]
+pub fn keyword_request(keyword: &[u8], rest: Option<&[u8]>) -> Result<Request, Kind>
+    ensures { result ≡ keyword_request keyword.now (parts_left rest.entry) }
 {
     if keyword == b"begin".as_slice() {
-        return alone(rest, Line::Begin);
+        return alone(rest, Request::Begin);
     }
     if keyword == b"shade".as_slice() {
         return shade_of(rest);
@@ -184,16 +184,16 @@ pub fn keyword_line(keyword: &[u8], rest: Option<&[u8]>) -> Result<Line, Kind>
         return join_of(rest);
     }
     if keyword == b"flip".as_slice() {
-        return alone(rest, Line::Flip);
+        return alone(rest, Request::Flip);
     }
     if keyword == b"trays".as_slice() {
-        return alone(rest, Line::Trays);
+        return alone(rest, Request::Trays);
     }
     if keyword == b"stat".as_slice() {
-        return alone(rest, Line::Stat);
+        return alone(rest, Request::Stat);
     }
     if keyword == b"dump".as_slice() {
-        return alone(rest, Line::Dump);
+        return alone(rest, Request::Dump);
     }
     Err(Kind::Word)
 }

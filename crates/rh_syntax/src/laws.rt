@@ -5,15 +5,17 @@ ghost use Rattle.rh_text.specs.RawLine.{RawLine, lines_of, raw_text};
 ghost use Rattle.rh_text.specs.Stages.{IsFaultless, IsFirst, IsLeast};
 ghost use Rattle.rh_layout.specs.declared.command.Command.{Command as CommandOf};
 ghost use Rattle.rh_syntax.specs.Faults.{command_faults, header_faults, line_faults, trace_faults};
+ghost use Rattle.rh_syntax.specs.Line.{line_of};
 ghost use Rattle.rh_syntax.specs.Reading.{single_command, trace_of};
-ghost use Rattle.rh_syntax.specs.Spelling.{Script, IsScript, HeaderFits, LineFits};
+ghost use Rattle.rh_syntax.specs.Spelling.{Script, IsScript, HeaderFits, RequestFits};
 ghost use Rattle.rh_syntax.specs.Spelling.{CommandFits, command_text};
-ghost use Rattle.rh_syntax.specs.Spelling.{spell_header, spell_line, spelling};
+ghost use Rattle.rh_syntax.specs.Spelling.{spell_header, spell_request, spelling};
 ghost use Rattle.rh_syntax.specs.TrayName.{tray_name_of, IsTrayName};
 ghost use Rattle.rh_syntax.specs.declared.fault.Kind.{Kind as KindOf};
 ghost use Rattle.rh_syntax.specs.declared.fault.TraceFault.{TraceFault as FaultOf};
 ghost use Rattle.rh_syntax.specs.declared.line.Header.{Header as HeaderOf};
 ghost use Rattle.rh_syntax.specs.declared.line.Line.{Line as LineOf};
+ghost use Rattle.rh_syntax.specs.declared.request.Request.{Request as RequestOf};
 
 /// The fault that reading names is the one that comes first in the order of the format: it holds on
 /// its line, and any other that holds is on a later line or at a later position of this line. What
@@ -26,7 +28,7 @@ pub fn the_first_fault_is_named()
     ensures spelled_header { (raw : RawLine) → IsFaultless (header_faults raw)
         → (h : HeaderOf) × HeaderFits h × (raw_text raw ≡ spell_header h) }
     ensures spelled_line { (n : ℕ) (raw : RawLine) → IsFaultless (line_faults n raw)
-        → (l : LineOf) × LineFits l × (raw_text raw ≡ spell_line l) }
+        → (r : RequestOf) × RequestFits r × (raw_text raw ≡ spell_request r) }
 {}
 
 /// What a trace is spelled as is read as that trace, and nothing else is read as it.
@@ -49,6 +51,13 @@ pub fn a_single_command_is_read_as_spelled()
         → IsLeast (command_faults line) kind }
     ensures none { (line : List ℕ) (owned : ℕ × CommandOf) → single_command line ≡ Ok owned
         → IsFaultless (command_faults line) }
+{}
+
+/// Each line is of one request alone: two requests with the same line are the same, and each line
+/// is that of a request. So a line tells all that its request does.
+pub fn each_line_is_of_one_request()
+    ensures alone { (a b : RequestOf) → line_of a ≡ line_of b → a ≡ b }
+    ensures all { (line : LineOf) → (request : RequestOf) × (line_of request ≡ line) }
 {}
 
 /// What is read as the name of a tray is one, and each name is read as itself.

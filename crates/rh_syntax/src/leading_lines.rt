@@ -141,7 +141,7 @@ fn leading_command(owner: u32, text: &[u8]) -> Option<(u32, Command, &[u8])>
 
 /// The command line of this number with which the text begins, and what stands after it, read from
 /// left to right, without looking for the line's end or its parts first. It is `None` also for
-/// lines that ask for more, such as one whose number has more than eight digits: `line_or_fault`
+/// lines that ask for more, such as one whose number has more than eight digits: `request_or_fault`
 /// reads these.
 #[inline(always)]
 pub fn leading_command_line(number: u32, text: &[u8]) -> Option<(u32, Command, &[u8])>

@@ -12,6 +12,7 @@ mod leading_lines;
 mod line;
 mod printing;
 mod reading;
+mod request;
 mod single_lines;
 mod trace;
 mod tray_name;
@@ -20,9 +21,10 @@ mod values;
 pub use command_answers::put_answer_text;
 pub use command_lines::{owned_command, put_command_text};
 pub use fault::{Kind, ParseError, TraceFault};
-pub use line::{Asked, Header, Line};
+pub use line::{Header, Line};
 pub use printing::{print, print_told};
 pub use reading::checked_parts;
+pub use request::Request;
 pub use single_lines::{
     command_of, write_answer, write_answer_told, write_command, write_command_told,
 };

@@ -1,8 +1,10 @@
 //! The lines of a trace.
 
 ghost use Rattle.std.specs.Prelude.{◌≡◌};
-ghost use Rattle.rh_syntax.specs.Line.{asked_of, line_of};
+ghost use Rattle.rh_syntax.specs.Line.{line_of};
+ghost use Rattle.rh_syntax.specs.declared.request.Request.TheVariants as requests;
 
+use crate::request::Request;
 use crate::tray_name::TrayName;
 use rh_layout::{Command, Kind, Operand, RootId};
 
@@ -21,7 +23,7 @@ pub struct Header {
     pub slots: u32,
 }
 
-/// A line of a trace after the first.
+/// A line of a trace after the first: a request, with one variant for each keyword.
 #[derive(Clone, Copy, Debug, PartialEq, Eq)]
 pub enum Line {
     /// `OWNER alloc ROOT FIELDS`: the root `dst` names a new object of so many fields.
@@ -121,123 +123,51 @@ pub enum Line {
     Dump,
 }
 
-/// What a line asks.
-#[derive(Clone, Copy, Debug, PartialEq, Eq)]
-pub enum Asked {
-    /// An owner's command.
-    Command {
-        /// Whose command it is.
-        owner: u32,
-        /// Which command.
-        command: Command,
-    },
-    /// A cycle begins.
-    Begin,
-    /// What a root refers to is placed.
-    Shade {
-        /// The root.
-        root: RootId,
-    },
-    /// A piece is dealt, and folded into a tray.
-    Deal {
-        /// Whether copies of fields are dealt, or entries of the log.
-        kind: Kind,
-        /// The most items of the piece.
-        most: u32,
-        /// The name of the tray.
-        tray: TrayName,
-    },
-    /// The partial replica in a tray is given to the heap.
-    Give {
-        /// The name of the tray.
-        tray: TrayName,
-    },
-    /// A tray is joined into another.
-    Join {
-        /// The name of the tray that takes the other in.
-        into: TrayName,
-        /// The name of the other.
-        other: TrayName,
-    },
-    /// The roots are moved to the replica.
-    Flip,
-    /// The trays, each with its name, its epoch and how many entries it has.
-    Trays,
-    /// The numbers of the heap.
-    Stat,
-    /// The dump of what the roots reach.
-    Dump,
-}
-
 impl Line {
-    /// The line of an owner's command.
+    /// The line of a request.
     #[inline(always)]
-    pub fn of(owner: u32, command: Command) -> Line
-        ensures { result ≡ line_of owner command }
+    pub fn of(request: &Request) -> Line
+        ensures { result ≡ line_of request.now }
     {
-        match command {
-            Command::Alloc { dst, fields } => Line::Alloc { owner, dst, fields },
-            Command::Load { dst, src, field } => Line::Load {
-                owner,
-                dst,
-                src,
-                field,
-            },
-            Command::Store {
-                obj,
-                field,
-                operand,
-            } => Line::Store {
-                owner,
-                obj,
-                field,
-                operand,
-            },
-            Command::Copy { dst, src } => Line::Copy { owner, dst, src },
-            Command::Same { a, b } => Line::Same { owner, a, b },
-            Command::Drop { root } => Line::Drop { owner, root },
+        match *request {
+            Request::Command { owner, command } => command_line(owner, command),
+            Request::Begin => Line::Begin,
+            Request::Shade { root } => Line::Shade { root },
+            Request::Deal { kind, most, tray } => Line::Deal { kind, most, tray },
+            Request::Give { tray } => Line::Give { tray },
+            Request::Join { into, other } => Line::Join { into, other },
+            Request::Flip => Line::Flip,
+            Request::Trays => Line::Trays,
+            Request::Stat => Line::Stat,
+            Request::Dump => Line::Dump,
         }
     }
+}
 
-    /// What the line asks.
-    #[inline(always)]
-    pub fn asks(&self) -> Asked
-        ensures { result ≡ asked_of self.now }
-    {
-        let (owner, command) = match *self {
-            Line::Alloc { owner, dst, fields } => (owner, Command::Alloc { dst, fields }),
-            Line::Load {
-                owner,
-                dst,
-                src,
-                field,
-            } => (owner, Command::Load { dst, src, field }),
-            Line::Store {
-                owner,
-                obj,
-                field,
-                operand,
-            } => (
-                owner,
-                Command::Store {
-                    obj,
-                    field,
-                    operand,
-                },
-            ),
-            Line::Copy { owner, dst, src } => (owner, Command::Copy { dst, src }),
-            Line::Same { owner, a, b } => (owner, Command::Same { a, b }),
-            Line::Drop { owner, root } => (owner, Command::Drop { root }),
-            Line::Begin => return Asked::Begin,
-            Line::Shade { root } => return Asked::Shade { root },
-            Line::Deal { kind, most, tray } => return Asked::Deal { kind, most, tray },
-            Line::Give { tray } => return Asked::Give { tray },
-            Line::Join { into, other } => return Asked::Join { into, other },
-            Line::Flip => return Asked::Flip,
-            Line::Trays => return Asked::Trays,
-            Line::Stat => return Asked::Stat,
-            Line::Dump => return Asked::Dump,
-        };
-        Asked::Command { owner, command }
+/// The line of an owner's command.
+fn command_line(owner: u32, command: Command) -> Line
+    ensures { result ≡ line_of (requests.Command owner command) }
+{
+    match command {
+        Command::Alloc { dst, fields } => Line::Alloc { owner, dst, fields },
+        Command::Load { dst, src, field } => Line::Load {
+            owner,
+            dst,
+            src,
+            field,
+        },
+        Command::Store {
+            obj,
+            field,
+            operand,
+        } => Line::Store {
+            owner,
+            obj,
+            field,
+            operand,
+        },
+        Command::Copy { dst, src } => Line::Copy { owner, dst, src },
+        Command::Same { a, b } => Line::Same { owner, a, b },
+        Command::Drop { root } => Line::Drop { owner, root },
     }
 }

@@ -4,34 +4,34 @@ ghost use Rattle.std.specs.Prelude.{◌≡◌, false, OnOk, OnErr};
 ghost use Rattle.std.specs.Io.KnownBytes.{Appends};
 ghost use Rattle.rh_text.specs.Calls.{AreSpent};
 ghost use Rattle.rh_text.specs.Output.{AppendsLess};
-ghost use Rattle.rh_syntax.specs.Spelling.{spell_line, spelling};
+ghost use Rattle.rh_syntax.specs.Spelling.{spell_request, spelling};
 
 use crate::command_lines::put_command;
 use crate::header_line::put_header;
 use crate::keyword_lines::{
     put_alone, put_deal_line, put_give_line, put_join_line, put_shade_line,
 };
-use crate::line::{Asked, Line};
+use crate::request::Request;
 use crate::trace::Trace;
 use rh_text::{Calls, LineText, Write, send};
 use std::alloc::Allocator;
 use std::io;
 
-/// The text becomes that of the line.
-fn put_line(text: &mut LineText, line: &Line)
-    ensures { text.new ≡ spell_line line.now }
+/// The text becomes that of the request's line.
+fn put_request(text: &mut LineText, request: &Request)
+    ensures { text.new ≡ spell_request request.now }
 {
-    match line.asks() {
-        Asked::Command { owner, command } => put_command(text, owner, &command),
-        Asked::Begin => put_alone(text, b"begin"),
-        Asked::Shade { root } => put_shade_line(text, root),
-        Asked::Deal { kind, most, tray } => put_deal_line(text, kind, most, tray),
-        Asked::Give { tray } => put_give_line(text, tray),
-        Asked::Join { into, other } => put_join_line(text, into, other),
-        Asked::Flip => put_alone(text, b"flip"),
-        Asked::Trays => put_alone(text, b"trays"),
-        Asked::Stat => put_alone(text, b"stat"),
-        Asked::Dump => put_alone(text, b"dump"),
+    match *request {
+        Request::Command { owner, ref command } => put_command(text, owner, command),
+        Request::Begin => put_alone(text, b"begin"),
+        Request::Shade { root } => put_shade_line(text, root),
+        Request::Deal { kind, most, tray } => put_deal_line(text, kind, most, tray),
+        Request::Give { tray } => put_give_line(text, tray),
+        Request::Join { into, other } => put_join_line(text, into, other),
+        Request::Flip => put_alone(text, b"flip"),
+        Request::Trays => put_alone(text, b"trays"),
+        Request::Stat => put_alone(text, b"stat"),
+        Request::Dump => put_alone(text, b"dump"),
     }
 }
 
@@ -73,9 +73,9 @@ pub fn print_told<A: Allocator, W: io::Write>(
     let mut text = LineText::new();
     put_header(&mut text, trace.header());
     send(writer, writes, text.as_bytes())?;
-    let lines = trace.lines();
-    for line in lines {
-        put_line(&mut text, line);
+    let requests = trace.requests();
+    for request in requests {
+        put_request(&mut text, request);
         send(writer, writes, text.as_bytes())?;
     }
     Ok(())

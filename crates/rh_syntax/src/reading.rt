@@ -3,15 +3,16 @@
 ghost use Rattle.std.specs.Prelude.{◌≡◌};
 ghost use Rattle.rh_text.specs.Parts.{parts_left};
 ghost use Rattle.rh_text.specs.Steps.{Shows, with_fault};
-ghost use Rattle.rh_syntax.specs.Reading.{line_of_parts, checked_parts, fault_at};
-ghost use Rattle.rh_syntax.specs.Reading.{line_or_kind, header_or_kind};
-ghost use Rattle.rh_syntax.specs.Reading.{line_or_fault, header_or_fault};
+ghost use Rattle.rh_syntax.specs.Reading.{request_of_parts, checked_parts, fault_at};
+ghost use Rattle.rh_syntax.specs.Reading.{request_or_kind, header_or_kind};
+ghost use Rattle.rh_syntax.specs.Reading.{request_or_fault, header_or_fault};
 
 use crate::command_lines::command_or_fault;
 use crate::fault::{Kind, TraceFault};
 use crate::header_line::header_of_parts;
-use crate::keyword_lines::keyword_line;
-use crate::line::{Header, Line};
+use crate::keyword_lines::keyword_request;
+use crate::line::Header;
+use crate::request::Request;
 use rh_layout::limits::{MAX_LINE_BYTES, MAX_LINES};
 use rh_text::{begins_with_digit, is_formed, next_part};
 
@@ -43,26 +44,26 @@ pub fn checked_parts(number: u32, bytes: &[u8], ended: bool) -> Result<Option<&[
     Ok(Some(bytes))
 }
 
-/// A line after the first, from its parts.
-#[tactic(auto, unfolding(crate::specs::Reading::line_of_parts))]
-fn line_of_parts(rest: Option<&[u8]>) -> Result<Line, Kind>
-    ensures { result ≡ line_of_parts (parts_left rest.entry) }
+/// The request of a line after the first, from its parts.
+#[tactic(auto, unfolding(crate::specs::Reading::request_of_parts))]
+fn request_of_parts(rest: Option<&[u8]>) -> Result<Request, Kind>
+    ensures { result ≡ request_of_parts (parts_left rest.entry) }
 {
     let (first, rest) = next_part(rest).ok_or(Kind::Form)?;
     if begins_with_digit(first) {
         let (owner, command) = command_or_fault(first, rest)?;
-        return Ok(Line::of(owner, command));
+        return Ok(Request::Command { owner, command });
     }
-    keyword_line(first, rest)
+    keyword_request(first, rest)
 }
 
-/// The line of this number, by its limits, its form and its parts.
-#[tactic(auto, unfolding(crate::specs::Reading::line_or_kind))]
-fn line_or_kind(number: u32, bytes: &[u8], ended: bool) -> Result<Line, Kind>
-    ensures { result ≡ line_or_kind number (record { bytes = bytes.now; ended = ended }) }
+/// The request of the line of this number, by its limits, its form and its parts.
+#[tactic(auto, unfolding(crate::specs::Reading::request_or_kind))]
+fn request_or_kind(number: u32, bytes: &[u8], ended: bool) -> Result<Request, Kind>
+    ensures { result ≡ request_or_kind number (record { bytes = bytes.now; ended = ended }) }
 {
     let rest = checked_parts(number, bytes, ended)?;
-    line_of_parts(rest)
+    request_of_parts(rest)
 }
 
 /// The first line, by its limits, its form and its parts.
@@ -84,11 +85,11 @@ fn with_line<T>(number: u32, read: Result<T, Kind>) -> Result<T, TraceFault>
     }
 }
 
-/// The line of this number, its fault named with the line.
-pub fn line_or_fault(number: u32, bytes: &[u8], ended: bool) -> Result<Line, TraceFault>
-    ensures { result ≡ line_or_fault number (record { bytes = bytes.now; ended = ended }) }
+/// The request of the line of this number, its fault named with the line.
+pub fn request_or_fault(number: u32, bytes: &[u8], ended: bool) -> Result<Request, TraceFault>
+    ensures { result ≡ request_or_fault number (record { bytes = bytes.now; ended = ended }) }
 {
-    with_line(number, line_or_kind(number, bytes, ended))
+    with_line(number, request_or_kind(number, bytes, ended))
 }
 
 /// The first line, its fault named with the line.

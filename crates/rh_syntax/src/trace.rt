@@ -1,24 +1,27 @@
 //! A trace, and a trace read from its text.
 
-ghost use Rattle.std.specs.Prelude.{◌≡◌, ◌<◌, ◌==◌, length, slice_get, IfOk, Ok, Some};
+ghost use Rattle.std.specs.Prelude.{◌≡◌, ◌<◌, ◌==◌, length, map, slice_get, IfOk, Ok, Some};
 ghost use Rattle.rh_text.specs.RawLine.{lines_of};
-ghost use Rattle.rh_syntax.specs.Reading.{Gives, lines_from, script_or_fault, trace_of};
+ghost use Rattle.rh_syntax.specs.Line.{line_of};
+ghost use Rattle.rh_syntax.specs.Reading.{Gives, requests_from, script_or_fault, trace_of};
 ghost use Rattle.rh_syntax.specs.Spelling.{Script, IsScript, spelling};
 
 use crate::fault::{Kind, ParseError, TraceFault};
 use crate::leading_lines::leading_command_line;
 use crate::line::{Header, Line};
-use crate::reading::{header_or_fault, line_or_fault};
+use crate::reading::{header_or_fault, request_or_fault};
+use crate::request::Request;
 use rh_layout::limits::MAX_LINES;
 use rh_text::first_line;
 use std::alloc::{Allocator, Global};
 use std::marker::Model;
 
-/// A trace: the numbers of its first line, and the lines after it, at most 1,048,575.
+/// A trace: the numbers of its first line, and the requests of the lines after it, at most
+/// 1,048,575.
 #[derive(Drop)]
 pub struct Trace<A: Allocator = Global> {
     header: Header,
-    lines: Vec<Line, A>,
+    requests: Vec<Request, A>,
 }
 
 impl<A: Allocator> Model for Trace<A> {
@@ -26,9 +29,9 @@ impl<A: Allocator> Model for Trace<A> {
 
     ghost Value = { Script };
 
-    ghost view = { λ t. record { header = t.header; lines = t.lines.items } };
+    ghost view = { λ t. record { header = t.header; requests = t.requests.items } };
 
-    ghost invariant = { λ t. IsScript (record { header = t.header; lines = t.lines.items }) };
+    ghost invariant = { λ t. IsScript (record { header = t.header; requests = t.requests.items }) };
 }
 
 impl<A: Allocator> Trace<A> {
@@ -42,57 +45,61 @@ impl<A: Allocator> Trace<A> {
     /// How many lines stand after the first. Each trace fits its text: what it is spelled as is
     /// read as the same trace, by the law `what_is_spelled_is_read`.
     pub fn len(&self) -> usize
-        ensures value { result ≡ length self.now.lines }
+        ensures value { result ≡ length self.now.requests }
         ensures few { result < MAX_LINES }
         ensures fits { IsScript self.now }
     {
-        self.lines.len()
+        self.requests.len()
     }
 
     /// No line stands after the first.
     pub fn is_empty(&self) -> bool
-        ensures { result ≡ (length self.now.lines == 0) }
+        ensures { result ≡ (length self.now.requests == 0) }
     {
-        self.lines.is_empty()
+        self.requests.is_empty()
     }
 
-    /// The line `i`, counted from 0 after the first.
+    /// The line `i`, counted from 0 after the first. Each line is of one request alone, by the law
+    /// `each_line_is_of_one_request`.
     pub fn line(&self, i: usize) -> Line
-        requires { i < length self.now.lines }
-        ensures { slice_get self.now.lines i ≡ Some result }
+        requires { i < length self.now.requests }
+        ensures { slice_get (map line_of self.now.requests) i ≡ Some result }
     {
-        self.lines[i]
+        Line::of(&self.requests[i])
     }
 
-    /// The lines after the first, in order.
-    pub fn lines(&self) -> &[Line]
-        ensures { result.now ≡ self.now.lines }
+    /// The requests of the lines after the first, in order.
+    pub fn requests(&self) -> &[Request]
+        ensures { result.now ≡ self.now.requests }
     {
-        &self.lines
+        &self.requests
     }
 }
 
-/// The lines after the first, whose numbers begin at 2.
-fn later_lines<A: Allocator + Copy>(alloc: A, bytes: &[u8]) -> Result<Vec<Line, A>, ParseError>
-    ensures lines { Gives (λ v. v.items) result (lines_from 2 (lines_of bytes.now)) }
+/// The requests of the lines after the first, whose numbers begin at 2.
+fn later_requests<A: Allocator + Copy>(
+    alloc: A,
+    bytes: &[u8],
+) -> Result<Vec<Request, A>, ParseError>
+    ensures requests { Gives (λ v. v.items) result (requests_from 2 (lines_of bytes.now)) }
     ensures few { IfOk result (λ v. length v.items < MAX_LINES) }
 {
-    let mut lines = Vec::new(alloc);
+    let mut requests = Vec::new(alloc);
     let mut number = 2;
     let mut rest = bytes;
     while !rest.is_empty() {
-        let (line, after) = match leading_command_line(number, rest) {
-            Some((owner, command, after)) => (Line::of(owner, command), after),
+        let (request, after) = match leading_command_line(number, rest) {
+            Some((owner, command, after)) => (Request::Command { owner, command }, after),
             None => {
                 let (line, ended, after) = first_line(rest);
-                (line_or_fault(number, line, ended)?, after)
+                (request_or_fault(number, line, ended)?, after)
             }
         };
-        lines.push(line)?;
+        requests.push(request)?;
         number += 1;
         rest = after;
     }
-    Ok(lines)
+    Ok(requests)
 }
 
 /// The trace that a text spells, or its first fault.
@@ -109,8 +116,8 @@ fn trace_in<A: Allocator + Copy>(alloc: A, bytes: &[u8]) -> Result<Trace<A>, Par
     }
     let (line, ended, rest) = first_line(bytes);
     let header = header_or_fault(line, ended)?;
-    let lines = later_lines(alloc, rest)?;
-    Ok(Trace { header, lines })
+    let requests = later_requests(alloc, rest)?;
+    Ok(Trace { header, requests })
 }
 
 /// Reads a trace from its text, whose bytes it takes whole.

@@ -1,4 +1,4 @@
--- Lines run one after the other, and what a run gives.
+-- Requests run one after the other, and what a run gives.
 use Rattle.std.proofs.Common.{◌≡◌, ℕ, ◌+◌, ◌<◌, ◌≤◌, suc, Bool, true, false, cond, List, [], ◌∷◌, ◌++◌, length, get_or, take, drop, Option, Some, None, Result, Ok, Err, refl, sym, ap, subst, ◌∙◌, arith}
 use Rattle.std.specs.Prelude.{count_by, IfSome, nat_lt, if◌then◌else◌}
 use Rattle.std.specs.List.{flat_map}
@@ -11,32 +11,32 @@ use Rattle.rh_core.specs.Config.{fault_of}
 use Rattle.rh_core.specs.Heap.{HeapState, new_heap, IsWellFormed}
 use Rattle.rh_syntax.specs.declared.fault.TraceFault.{TraceFault}
 use Rattle.rh_trace.specs.declared.run_fault.RunFault.TheVariants as faults
-use Rattle.rh_syntax.specs.declared.line.Line.{Line}
+use Rattle.rh_syntax.specs.declared.request.Request.{Request}
 use Rattle.rh_trace.specs.declared.summary.Summary.{Summary}
 use Rattle.rh_syntax.specs.Reading.{trace_of}
 use Rattle.rh_syntax.specs.Spelling.{Script}
 use Rattle.rh_trace.specs.Answers.{Answered, answered_text, is_answer, is_refused, is_flip, flip_of, words_of, root_words_of}
 use Rattle.rh_engine.specs.Engine.{EngineState}
-use Rattle.rh_trace.specs.Run.{config_of, line_step, answers_to, answers_of, summary_of, summary_with, output_of, run_of_script, run_of_trace, run_of, StopsBeforeTotal, Ends}
+use Rattle.rh_trace.specs.Run.{config_of, request_step, answers_to, answers_of, summary_of, summary_with, output_of, run_of_script, run_of_trace, run_of, StopsBeforeTotal, Ends}
 use Rattle.rh_text.specs.lemmas.Appends.{Appends-none, Keeps-same}
 
-pub length-answers_to : (state : EngineState) (lines : List Line) → length (answers_to state lines) ≡ length lines
+pub length-answers_to : (state : EngineState) (requests : List Request) → length (answers_to state requests) ≡ length requests
 length-answers_to state [] = refl
-length-answers_to state (line ∷ lines) = ap suc (length-answers_to (line_step state line).0 lines)
+length-answers_to state (request ∷ others) = ap suc (length-answers_to (request_step state request).0 others)
 
--- one line more: what is answered to it, and to the lines after it
-pub record AnswersNext (answers : List Answered) (state : EngineState) (lines : List Line) (i : ℕ) (line : Line) (d : Answered) : Type 0 where
-  pub answer : get_or answers i d ≡ (line_step state line).1
-  pub rest : drop (i + 1) answers ≡ answers_to (line_step state line).0 (drop (i + 1) lines)
+-- one request more: what is answered to it, and to those after it
+pub record AnswersNext (answers : List Answered) (state : EngineState) (requests : List Request) (i : ℕ) (request : Request) (d : Answered) : Type 0 where
+  pub answer : get_or answers i d ≡ (request_step state request).1
+  pub rest : drop (i + 1) answers ≡ answers_to (request_step state request).0 (drop (i + 1) requests)
 
 heads : (a b : Answered) (xs ys : List Answered) → a ∷ xs ≡ b ∷ ys → (a ≡ b) × (xs ≡ ys)
 heads a b xs ys e = (cc, cc)
 
-pub answers_next : (answers : List Answered) (state : EngineState) (lines : List Line) (i : ℕ) (line : Line) (d : Answered) → line ≡ get_or lines i line → i < length lines → length answers ≡ length lines → drop i answers ≡ answers_to state (drop i lines) → AnswersNext answers state lines i line d
-answers_next answers state lines i line d is lt same so_far =
+pub answers_next : (answers : List Answered) (state : EngineState) (requests : List Request) (i : ℕ) (request : Request) (d : Answered) → request ≡ get_or requests i request → i < length requests → length answers ≡ length requests → drop i answers ≡ answers_to state (drop i requests) → AnswersNext answers state requests i request d
+answers_next answers state requests i request d is lt same so_far =
     let here = drop_more answers i d (omega (arith, same)) in
-    let there = ap (answers_to state) (drop_more lines i line lt ∙ ap (λ (l : Line). l ∷ drop (i + 1) lines) (sym is)) in
-    let both = heads (get_or answers i d) (line_step state line).1 (drop (i + 1) answers) (answers_to (line_step state line).0 (drop (i + 1) lines)) (sym here ∙ so_far ∙ there) in
+    let there = ap (answers_to state) (drop_more requests i request lt ∙ ap (λ (r : Request). r ∷ drop (i + 1) requests) (sym is)) in
+    let both = heads (get_or answers i d) (request_step state request).1 (drop (i + 1) answers) (answers_to (request_step state request).0 (drop (i + 1) requests)) (sym here ∙ so_far ∙ there) in
     record { answer = both.0; rest = both.1 }
 
 count_more : (test : Answered → Bool) (answers : List Answered) (i : ℕ) (d : Answered) (is : Bool) → i < length answers → test (get_or answers i d) ≡ is → count_by test (take (i + 1) answers) ≡ count_by test (take i answers) + cond is 1 0

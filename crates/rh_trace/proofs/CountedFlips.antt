@@ -17,13 +17,11 @@ use Rattle.rh_core.specs.Giving.{give_step}
 use Rattle.rh_core.specs.Heap.{HeapState}
 use Rattle.rh_core.specs.Shading.{shade_step}
 use Rattle.rh_engine.specs.declared.engine.DealRefusal.{DealRefusal}
-use Rattle.rh_syntax.specs.declared.line.Asked.{Asked}
-use Rattle.rh_syntax.specs.declared.line.Asked.TheVariants as asked
-use Rattle.rh_syntax.specs.declared.line.Line.{Line}
+use Rattle.rh_syntax.specs.declared.request.Request.{Request}
+use Rattle.rh_syntax.specs.declared.request.Request.TheVariants as requests
 use Rattle.rh_trace.specs.Answers.{is_flip, flip_of, words_of, root_words_of}
 use Rattle.rh_engine.specs.Engine.{EngineState, deal_unless, deal_done, tray_refusal, give_found}
-use Rattle.rh_syntax.specs.Line.{asked_of}
-use Rattle.rh_trace.specs.Run.{asked_step, line_step, answers_to, engine_after}
+use Rattle.rh_trace.specs.Run.{request_step, answers_to, engine_after}
 use Rattle.rh_engine.specs.Trays.{Trays, Tray, tray_named, replica_of}
 use Rattle.rh_trace.proofs.CountsByHead.{count_by-head}
 
@@ -68,26 +66,26 @@ give-counts : HeapCounts → (found : Option Tray) (e : EngineState) → CountsS
 give-counts counts None e = (refl, refl)
 give-counts counts (Some t) e = counts.give e.heap (replica_of t)
 
-asked-counted : HeapCounts → (what : Asked) (e : EngineState) → IsCounted e.heap (asked_step e what).0.heap (flip_of (asked_step e what).1)
-asked-counted counts (asked.Command owner command) e = counted-none e.heap (heap_step e.heap owner command).0 (counts.command e.heap owner command)
-asked-counted counts asked.Begin e = counted-none e.heap (begin_step e.heap).0 (counts.begin e.heap)
-asked-counted counts (asked.Shade root) e = counted-none e.heap (shade_step e.heap root).0 (counts.shade e.heap root)
-asked-counted counts (asked.Deal kind most tray) e = counted-none e.heap (asked_step e (asked.Deal kind most tray)).0.heap (deal-counts counts (tray_refusal e tray) e kind most tray)
-asked-counted counts (asked.Give tray) e = counted-none e.heap (asked_step e (asked.Give tray)).0.heap (give-counts counts (tray_named e.trays tray) e)
-asked-counted counts (asked.Join into other) e = counted-none e.heap e.heap (refl, refl)
-asked-counted counts asked.Flip e = counts.flip e.heap
-asked-counted counts asked.Trays e = counted-none e.heap e.heap (refl, refl)
-asked-counted counts asked.Stat e = counted-none e.heap e.heap (refl, refl)
-asked-counted counts asked.Dump e = counted-none e.heap e.heap (refl, refl)
+request-counted : HeapCounts → (request : Request) (e : EngineState) → IsCounted e.heap (request_step e request).0.heap (flip_of (request_step e request).1)
+request-counted counts (requests.Command owner command) e = counted-none e.heap (heap_step e.heap owner command).0 (counts.command e.heap owner command)
+request-counted counts requests.Begin e = counted-none e.heap (begin_step e.heap).0 (counts.begin e.heap)
+request-counted counts (requests.Shade root) e = counted-none e.heap (shade_step e.heap root).0 (counts.shade e.heap root)
+request-counted counts (requests.Deal kind most tray) e = counted-none e.heap (request_step e (requests.Deal kind most tray)).0.heap (deal-counts counts (tray_refusal e tray) e kind most tray)
+request-counted counts (requests.Give tray) e = counted-none e.heap (request_step e (requests.Give tray)).0.heap (give-counts counts (tray_named e.trays tray) e)
+request-counted counts (requests.Join into other) e = counted-none e.heap e.heap (refl, refl)
+request-counted counts requests.Flip e = counts.flip e.heap
+request-counted counts requests.Trays e = counted-none e.heap e.heap (refl, refl)
+request-counted counts requests.Stat e = counted-none e.heap e.heap (refl, refl)
+request-counted counts requests.Dump e = counted-none e.heap e.heap (refl, refl)
 
-pub flips_of-lines : HeapCounts → (e : EngineState) (lines : List Line) → (engine_after e lines).heap.flips ≡ e.heap.flips + count_by is_flip (answers_to e lines)
-flips_of-lines counts e [] = omega arith
-flips_of-lines counts e (line ∷ lines) =
-    let one = line_step e line in
-    omega (arith, flips_of-lines counts one.0 lines, (asked-counted counts (asked_of line) e).0, count_by-head is_flip one.1 (answers_to one.0 lines))
+pub flips_of-requests : HeapCounts → (e : EngineState) (requests : List Request) → (engine_after e requests).heap.flips ≡ e.heap.flips + count_by is_flip (answers_to e requests)
+flips_of-requests counts e [] = omega arith
+flips_of-requests counts e (request ∷ others) =
+    let one = request_step e request in
+    omega (arith, flips_of-requests counts one.0 others, (request-counted counts request e).0, count_by-head is_flip one.1 (answers_to one.0 others))
 
-pub root_words_of-lines : HeapCounts → (e : EngineState) (lines : List Line) → (engine_after e lines).heap.root_words ≡ e.heap.root_words + root_words_of (answers_to e lines)
-root_words_of-lines counts e [] = omega arith
-root_words_of-lines counts e (line ∷ lines) =
-    let one = line_step e line in
-    omega (arith, root_words_of-lines counts one.0 lines, (asked-counted counts (asked_of line) e).1)
+pub root_words_of-requests : HeapCounts → (e : EngineState) (requests : List Request) → (engine_after e requests).heap.root_words ≡ e.heap.root_words + root_words_of (answers_to e requests)
+root_words_of-requests counts e [] = omega arith
+root_words_of-requests counts e (request ∷ others) =
+    let one = request_step e request in
+    omega (arith, root_words_of-requests counts one.0 others, (request-counted counts request e).1)

@@ -25,19 +25,17 @@ use Rattle.rh_engine.specs.Engine.{EngineState, command_step, begin_line_step, s
 use Rattle.rh_syntax.specs.declared.fault.TraceFault.{TraceFault}
 use Rattle.rh_trace.specs.declared.run_fault.RunFault.{RunFault}
 use Rattle.rh_trace.specs.declared.run_fault.RunFault.TheVariants as faults
-use Rattle.rh_syntax.specs.declared.line.Line.{Line}
 use Rattle.rh_trace.specs.declared.summary.Summary.{Summary}
 use Rattle.rh_text.specs.Output.{AppendsPrefix, AppendsLess}
 use Rattle.rh_syntax.specs.Spelling.{Script}
 use Rattle.rh_syntax.specs.Reading.{trace_of}
 use Rattle.rh_dump.specs.PlainDump.{plain_dump_of}
 use Rattle.rh_trace.specs.HeapDump.{dump_of}
-use Rattle.rh_syntax.specs.declared.line.Asked.{Asked}
-use Rattle.rh_syntax.specs.declared.line.Asked.TheVariants as asked
-use Rattle.rh_syntax.specs.Line.{asked_of}
+use Rattle.rh_syntax.specs.declared.request.Request.{Request}
+use Rattle.rh_syntax.specs.declared.request.Request.TheVariants as requests
 use Rattle.rh_trace.specs.Answers as answers
 use Rattle.rh_trace.specs.Answers.{Answered, answered_text, total_line}
-use Rattle.rh_trace.specs.Run.{config_of, asked_step, line_step, answers_to, new_run, answers_of, summary_of, output_of, run_of_script, run_of_trace, text_of, StopsBeforeTotal, Ends, IsPlainAnswer, plain_after, AreTransparent, IsPlainRun}
+use Rattle.rh_trace.specs.Run.{config_of, request_step, answers_to, new_run, answers_of, summary_of, output_of, run_of_script, run_of_trace, text_of, StopsBeforeTotal, Ends, IsPlainAnswer, plain_after, AreTransparent, IsPlainRun}
 use Rattle.rh_syntax.specs.lemmas.ReadIsSpelled.{trace_of-means}
 
 -- a new heap stands for the empty plain heap
@@ -84,37 +82,37 @@ module _ {A : Type 0} (keeps : StaysWellFormed A) (steps : Steps A) where
   give-plain None e p plain = plain
   give-plain (Some t) e p plain = event-plain e.heap p plain (happenings.Give (replica_of t))
 
-  -- what is asked is answered as by the plain heap
-  asked-answer : Dumps → (what : Asked) (e : EngineState) (p : PlainHeap) → IsPlain e.heap p → IsPlainAnswer p what (asked_step e what).1
-  asked-answer dumps (asked.Command owner command) e p plain = ((command_step e owner command).1, refl, (steps e.heap plain.0 p plain.1 (happenings.Command owner command)).0)
-  asked-answer dumps asked.Begin e p plain = ((begin_line_step e).1, refl)
-  asked-answer dumps (asked.Shade root) e p plain = ((shade_line_step e root).1, refl)
-  asked-answer dumps (asked.Deal kind most tray) e p plain = ((deal_line_step e kind most tray).1, refl)
-  asked-answer dumps (asked.Give tray) e p plain = ((give_line_step e tray).1, refl)
-  asked-answer dumps (asked.Join into other) e p plain = ((join_line_step e into other).1, refl)
-  asked-answer dumps asked.Flip e p plain = ((flip_line_step e).1, refl)
-  asked-answer dumps asked.Trays e p plain = (e.trays, refl)
-  asked-answer dumps asked.Stat e p plain = (stat_of e.heap, refl)
-  asked-answer dumps asked.Dump e p plain = ap answers.Dump (dumps e.heap p plain.1)
+  -- a request is answered as by the plain heap
+  request-answer : Dumps → (request : Request) (e : EngineState) (p : PlainHeap) → IsPlain e.heap p → IsPlainAnswer p request (request_step e request).1
+  request-answer dumps (requests.Command owner command) e p plain = ((command_step e owner command).1, refl, (steps e.heap plain.0 p plain.1 (happenings.Command owner command)).0)
+  request-answer dumps requests.Begin e p plain = ((begin_line_step e).1, refl)
+  request-answer dumps (requests.Shade root) e p plain = ((shade_line_step e root).1, refl)
+  request-answer dumps (requests.Deal kind most tray) e p plain = ((deal_line_step e kind most tray).1, refl)
+  request-answer dumps (requests.Give tray) e p plain = ((give_line_step e tray).1, refl)
+  request-answer dumps (requests.Join into other) e p plain = ((join_line_step e into other).1, refl)
+  request-answer dumps requests.Flip e p plain = ((flip_line_step e).1, refl)
+  request-answer dumps requests.Trays e p plain = (e.trays, refl)
+  request-answer dumps requests.Stat e p plain = (stat_of e.heap, refl)
+  request-answer dumps requests.Dump e p plain = ap answers.Dump (dumps e.heap p plain.1)
 
   -- and the heap goes on to stand for it
-  asked-plain : (what : Asked) (e : EngineState) (p : PlainHeap) → IsPlain e.heap p → IsPlain (asked_step e what).0.heap (plain_after p what (asked_step e what).1)
-  asked-plain (asked.Command owner command) e p plain = event-plain e.heap p plain (happenings.Command owner command)
-  asked-plain asked.Begin e p plain = event-plain e.heap p plain happenings.Begin
-  asked-plain (asked.Shade root) e p plain = event-plain e.heap p plain (happenings.Shade root)
-  asked-plain (asked.Deal kind most tray) e p plain = deal-plain (tray_refusal e tray) e p kind most tray plain
-  asked-plain (asked.Give tray) e p plain = give-plain (tray_named e.trays tray) e p plain
-  asked-plain (asked.Join into other) e p plain = plain
-  asked-plain asked.Flip e p plain = event-plain e.heap p plain happenings.Flip
-  asked-plain asked.Trays e p plain = plain
-  asked-plain asked.Stat e p plain = plain
-  asked-plain asked.Dump e p plain = plain
+  request-plain : (request : Request) (e : EngineState) (p : PlainHeap) → IsPlain e.heap p → IsPlain (request_step e request).0.heap (plain_after p request (request_step e request).1)
+  request-plain (requests.Command owner command) e p plain = event-plain e.heap p plain (happenings.Command owner command)
+  request-plain requests.Begin e p plain = event-plain e.heap p plain happenings.Begin
+  request-plain (requests.Shade root) e p plain = event-plain e.heap p plain (happenings.Shade root)
+  request-plain (requests.Deal kind most tray) e p plain = deal-plain (tray_refusal e tray) e p kind most tray plain
+  request-plain (requests.Give tray) e p plain = give-plain (tray_named e.trays tray) e p plain
+  request-plain (requests.Join into other) e p plain = plain
+  request-plain requests.Flip e p plain = event-plain e.heap p plain happenings.Flip
+  request-plain requests.Trays e p plain = plain
+  request-plain requests.Stat e p plain = plain
+  request-plain requests.Dump e p plain = plain
 
-  answers-transparent : Dumps → (lines : List Line) (e : EngineState) (p : PlainHeap) → IsPlain e.heap p → AreTransparent p lines (answers_to e lines)
+  answers-transparent : Dumps → (requests : List Request) (e : EngineState) (p : PlainHeap) → IsPlain e.heap p → AreTransparent p requests (answers_to e requests)
   answers-transparent dumps [] e p plain = tt
-  answers-transparent dumps (line ∷ lines) e p plain = (
-    asked-answer dumps (asked_of line) e p plain,
-    answers-transparent dumps lines (line_step e line).0 (plain_after p (asked_of line) (line_step e line).1) (asked-plain (asked_of line) e p plain),
+  answers-transparent dumps (request ∷ others) e p plain = (
+    request-answer dumps request e p plain,
+    answers-transparent dumps others (request_step e request).0 (plain_after p request (request_step e request).1) (request-plain request e p plain),
   )
 
   -- a trace that was read, with its answers
@@ -124,7 +122,7 @@ module _ {A : Type 0} (keeps : StaysWellFormed A) (steps : Steps A) where
       record {
         fits = takes.0;
         read = subst (Consumes old new) takes.1 consumed;
-        answered = answers-transparent dumps script.lines (new_run script) (empty_plain script.header.owners script.header.slots) (fine, begins (config_of script.header));
+        answered = answers-transparent dumps script.requests (new_run script) (empty_plain script.header.owners script.header.slots) (fine, begins (config_of script.header));
       }
 
 -- ---- from what a run was to give to the trace that was read

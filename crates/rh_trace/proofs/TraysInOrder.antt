@@ -1,4 +1,4 @@
--- After each line the trays are at most 64, with their entries in order of place.
+-- After each request the trays are at most 64, with their entries in order of place.
 use Rattle.std.proofs.Common.{◌≡◌, ℕ, ◌+◌, ◌≤◌, subst, Bool, true, false, not, cond, ◌==◌, ◌&&◌, if◌then◌else◌, List, [], ◌∷◌, length, Option, Some, None, is_none, unwrap_or, Result, Ok, Err, refl, arith}
 use Rattle.std.specs.Prelude.{nat_le, nat_lt}
 use Rattle.std.specs.List.Sorted.{IsStrictlySortedBy}
@@ -14,13 +14,11 @@ use Rattle.rh_core.specs.declared.errors.DealError.TheVariants as deal_errors
 use Rattle.rh_core.proofs.entries.EntryPlaces.{places-apart}
 use Rattle.rh_engine.specs.declared.engine.DealRefusal.{DealRefusal}
 use Rattle.rh_engine.specs.declared.engine.DealRefusal.TheVariants as deal_refusals
-use Rattle.rh_syntax.specs.declared.line.Asked.{Asked}
-use Rattle.rh_syntax.specs.declared.line.Asked.TheVariants as asked
-use Rattle.rh_syntax.specs.declared.line.Line.{Line}
+use Rattle.rh_syntax.specs.declared.request.Request.{Request}
+use Rattle.rh_syntax.specs.declared.request.Request.TheVariants as requests
 use Rattle.rh_engine.specs.declared.trays.JoinRefusal.TheVariants as join_refusals
 use Rattle.rh_engine.specs.Engine.{EngineState, tray_refusal, deal_done, deal_unless, give_found}
-use Rattle.rh_syntax.specs.Line.{asked_of}
-use Rattle.rh_trace.specs.Run.{asked_step, line_step, engine_after}
+use Rattle.rh_trace.specs.Run.{request_step, engine_after}
 use Rattle.rh_engine.specs.Trays.{Tray, Trays, tray_named, trays_with, tray_with, tray_or_empty, empty_tray, is_beyond, joined_into, join_found, with_join, IsInOrder, AreInOrder, AreFewInOrder}
 use Rattle.rh_engine.proofs.TrayEntries.{rises-with_all}
 
@@ -113,22 +111,22 @@ module _ (trays : Trays) (were : AreFewInOrder trays) (into : List ℕ) where
   found_by None second = were
   found_by (Some u) second = joined_by (is_beyond trays into) u refl (second u refl)
 
-order-asked : (e : EngineState) (what : Asked) → AreFewInOrder e.trays → AreFewInOrder (asked_step e what).0.trays
-order-asked e (asked.Command owner command) were = were
-order-asked e asked.Begin were = were
-order-asked e (asked.Shade root) were = were
-order-asked e (asked.Deal kind most tray) were = unless_by e were tray (tray_refusal e tray) refl kind most
-order-asked e (asked.Give tray) were = give_by e were tray (tray_named e.trays tray)
-order-asked e (asked.Join into other) were = found_by e.trays were into (tray_named e.trays other) (λ u there. order-named e.trays other u were.order there)
-order-asked e asked.Flip were = were
-order-asked e asked.Trays were = were
-order-asked e asked.Stat were = were
-order-asked e asked.Dump were = were
+order-request : (e : EngineState) (request : Request) → AreFewInOrder e.trays → AreFewInOrder (request_step e request).0.trays
+order-request e (requests.Command owner command) were = were
+order-request e requests.Begin were = were
+order-request e (requests.Shade root) were = were
+order-request e (requests.Deal kind most tray) were = unless_by e were tray (tray_refusal e tray) refl kind most
+order-request e (requests.Give tray) were = give_by e were tray (tray_named e.trays tray)
+order-request e (requests.Join into other) were = found_by e.trays were into (tray_named e.trays other) (λ u there. order-named e.trays other u were.order there)
+order-request e requests.Flip were = were
+order-request e requests.Trays were = were
+order-request e requests.Stat were = were
+order-request e requests.Dump were = were
 
--- the trays after lines
-pub order-after_lines : (e : EngineState) (lines : List Line) → AreFewInOrder e.trays → AreFewInOrder (engine_after e lines).trays
-order-after_lines e [] were = were
-order-after_lines e (line ∷ lines) were = order-after_lines (line_step e line).0 lines (order-asked e (asked_of line) were)
+-- the trays after requests
+pub order-after_requests : (e : EngineState) (requests : List Request) → AreFewInOrder e.trays → AreFewInOrder (engine_after e requests).trays
+order-after_requests e [] were = were
+order-after_requests e (request ∷ others) were = order-after_requests (request_step e request).0 others (order-request e request were)
 
 -- no trays stand in order
 pub order-none : AreFewInOrder []

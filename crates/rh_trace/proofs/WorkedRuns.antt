@@ -4,6 +4,7 @@ use Rattle.std.proofs.Common.{◌≡◌, ℕ, List, [], ◌∷◌, ◌++◌, Res
 use Rattle.std.specs.Prelude.{codes}
 use Rattle.std.specs.Fmt.{digits}
 use Rattle.std.specs.List.{flat_map}
+use Rattle.rh_layout.specs.declared.command.Command.TheVariants.{Alloc, Load}
 use Rattle.rh_layout.specs.declared.command.Reply.{Reply}
 use Rattle.rh_layout.specs.declared.command.Reply.TheVariants as replies
 use Rattle.rh_layout.specs.declared.command.RootId.{RootId}
@@ -24,9 +25,9 @@ use Rattle.rh_text.specs.Parts.{is_formed, one_part, two_parts, three_parts, six
 use Rattle.rh_text.specs.Root.{root_of}
 use Rattle.rh_trace.specs.Answers as told
 use Rattle.rh_trace.specs.Answers.{Answered}
-use Rattle.rh_syntax.specs.declared.line.Line.{Line}
-use Rattle.rh_syntax.specs.declared.line.Line.TheVariants.{Alloc, Load, Dump}
-use Rattle.rh_syntax.specs.Reading.{operand_or_fault, alloc_of, store_of, command_or_fault, kind_or_fault, shade_of, deal_of, give_of, join_of, keyword_line, line_of_parts, sizes_of, header_of_parts, checked_parts, line_or_kind, header_or_kind, lines_from, script_or_fault}
+use Rattle.rh_syntax.specs.declared.request.Request.{Request}
+use Rattle.rh_syntax.specs.declared.request.Request.TheVariants.{Command, Dump}
+use Rattle.rh_syntax.specs.Reading.{operand_or_fault, alloc_of, store_of, command_or_fault, kind_or_fault, shade_of, deal_of, give_of, join_of, keyword_request, request_of_parts, sizes_of, header_of_parts, checked_parts, request_or_kind, header_or_kind, requests_from, script_or_fault}
 use Rattle.rh_trace.specs.Run.{run_of, text_of, AreTransparent}
 use Rattle.rh_syntax.specs.TrayName.{is_tray_name}
 
@@ -69,7 +70,7 @@ answers : List ℕ
 answers = text (flat_map (λ row. row.1) rows ++ codes "total commands 5 refused 0 flips 1 rootwords 3" ∷ [])
 
 run : text_of (run_of trace) ≡ answers
-unfolding digits script_or_fault header_or_kind line_or_kind lines_from checked_parts is_formed header_of_parts six_parts sizes_of number_of integer_of line_of_parts command_or_fault alloc_of store_of operand_or_fault keyword_line shade_of deal_of give_of join_of kind_or_fault is_tray_name one_part two_parts three_parts root_of heap_step heap_after_command limit_of mutators_after refusal_of fault_in reply_to begin_step flip_step shade_step deal_step give_step class_of text rows trace answers
+unfolding digits script_or_fault header_or_kind request_or_kind requests_from checked_parts is_formed header_of_parts six_parts sizes_of number_of integer_of request_of_parts command_or_fault alloc_of store_of operand_or_fault keyword_request shade_of deal_of give_of join_of kind_or_fault is_tray_name one_part two_parts three_parts root_of heap_step heap_after_command limit_of mutators_after refusal_of fault_in reply_to begin_step flip_step shade_step deal_step give_step class_of text rows trace answers
 run = refl
 
 -- ---- what isn't the answer of a plain heap
@@ -81,8 +82,8 @@ made : Answered
 made = told.Answer (Ok (replies.Object 1))
 
 -- what is answered where an object was made on an empty plain heap
-abbrev FollowsMade : Line → List Answered → Type 0
-FollowsMade line answered = AreTransparent (empty_plain 2 2) (Alloc 1 (root 0) 1 ∷ line ∷ []) (made ∷ answered)
+abbrev FollowsMade : Request → List Answered → Type 0
+FollowsMade request answered = AreTransparent (empty_plain 2 2) (Command 1 (Alloc (root 0) 1) ∷ request ∷ []) (made ∷ answered)
 
 later : {A B : Type 0} → A × B → B
 later both = both.1
@@ -97,12 +98,12 @@ plain_done answer plain is judged =
     subst (λ a. AnswersAs (is_limit_answer a) a plain) same judged
 
 -- a load that is answered what the field holds is accepted
-read_nil : FollowsMade (Load 1 (root 1) (root 0) 0) (told.Answer (Ok replies.Nil) ∷ [])
+read_nil : FollowsMade (Command 1 (Load (root 1) (root 0) 0)) (told.Answer (Ok replies.Nil) ∷ [])
 unfolding step refusal_of fault_in reply_to plain_after_command root made
 read_nil = ((Ok (replies.Object 1), refl, refl), ((Ok replies.Nil, refl, refl), tt))
 
 -- a load that is answered that it was done
-done_for_load : FollowsMade (Load 1 (root 1) (root 0) 0) (told.Answer (Ok replies.Done) ∷ []) → ⊥
+done_for_load : FollowsMade (Command 1 (Load (root 1) (root 0) 0)) (told.Answer (Ok replies.Done) ∷ []) → ⊥
 unfolding step refusal_of fault_in reply_to plain_after_command root made
 done_for_load h =
     let load = first (later h) in
@@ -110,7 +111,7 @@ done_for_load h =
     cc
 
 -- a load without an answer
-no_answer : FollowsMade (Load 1 (root 1) (root 0) 0) [] → ⊥
+no_answer : FollowsMade (Command 1 (Load (root 1) (root 0) 0)) [] → ⊥
 unfolding step refusal_of fault_in reply_to plain_after_command root made
 no_answer h = later h
 

@@ -24,15 +24,13 @@ use Rattle.rh_engine.specs.declared.engine.GiveRefusal.{GiveRefusal}
 use Rattle.rh_syntax.specs.declared.fault.TraceFault.{TraceFault}
 use Rattle.rh_trace.specs.declared.run_fault.RunFault.{RunFault}
 use Rattle.rh_trace.specs.declared.run_fault.RunFault.TheVariants as faults
-use Rattle.rh_syntax.specs.declared.line.Asked.{Asked}
-use Rattle.rh_syntax.specs.declared.line.Asked.TheVariants as asked
+use Rattle.rh_syntax.specs.declared.request.Request.{Request}
+use Rattle.rh_syntax.specs.declared.request.Request.TheVariants as requests
 use Rattle.rh_syntax.specs.declared.line.Header.{Header}
-use Rattle.rh_syntax.specs.declared.line.Line.{Line}
 use Rattle.rh_trace.specs.declared.stop.Stop.{Stop}
 use Rattle.rh_trace.specs.declared.summary.Summary.{Summary}
 use Rattle.rh_engine.specs.declared.trays.JoinRefusal.{JoinRefusal}
 use Rattle.rh_engine.specs.Trays.{Trays}
-use Rattle.rh_syntax.specs.Line.{asked_of}
 use Rattle.rh_syntax.specs.Spelling.{Script, IsScript, spelling}
 use Rattle.rh_syntax.specs.Reading.{trace_of}
 use Rattle.rh_trace.specs.Answers as answers
@@ -56,34 +54,31 @@ config_of header = record {
 abbrev pub answered_by : {X : Type 0} → (X → Answered) → EngineState × X → EngineState × Answered
 answered_by answer stepped = (stepped.0, answer stepped.1)
 
--- what is asked of the engine: the engine afterwards, and what is answered
-abbrev pub asked_step : EngineState → Asked → EngineState × Answered
-asked_step e (asked.Command owner command) =
+-- what a request does: the engine afterwards, and what is answered
+abbrev pub request_step : EngineState → Request → EngineState × Answered
+request_step e (requests.Command owner command) =
     answered_by answers.Answer (command_step e owner command)
-asked_step e asked.Begin = answered_by answers.Begin (begin_line_step e)
-asked_step e (asked.Shade root) = answered_by answers.Shade (shade_line_step e root)
-asked_step e (asked.Deal kind most tray) =
+request_step e requests.Begin = answered_by answers.Begin (begin_line_step e)
+request_step e (requests.Shade root) = answered_by answers.Shade (shade_line_step e root)
+request_step e (requests.Deal kind most tray) =
     answered_by answers.Deal (deal_line_step e kind most tray)
-asked_step e (asked.Give tray) = answered_by answers.Give (give_line_step e tray)
-asked_step e (asked.Join into other) = answered_by answers.Join (join_line_step e into other)
-asked_step e asked.Flip = answered_by answers.Flip (flip_line_step e)
-asked_step e asked.Trays = (e, answers.Listing e.trays)
-asked_step e asked.Stat = (e, answers.Numbers (stat_of e.heap))
-asked_step e asked.Dump = (e, answers.Dump (dump_of e.heap))
+request_step e (requests.Give tray) = answered_by answers.Give (give_line_step e tray)
+request_step e (requests.Join into other) = answered_by answers.Join (join_line_step e into other)
+request_step e requests.Flip = answered_by answers.Flip (flip_line_step e)
+request_step e requests.Trays = (e, answers.Listing e.trays)
+request_step e requests.Stat = (e, answers.Numbers (stat_of e.heap))
+request_step e requests.Dump = (e, answers.Dump (dump_of e.heap))
 
--- a line: the engine afterwards, and what is answered
-abbrev pub line_step : EngineState → Line → EngineState × Answered
-line_step e line = asked_step e (asked_of line)
-
--- what is answered to each line, in order
-abbrev pub answers_to : EngineState → List Line → List Answered
+-- what is answered to each request, in order
+abbrev pub answers_to : EngineState → List Request → List Answered
 answers_to e [] = []
-answers_to e (line ∷ lines) = (line_step e line).1 ∷ answers_to (line_step e line).0 lines
+answers_to e (request ∷ others) =
+    (request_step e request).1 ∷ answers_to (request_step e request).0 others
 
--- the engine after all lines
-abbrev pub engine_after : EngineState → List Line → EngineState
+-- the engine after all requests
+abbrev pub engine_after : EngineState → List Request → EngineState
 engine_after e [] = e
-engine_after e (line ∷ lines) = engine_after (line_step e line).0 lines
+engine_after e (request ∷ others) = engine_after (request_step e request).0 others
 
 -- what the answers add up to
 abbrev pub summary_of : List Answered → Summary
@@ -111,9 +106,9 @@ output_of answers = flat_map answered_text answers ++ total_line (summary_of ans
 abbrev pub new_run : Script → EngineState
 new_run script = record { heap = new_heap (config_of script.header); trays = [] }
 
--- what is answered to all lines of a trace
+-- what is answered to all requests of a trace
 abbrev pub answers_of : Script → List Answered
-answers_of script = answers_to (new_run script) script.lines
+answers_of script = answers_to (new_run script) script.requests
 
 -- what a run of this trace gives: the fault of its heap's sizes, or the text that is written and
 -- its summary
@@ -170,55 +165,55 @@ Ends due (Err faults.Read) old new = Keeps old new
 Ends due (Err faults.Write) old new = AppendsLess old new (text_of due)
 Ends due (Err faults.OutOfMemory) old new = StopsBeforeTotal due old new
 
--- What is asked is answered as a plain heap does: a command by its step, or by a limit refusal
+-- A request is answered as a plain heap does: a command by its step, or by a limit refusal
 -- where the step is accepted; a dump by that of the plain heap. A plain heap has no cycles and no
--- trays: of the other lines it says nothing but which sort of answer they have.
-abbrev pub IsPlainAnswer : PlainHeap → Asked → Answered → Type 0
-IsPlainAnswer p (asked.Command owner command) answered =
+-- trays: of the other requests it says nothing but which sort of answer they have.
+abbrev pub IsPlainAnswer : PlainHeap → Request → Answered → Type 0
+IsPlainAnswer p (requests.Command owner command) answered =
     (answer : Result Reply Refusal) × (answered ≡ answers.Answer answer)
     × AnswersAs (is_limit_answer answer) answer (step p owner command).1
-IsPlainAnswer p asked.Begin answered =
+IsPlainAnswer p requests.Begin answered =
     (answer : Result ℕ BeginError) × (answered ≡ answers.Begin answer)
-IsPlainAnswer p (asked.Shade root) answered =
+IsPlainAnswer p (requests.Shade root) answered =
     (answer : Result outcomes.Shaded.Shaded ShadeError) × (answered ≡ answers.Shade answer)
-IsPlainAnswer p (asked.Deal kind most tray) answered =
+IsPlainAnswer p (requests.Deal kind most tray) answered =
     (answer : Result Counted DealRefusal) × (answered ≡ answers.Deal answer)
-IsPlainAnswer p (asked.Give tray) answered =
+IsPlainAnswer p (requests.Give tray) answered =
     (answer : Result outcomes.Given.Given GiveRefusal) × (answered ≡ answers.Give answer)
-IsPlainAnswer p (asked.Join into other) answered =
+IsPlainAnswer p (requests.Join into other) answered =
     (answer : Result ℕ JoinRefusal) × (answered ≡ answers.Join answer)
-IsPlainAnswer p asked.Flip answered =
+IsPlainAnswer p requests.Flip answered =
     (answer : Result outcomes.Flipped.Flipped FlipError) × (answered ≡ answers.Flip answer)
-IsPlainAnswer p asked.Trays answered = (listed : Trays) × (answered ≡ answers.Listing listed)
-IsPlainAnswer p asked.Stat answered = (stat : Stat) × (answered ≡ answers.Numbers stat)
-IsPlainAnswer p asked.Dump answered = answered ≡ answers.Dump (plain_dump_of p)
+IsPlainAnswer p requests.Trays answered = (listed : Trays) × (answered ≡ answers.Listing listed)
+IsPlainAnswer p requests.Stat answered = (stat : Stat) × (answered ≡ answers.Numbers stat)
+IsPlainAnswer p requests.Dump answered = answered ≡ answers.Dump (plain_dump_of p)
 
 -- whether a limit refused a command
 abbrev pub is_limited : Answered → Bool
 is_limited (answers.Answer answer) = is_limit_answer answer
 is_limited other = false
 
--- the plain heap after what is asked: it goes on by each command that no limit refused, and stays
--- through all other lines
-abbrev pub plain_after : PlainHeap → Asked → Answered → PlainHeap
-plain_after p (asked.Command owner command) answered =
+-- the plain heap after a request: it goes on by each command that no limit refused, and stays
+-- through all other requests
+abbrev pub plain_after : PlainHeap → Request → Answered → PlainHeap
+plain_after p (requests.Command owner command) answered =
     plain_unless (is_limited answered) p owner command
 plain_after p other answered = p
 
--- Line by line the answers are those of a plain heap, but for limits.
-abbrev pub AreTransparent : PlainHeap → List Line → List Answered → Type 0
+-- Request by request the answers are those of a plain heap, but for limits.
+abbrev pub AreTransparent : PlainHeap → List Request → List Answered → Type 0
 AreTransparent p [] [] = Unit {0}
 AreTransparent p [] (answered ∷ answers) = ⊥
-AreTransparent p (line ∷ lines) [] = ⊥
-AreTransparent p (line ∷ lines) (answered ∷ answers) =
-    IsPlainAnswer p (asked_of line) answered
-    × AreTransparent (plain_after p (asked_of line) answered) lines answers
+AreTransparent p (request ∷ others) [] = ⊥
+AreTransparent p (request ∷ others) (answered ∷ answers) =
+    IsPlainAnswer p request answered
+    × AreTransparent (plain_after p request answered) others answers
 
--- The bytes that a reader gave spell this trace, and the answers to its lines are those of a plain
--- heap that begins empty, but for limits.
+-- The bytes that a reader gave spell this trace, and the answers to its requests are those of a
+-- plain heap that begins empty, but for limits.
 pub record IsPlainRun (script : Script) (answers : List Answered) (old new : Option (List ℕ))
     : Type 0 where
   pub fits : IsScript script
   pub read : Consumes old new (spelling script)
   pub answered :
-      AreTransparent (empty_plain script.header.owners script.header.slots) script.lines answers
+      AreTransparent (empty_plain script.header.owners script.header.slots) script.requests answers

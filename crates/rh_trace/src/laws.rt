@@ -6,5 +6,6 @@ pub mod summaries;
 pub mod trays;
 
 pub use rh_syntax::laws::{
-    a_single_command_is_read_as_spelled, the_first_fault_is_named, what_is_spelled_is_read,
+    a_single_command_is_read_as_spelled, each_line_is_of_one_request, the_first_fault_is_named,
+    what_is_spelled_is_read,
 };

@@ -17,9 +17,9 @@ pub use rh_engine::{
     put_give, put_join, put_shade, put_stat, put_tray,
 };
 pub use rh_syntax::{
-    Asked, Header, Kind, Line, ParseError, Trace, TraceFault, TrayName, checked_parts, command_of,
-    owned_command, parse, print, print_told, put_answer_text, put_command_text, tray_name_of,
-    write_answer, write_answer_told, write_command, write_command_told,
+    Header, Kind, Line, ParseError, Request, Trace, TraceFault, TrayName, checked_parts,
+    command_of, owned_command, parse, print, print_told, put_answer_text, put_command_text,
+    tray_name_of, write_answer, write_answer_told, write_command, write_command_told,
 };
 pub use rh_text::Write;
 pub use run_fault::RunFault;

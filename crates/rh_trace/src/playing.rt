@@ -1,4 +1,4 @@
-//! The lines of a trace, run one after the other.
+//! The requests of a trace, run one after the other.
 
 ghost use Rattle.std.specs.Prelude.{◌≡◌, ◌<◌, ◌≤◌, ◌+◌, ◌^◌, length, false, IfOk, IsErrOf, OnOk};
 ghost use Rattle.std.specs.List.{flat_map};
@@ -12,7 +12,7 @@ ghost use Rattle.rh_trace.specs.Answers.{answered_text, with_line_end, trays_tex
 ghost use Rattle.rh_engine.specs.CycleAnswers.{flip_text, stat_text};
 ghost use Rattle.rh_engine.specs.Engine.{command_step, flip_line_step};
 ghost use Rattle.rh_trace.specs.HeapDump.{dump_of};
-ghost use Rattle.rh_trace.specs.Run.{answers_to, line_step, output_of, summary_of, summary_with};
+ghost use Rattle.rh_trace.specs.Run.{answers_to, request_step, output_of, summary_of, summary_with};
 ghost use Rattle.rh_trace.specs.Run.{Writes};
 
 use crate::answers::put_total;
@@ -25,7 +25,7 @@ use rh_engine::{
     Engine, Trays, put_begin, put_deal, put_flip, put_give, put_join, put_shade, put_stat, put_tray,
 };
 use rh_layout::Command;
-use rh_syntax::{Asked, Line, put_answer_text};
+use rh_syntax::{Request, put_answer_text};
 use rh_text::{Calls, LineText, send};
 use std::alloc::Allocator;
 use std::io;
@@ -145,13 +145,13 @@ fn put_numbers<A: Allocator + Copy>(heap: &Heap<A>, text: &mut LineText)
     put_stat(text, &heap.stat());
 }
 
-/// Runs a line, counts it where it is a command or a flip that was done, and writes what is
+/// Runs a request, counts it where it is a command or a flip that was done, and writes what is
 /// answered.
 #[inline(always)]
-fn play_line<A: Allocator + Copy, W: io::Write>(
+fn play_request<A: Allocator + Copy, W: io::Write>(
     alloc: A,
     engine: &mut Engine<A>,
-    line: &Line,
+    request: &Request,
     text: &mut LineText,
     summary: &mut Summary,
     writer: &mut W,
@@ -162,46 +162,48 @@ fn play_line<A: Allocator + Copy, W: io::Write>(
     requires few_refused { summary.old.refused < 2 ^ 63 }
     requires few_flips { summary.old.flips < 2 ^ 63 }
     requires few_root_words { summary.old.root_words < 2 ^ 127 }
-    ensures state { OnOk result (engine.new ≡ (line_step engine.old line.now).0) }
+    ensures state { OnOk result (engine.new ≡ (request_step engine.old request.now).0) }
     ensures summary { OnOk result (summary.new
-        ≡ summary_with summary.old (line_step engine.old line.now).1) }
+        ≡ summary_with summary.old (request_step engine.old request.now).1) }
     ensures few_roots { summary.new.root_words ≤ summary.old.root_words + 2 ^ 32 }
-    ensures written { Writes (answered_text (line_step engine.old line.now).1) result
+    ensures written { Writes (answered_text (request_step engine.old request.now).1) result
         (W.contents writer.old) (W.contents writer.new) }
     ensures failed { IsErrOf result Stop.Write → AreSpent writes.new }
     ensures none_failed { ¬ IsErrOf result Stop.Write → writes.new.failed ≡ false }
 {
-    match line.asks() {
-        Asked::Command { owner, command } => answer_command(engine, owner, &command, text, summary),
-        Asked::Begin => put_begin(text, engine.begin()),
-        Asked::Shade { root } => put_shade(text, engine.shade(root)),
-        Asked::Deal { kind, most, tray } => put_deal(text, engine.deal(kind, most, tray)?),
-        Asked::Give { tray } => put_give(text, engine.give(tray)),
-        Asked::Join { into, other } => put_join(text, engine.join(into, other)?),
-        Asked::Flip => answer_flip(engine, text, summary),
-        Asked::Trays => return write_trays(engine.trays(), text, writer, writes),
-        Asked::Stat => put_numbers(engine.heap(), text),
-        Asked::Dump => return write_heap_dump(alloc, engine.heap(), writer, writes),
+    match *request {
+        Request::Command { owner, ref command } => {
+            answer_command(engine, owner, command, text, summary)
+        }
+        Request::Begin => put_begin(text, engine.begin()),
+        Request::Shade { root } => put_shade(text, engine.shade(root)),
+        Request::Deal { kind, most, tray } => put_deal(text, engine.deal(kind, most, tray)?),
+        Request::Give { tray } => put_give(text, engine.give(tray)),
+        Request::Join { into, other } => put_join(text, engine.join(into, other)?),
+        Request::Flip => answer_flip(engine, text, summary),
+        Request::Trays => return write_trays(engine.trays(), text, writer, writes),
+        Request::Stat => put_numbers(engine.heap(), text),
+        Request::Dump => return write_heap_dump(alloc, engine.heap(), writer, writes),
     }
     write_line(text, writer, writes)
 }
 
-/// Runs all lines, and writes what is answered to each and the total line.
+/// Runs all requests, and writes what is answered to each and the total line.
 pub(crate) fn play<A: Allocator + Copy, W: io::Write>(
     alloc: A,
     engine: &mut Engine<A>,
-    lines: &[Line],
+    requests: &[Request],
     writer: &mut W,
     writes: &mut Calls,
 ) -> Result<Summary, Stop>
     requires { writes.old.failed ≡ false }
-    ensures summary { IfOk result (λ s. s ≡ summary_of (answers_to engine.old lines.now)) }
-    ensures written { Writes (output_of (answers_to engine.old lines.now)) result
+    ensures summary { IfOk result (λ s. s ≡ summary_of (answers_to engine.old requests.now)) }
+    ensures written { Writes (output_of (answers_to engine.old requests.now)) result
         (W.contents writer.old) (W.contents writer.new) }
     // Where memory was refused, nothing of the total line was written.
     ensures before_total { IsErrOf result Stop.OutOfMemory
         → AppendsLess (W.contents writer.old) (W.contents writer.new)
-        (flat_map answered_text (answers_to engine.old lines.now)) }
+        (flat_map answered_text (answers_to engine.old requests.now)) }
     ensures failed { IsErrOf result Stop.Write → AreSpent writes.new }
     ensures none_failed { ¬ IsErrOf result Stop.Write → writes.new.failed ≡ false }
 {
@@ -212,8 +214,16 @@ pub(crate) fn play<A: Allocator + Copy, W: io::Write>(
         flips: 0,
         root_words: 0,
     };
-    for line in lines {
-        play_line(alloc, engine, line, &mut text, &mut summary, writer, writes)?;
+    for request in requests {
+        play_request(
+            alloc,
+            engine,
+            request,
+            &mut text,
+            &mut summary,
+            writer,
+            writes,
+        )?;
     }
     put_total(&mut text, &summary);
     send(writer, writes, text.as_bytes())?;

@@ -79,7 +79,7 @@ fn run_input<A: Allocator + Copy, W: io::Write>(
     // Only for the proof: the heap is well formed.
     let _ = heap.stat();
     let mut engine = Engine::new(alloc, heap);
-    match play(alloc, &mut engine, trace.lines(), writer, writes) {
+    match play(alloc, &mut engine, trace.requests(), writer, writes) {
         Ok(summary) => Ok(summary),
         Err(Stop::Write) => Err(RunFault::Write),
         Err(Stop::OutOfMemory) => Err(RunFault::OutOfMemory),

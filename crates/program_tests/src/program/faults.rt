@@ -6,7 +6,7 @@ use crate::texts::repeated;
 use rh_cli::Ask;
 use rh_dump::{DumpFault, DumpKind, DumpReadError};
 use rh_layout::{Command, RootId};
-use rh_trace::{Asked, Kind, Line, ParseError, TraceFault, Write, parse};
+use rh_trace::{Kind, Line, ParseError, Request, TraceFault, Write, parse};
 use std::process::Abort;
 use std::test::Fail;
 
@@ -297,10 +297,14 @@ fn texts_of_faults(rt: HostRuntime) {
 }
 
 #[test]
-fn a_line_is_that_of_its_command(rt: HostRuntime) {
+fn a_line_is_that_of_its_request(rt: HostRuntime) -> Result<(), Fail> {
     let root = RootId { owner: 1, slot: 0 };
     let command = Command::Drop { root };
-    let line = Line::of(3, command);
-    expect_equal(&rt, line, Line::Drop { owner: 3, root });
-    expect_equal(&rt, line.asks(), Asked::Command { owner: 3, command });
+    let request = Request::Command { owner: 3, command };
+    expect_equal(&rt, Line::of(&request), Line::Drop { owner: 3, root });
+    let trace = parse(rt.alloc(), b"heap 16 8 4 2 2\n3 drop 1.0\n")
+        .ok()
+        .ok_or("a trace")?;
+    expect_equal(&rt, trace.requests(), [request].as_slice());
+    Ok(())
 }

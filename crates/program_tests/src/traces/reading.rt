@@ -10,8 +10,10 @@ use refusing::RefusingAllocator;
 use rh_core::Kind as PieceKind;
 use rh_layout::{Operand, RootId};
 use rh_trace::{
-    Header, Kind, Line, ParseError, TraceFault, TrayName, Write, parse, print, tray_name_of,
+    Header, Kind, Line, ParseError, Request, Trace, TraceFault, TrayName, Write, parse, print,
+    tray_name_of,
 };
+use std::alloc::Allocator;
 use std::process::Abort;
 use std::test::Fail;
 
@@ -116,16 +118,28 @@ fn other_lines(rt: &impl Abort) -> [Line; 10] {
     ]
 }
 
+/// The line `i` of a trace, if it has one.
+fn line_at<A: Allocator>(trace: &Trace<A>, i: usize) -> Option<Line> {
+    if i < trace.len() {
+        Some(trace.line(i))
+    } else {
+        None
+    }
+}
+
 #[test]
 fn reads_each_keyword(rt: HostRuntime) -> Result<(), Fail> {
     let trace = parse(rt.alloc(), KEYWORDS).ok().ok_or("a trace")?;
     expect_equal(&rt, trace.header(), HEADER);
     expect_equal(&rt, (trace.len(), trace.is_empty()), (16, false));
-    let (commands, others) = trace.lines().split_at(6.min(trace.len()));
-    expect_equal(&rt, commands, command_lines().as_slice());
-    expect_equal(&rt, others, other_lines(&rt).as_slice());
+    for (i, line) in (0..6).zip(command_lines().iter()) {
+        expect_equal(&rt, line_at(&trace, i), Some(*line));
+    }
+    for (i, line) in (6..16).zip(other_lines(&rt).iter()) {
+        expect_equal(&rt, line_at(&trace, i), Some(*line));
+    }
     assert!(rt; trace.len() == 16 && trace.line(15) == Line::Dump);
-    assert!(rt; size_of::<Line>() <= 40);
+    assert!(rt; size_of::<Line>() <= 40 && size_of::<Request>() <= 40);
     Ok(())
 }
 
@@ -146,14 +160,14 @@ const STORED: &[Operand] = &[
 fn reads_each_operand(rt: HostRuntime) -> Result<(), Fail> {
     let trace = parse(rt.alloc(), OPERANDS).ok().ok_or("a trace")?;
     expect_equal(&rt, trace.len(), 10);
-    for (line, operand) in trace.lines().iter().zip(STORED) {
+    for (i, operand) in STORED.iter().enumerate() {
         let store = Line::Store {
             owner: 1,
             obj: A,
             field: 1,
             operand: *operand,
         };
-        expect_equal(&rt, *line, store);
+        expect_equal(&rt, line_at(&trace, i), Some(store));
     }
     Ok(())
 }

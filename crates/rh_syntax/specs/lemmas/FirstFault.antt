@@ -29,14 +29,13 @@ use Rattle.rh_syntax.specs.declared.fault.Kind.{Kind}
 use Rattle.rh_syntax.specs.declared.fault.Kind.TheVariants.{Empty, Long, Cut, Form, Header, Word, Number, Root, Tray}
 use Rattle.rh_syntax.specs.declared.fault.TraceFault.{TraceFault}
 use Rattle.rh_syntax.specs.declared.line as declared
-use Rattle.rh_syntax.specs.declared.line.Line.{Line}
-use Rattle.rh_syntax.specs.declared.line.Line.TheVariants as lines
+use Rattle.rh_syntax.specs.declared.request.Request.{Request}
+use Rattle.rh_syntax.specs.declared.request.Request.TheVariants as requests
 use Rattle.rh_syntax.specs.Faults.{Sort, keyword, number, root, operand, copies_or_entries, tray, header_form, command_forms, keyword_forms, lookup, IsNumber, IsRoot, IsInteger, HasDot, IsDigitFirst, each_part, form_faults, BeginsWithOwner, LacksKeyword, form_of, command_part_faults, command_faults, keyword_part_faults, line_part_faults, IsFirstPart, header_part_faults, raw_line_faults, header_faults, line_faults, trace_faults}
-use Rattle.rh_syntax.specs.Line.{line_of}
-use Rattle.rh_syntax.specs.Reading.{number_or_fault, integer_or_fault, root_or_fault, operand_or_fault, alloc_of, load_of, store_of, copy_of, same_of, drop_of, command_or_fault, owned_command, single_command, alone, tray_or_fault, kind_or_fault, shade_of, deal_of, give_of, join_of, keyword_line, line_of_parts, sizes_of, header_of_parts, checked_parts, fault_at, line_or_kind, header_or_kind, lines_from, script_or_fault, trace_of}
-use Rattle.rh_syntax.specs.Spelling.{Script, spell_line, spell_header, LineFits, HeaderFits}
+use Rattle.rh_syntax.specs.Reading.{number_or_fault, integer_or_fault, root_or_fault, operand_or_fault, alloc_of, load_of, store_of, copy_of, same_of, drop_of, command_or_fault, owned_command, single_command, alone, tray_or_fault, kind_or_fault, shade_of, deal_of, give_of, join_of, keyword_request, request_of_parts, sizes_of, header_of_parts, checked_parts, fault_at, request_or_kind, header_or_kind, requests_from, script_or_fault, trace_of}
+use Rattle.rh_syntax.specs.Spelling.{Script, spell_request, spell_header, RequestFits, HeaderFits}
 use Rattle.rh_syntax.specs.TrayName.{tray_name_of, IsTrayName}
-use Rattle.rh_syntax.specs.lemmas.ReadIsSpelled.{line_or_fault-means, header_or_fault-means}
+use Rattle.rh_syntax.specs.lemmas.ReadIsSpelled.{request_or_fault-means, header_or_fault-means}
 use Rattle.rh_syntax.specs.lemmas.TrayNames.{in_range-Decides, name-from_read, read-from_name}
 
 -- ---- numbers, roots and operands
@@ -280,9 +279,9 @@ judges-owned (first ∷ rest) = by_first (begins_with_digit first) first rest (b
 cons_nil : {A : Type 0} (x : A) (xs : List A) → ◌≡◌ {A = List A} (x ∷ xs) [] → ⊥
 cons_nil x xs e = cc
 
-judges-alone : (word : List ℕ) (args : List (List ℕ)) (line : Line) → Judges (form_faults (Some (keyword ∷ [])) (word ∷ args)) (alone args line)
-judges-alone word [] line = counted (keyword ∷ []) (word ∷ []) refl [] [] (Ok line) refl (judges-end line)
-judges-alone word (a ∷ args) line = miscounted (keyword ∷ []) (word ∷ []) refl [] (a ∷ args) (λ e. absurd (omega (arith, e)))
+judges-alone : (word : List ℕ) (args : List (List ℕ)) (request : Request) → Judges (form_faults (Some (keyword ∷ [])) (word ∷ args)) (alone args request)
+judges-alone word [] request = counted (keyword ∷ []) (word ∷ []) refl [] [] (Ok request) refl (judges-end request)
+judges-alone word (a ∷ args) request = miscounted (keyword ∷ []) (word ∷ []) refl [] (a ∷ args) (λ e. absurd (omega (arith, e)))
 
 judges-shade : (word : List ℕ) (args : List (List ℕ)) → Judges (form_faults (Some (keyword ∷ root ∷ [])) (word ∷ args)) (shade_of args)
 unfolding shade_of
@@ -306,20 +305,20 @@ judges-join word args = judges-two (keyword ∷ []) (word ∷ []) refl tray tray
 abbrev LacksForm : Option (List Sort) → Type 0
 LacksForm form = form ≡ None
 
-judges-keyword_line : (word : List ℕ) (args : List (List ℕ)) → Judges (keyword_part_faults (word ∷ args)) (keyword_line word args)
-unfolding keyword_line
-judges-keyword_line word args =
+judges-keyword_request : (word : List ℕ) (args : List (List ℕ)) → Judges (keyword_part_faults (word ∷ args)) (keyword_request word args)
+unfolding keyword_request
+judges-keyword_request word args =
     let parts = word ∷ args in
-    judges-later Form (parts ≡ []) (word_faults LacksForm parts (lookup word keyword_forms)) (keyword_line word args) (cons_nil word args)
-    (by_keyword LacksForm parts some_none (bytes_eq word (codes "begin")) _ _ _ _ (judges-alone word args lines.Begin)
+    judges-later Form (parts ≡ []) (word_faults LacksForm parts (lookup word keyword_forms)) (keyword_request word args) (cons_nil word args)
+    (by_keyword LacksForm parts some_none (bytes_eq word (codes "begin")) _ _ _ _ (judges-alone word args requests.Begin)
     (by_keyword LacksForm parts some_none (bytes_eq word (codes "shade")) _ _ _ _ (judges-shade word args)
     (by_keyword LacksForm parts some_none (bytes_eq word (codes "deal")) _ _ _ _ (judges-deal word args)
     (by_keyword LacksForm parts some_none (bytes_eq word (codes "give")) _ _ _ _ (judges-give word args)
     (by_keyword LacksForm parts some_none (bytes_eq word (codes "join")) _ _ _ _ (judges-join word args)
-    (by_keyword LacksForm parts some_none (bytes_eq word (codes "flip")) _ _ _ _ (judges-alone word args lines.Flip)
-    (by_keyword LacksForm parts some_none (bytes_eq word (codes "trays")) _ _ _ _ (judges-alone word args lines.Trays)
-    (by_keyword LacksForm parts some_none (bytes_eq word (codes "stat")) _ _ _ _ (judges-alone word args lines.Stat)
-    (by_keyword LacksForm parts some_none (bytes_eq word (codes "dump")) _ _ _ _ (judges-alone word args lines.Dump)
+    (by_keyword LacksForm parts some_none (bytes_eq word (codes "flip")) _ _ _ _ (judges-alone word args requests.Flip)
+    (by_keyword LacksForm parts some_none (bytes_eq word (codes "trays")) _ _ _ _ (judges-alone word args requests.Trays)
+    (by_keyword LacksForm parts some_none (bytes_eq word (codes "stat")) _ _ _ _ (judges-alone word args requests.Stat)
+    (by_keyword LacksForm parts some_none (bytes_eq word (codes "dump")) _ _ _ _ (judges-alone word args requests.Dump)
     (unknown LacksForm parts refl))))))))))
 
 -- ---- all lines
@@ -337,14 +336,14 @@ judges-with_owner parts r owned judged = judges-alike (command_part_faults parts
 judges-without_owner : {A : Type 0} (parts : List (List ℕ)) (r : Result A Kind) → ¬ BeginsWithOwner parts → Judges (keyword_part_faults parts) r → Judges (line_part_faults parts) r
 judges-without_owner parts r bare judged = judges-alike (keyword_part_faults parts) (line_part_faults parts) r (λ p k h. inr (bare, h)) (λ p k h. elim h [ inl command ↦ absurd (bare command.0) | inr other ↦ other.1 ]) judged
 
-by_owner : (t : Bool) (first : List ℕ) (rest : List (List ℕ)) → Decides t (IsDigitFirst first) → Judges (line_part_faults (first ∷ rest)) (cond t (command_or_fault first rest >>= λ owned. Ok (line_of owned.0 owned.1)) (keyword_line first rest))
-by_owner true first rest decides = judges-with_owner (first ∷ rest) (command_or_fault first rest >>= λ owned. Ok (line_of owned.0 owned.1)) (decides.0 refl) (judges-step (command_or_fault first rest) (λ owned. line_of owned.0 owned.1) (judges-command first rest (decides.0 refl)))
-by_owner false first rest decides = judges-without_owner (first ∷ rest) (keyword_line first rest) (not_from_Decides false decides refl) (judges-keyword_line first rest)
+by_owner : (t : Bool) (first : List ℕ) (rest : List (List ℕ)) → Decides t (IsDigitFirst first) → Judges (line_part_faults (first ∷ rest)) (cond t (command_or_fault first rest >>= λ owned. Ok (requests.Command owned.0 owned.1)) (keyword_request first rest))
+by_owner true first rest decides = judges-with_owner (first ∷ rest) (command_or_fault first rest >>= λ owned. Ok (requests.Command owned.0 owned.1)) (decides.0 refl) (judges-step (command_or_fault first rest) (λ owned. requests.Command owned.0 owned.1) (judges-command first rest (decides.0 refl)))
+by_owner false first rest decides = judges-without_owner (first ∷ rest) (keyword_request first rest) (not_from_Decides false decides refl) (judges-keyword_request first rest)
 
-judges-line_parts : (parts : List (List ℕ)) → Judges (line_part_faults parts) (line_of_parts parts)
-unfolding line_of_parts
-judges-line_parts [] = judges-without_owner [] (Err Form) (λ h. h) (judges-here Form (◌≡◌ {A = List (List ℕ)} [] []) (word_faults LacksForm [] None) refl)
-judges-line_parts (first ∷ rest) = by_owner (begins_with_digit first) first rest (begins_with_digit-Decides first)
+judges-request_parts : (parts : List (List ℕ)) → Judges (line_part_faults parts) (request_of_parts parts)
+unfolding request_of_parts
+judges-request_parts [] = judges-without_owner [] (Err Form) (λ h. h) (judges-here Form (◌≡◌ {A = List (List ℕ)} [] []) (word_faults LacksForm [] None) refl)
+judges-request_parts (first ∷ rest) = by_owner (begins_with_digit first) first rest (begins_with_digit-Decides first)
 
 -- ---- the first line
 
@@ -389,9 +388,9 @@ judges-raw_line part_faults n line f judged =
     judges-test (not line.ended) Cut (line.ended ≡ false) _ _ f (not_ended line.ended) (λ ended.
     judges-test (not (is_formed line.bytes)) Form (¬ IsFormedLine line.bytes) _ _ f (Decides-not (is_formed line.bytes) (is_formed-Decides line.bytes)) (λ formed. judged)))
 
-pub judges-line_or_kind : (n : ℕ) (line : RawLine) → Judges (line_faults n line) (line_or_kind n line)
-unfolding line_or_kind
-judges-line_or_kind n line = judges-raw_line line_part_faults n line line_of_parts (judges-line_parts (parts_of line.bytes))
+pub judges-request_or_kind : (n : ℕ) (line : RawLine) → Judges (line_faults n line) (request_or_kind n line)
+unfolding request_or_kind
+judges-request_or_kind n line = judges-raw_line line_part_faults n line request_of_parts (judges-request_parts (parts_of line.bytes))
 
 pub judges-header_or_kind : (line : RawLine) → Judges (header_faults line) (header_or_kind line)
 unfolding header_or_kind
@@ -422,13 +421,13 @@ line_at f = f.line
 abbrev kind_at : TraceFault → Kind
 kind_at f = f.kind
 
-judges-lines_from : (n : ℕ) (lines : List RawLine) → JudgesLines line_at kind_at (in_lines line_faults n lines) (lines_from n lines)
-unfolding lines_from
-judges-lines_from n [] = judges-no_lines line_at kind_at line_faults n []
-judges-lines_from n (line ∷ lines) =
-    judges-line line_at kind_at (fault_at n) n (line_faults n line) (in_lines line_faults (n + 1) lines) (line_or_kind n line) (λ first. lines_from (n + 1) lines >>= λ others. Ok (first ∷ others))
+judges-requests_from : (n : ℕ) (lines : List RawLine) → JudgesLines line_at kind_at (in_lines line_faults n lines) (requests_from n lines)
+unfolding requests_from
+judges-requests_from n [] = judges-no_lines line_at kind_at line_faults n []
+judges-requests_from n (line ∷ lines) =
+    judges-line line_at kind_at (fault_at n) n (line_faults n line) (in_lines line_faults (n + 1) lines) (request_or_kind n line) (λ first. requests_from (n + 1) lines >>= λ others. Ok (first ∷ others))
     (λ k. refl) (λ k. refl) (λ m p k h. let after = in_lines-from line_faults (n + 1) lines m p k h in omega arith)
-    (judges-line_or_kind n line) (λ first e. judges-made line_at kind_at (in_lines line_faults (n + 1) lines) (lines_from (n + 1) lines) (λ others. first ∷ others) (judges-lines_from (n + 1) lines))
+    (judges-request_or_kind n line) (λ first e. judges-made line_at kind_at (in_lines line_faults (n + 1) lines) (requests_from (n + 1) lines) (λ others. first ∷ others) (judges-requests_from (n + 1) lines))
 
 err_ok : (x : Script) (f : TraceFault) → ◌≡◌ {A = Result Script TraceFault} (Err f) (Ok x) → ⊥
 err_ok x f e = cc
@@ -447,9 +446,9 @@ judges-script : (lines : List RawLine) → JudgesLines line_at kind_at (trace_fa
 unfolding script_or_fault
 judges-script [] = empty_text
 judges-script (line ∷ lines) =
-    judges-line line_at kind_at (fault_at 1) 1 (header_faults line) (in_lines line_faults 2 lines) (header_or_kind line) (λ header. lines_from 2 lines >>= λ others. Ok (record { header = header; lines = others }))
+    judges-line line_at kind_at (fault_at 1) 1 (header_faults line) (in_lines line_faults 2 lines) (header_or_kind line) (λ header. requests_from 2 lines >>= λ others. Ok (record { header = header; requests = others }))
     (λ k. refl) (λ k. refl) (λ m p k h. let after = in_lines-from line_faults 2 lines m p k h in omega arith)
-    (judges-header_or_kind line) (λ header e. judges-made line_at kind_at (in_lines line_faults 2 lines) (lines_from 2 lines) (λ others. record { header = header; lines = others }) (judges-lines_from 2 lines))
+    (judges-header_or_kind line) (λ header e. judges-made line_at kind_at (in_lines line_faults 2 lines) (requests_from 2 lines) (λ others. record { header = header; requests = others }) (judges-requests_from 2 lines))
 
 -- what the law says
 pub first_fault : (bytes : List ℕ) (fault : TraceFault) → trace_of bytes ≡ Err fault → IsFirst (trace_faults (lines_of bytes)) fault.line fault.kind
@@ -463,10 +462,10 @@ pub read_of : {A : Type 0} (faults : ℕ → Kind → Type 0) (r : Result A Kind
 read_of faults (Ok x) judged none = (x, refl)
 read_of faults (Err k) judged none = let l = judged.least k refl in absurd (none l.place k l.holds)
 
-pub spelled_line : (n : ℕ) (line : RawLine) → ((p : ℕ) (k : Kind) → line_faults n line p k → ⊥) → (l : Line) × LineFits l × (raw_text line ≡ spell_line l)
+pub spelled_line : (n : ℕ) (line : RawLine) → ((p : ℕ) (k : Kind) → line_faults n line p k → ⊥) → (l : Request) × RequestFits l × (raw_text line ≡ spell_request l)
 spelled_line n line none =
-    let r = read_of (line_faults n line) (line_or_kind n line) (judges-line_or_kind n line) none in
-    let m = line_or_fault-means n line r.0 (ap (with_fault (fault_at n)) r.1) in
+    let r = read_of (line_faults n line) (request_or_kind n line) (judges-request_or_kind n line) none in
+    let m = request_or_fault-means n line r.0 (ap (with_fault (fault_at n)) r.1) in
     (r.0, m.1, m.0)
 
 pub spelled_header : (line : RawLine) → ((p : ℕ) (k : Kind) → header_faults line p k → ⊥) → (h : declared.Header.Header) × HeaderFits h × (raw_text line ≡ spell_header h)

@@ -31,12 +31,11 @@ use Rattle.rh_syntax.specs.declared.fault.Kind.TheVariants.{Long, Cut, Form, Hea
 use Rattle.rh_syntax.specs.declared.fault.ParseError.{ParseError}
 use Rattle.rh_syntax.specs.declared.fault.TraceFault.{TraceFault}
 use Rattle.rh_syntax.specs.declared.line as declared
-use Rattle.rh_syntax.specs.declared.line.Line.{Line}
-use Rattle.rh_syntax.specs.declared.line.Line.TheVariants as line_variants
-use Rattle.rh_syntax.specs.Line.{line_of}
+use Rattle.rh_syntax.specs.declared.request.Request.{Request}
+use Rattle.rh_syntax.specs.declared.request.Request.TheVariants as requests
 use Rattle.rh_syntax.specs.TrayName.{tray_name_of, IsTrayName}
-use Rattle.rh_syntax.specs.Spelling.{Script, operand_text, kind_text, command_parts, command_text, line_parts, header_parts, spell_line, spell_header, spelling, OperandFits, CommandFits, LineFits, HeaderFits, IsScript}
-use Rattle.rh_syntax.specs.Reading.{number_or_fault, integer_or_fault, root_or_fault, operand_or_fault, tray_or_fault, kind_or_fault, alloc_of, load_of, store_of, copy_of, same_of, drop_of, command_or_fault, owned_command, single_command, alone, shade_of, deal_of, give_of, join_of, keyword_line, line_of_parts, sizes_of, header_of_parts, checked_parts, fault_at, line_or_kind, header_or_kind, line_or_fault, header_or_fault, lines_from, script_or_fault, trace_of, Gives}
+use Rattle.rh_syntax.specs.Spelling.{Script, operand_text, kind_text, command_parts, command_text, request_parts, header_parts, spell_request, spell_header, spelling, OperandFits, CommandFits, RequestFits, HeaderFits, IsScript}
+use Rattle.rh_syntax.specs.Reading.{number_or_fault, integer_or_fault, root_or_fault, operand_or_fault, tray_or_fault, kind_or_fault, alloc_of, load_of, store_of, copy_of, same_of, drop_of, command_or_fault, owned_command, single_command, alone, shade_of, deal_of, give_of, join_of, keyword_request, request_of_parts, sizes_of, header_of_parts, checked_parts, fault_at, request_or_kind, header_or_kind, request_or_fault, header_or_fault, requests_from, script_or_fault, trace_of, Gives}
 use Rattle.rh_syntax.specs.lemmas.LinesInTurn.{number_within}
 use Rattle.rh_syntax.specs.lemmas.TrayNames.{name-from_read}
 
@@ -286,112 +285,102 @@ checked_parts-means number raw parts e =
     let joined : join_with_byte 32 (parts_of raw.bytes) ≡ raw.bytes = join_with_byte-slice_split 32 raw.bytes in
     ended_text raw.ended raw.bytes (join_with_byte 32 parts) (not-false raw.ended b.0) (sym joined ∙ ap (join_with_byte 32) (ok_is (parts_of raw.bytes) parts c.1))
 
-line_of-parts : (owner : ℕ) (command : Command) → CommandFits owner command → (line_parts (line_of owner command) ≡ command_parts owner command) × LineFits (line_of owner command)
-line_of-parts owner (Alloc dst fields) fits = (refl, fits)
-line_of-parts owner (Load dst src field) fits = (refl, fits)
-line_of-parts owner (Store obj field operand) fits = (refl, fits)
-line_of-parts owner (Copy dst src) fits = (refl, fits)
-line_of-parts owner (Same a b) fits = (refl, fits)
-line_of-parts owner (Drop root) fits = (refl, fits)
+-- the parts are those of the request's line, and the request fits
+abbrev ReadsRequest : List (List ℕ) → Request → Type 0
+ReadsRequest parts request = (parts ≡ request_parts request) × RequestFits request
 
--- the parts are those of the line, which fits
-abbrev ReadsLine : List (List ℕ) → Line → Type 0
-ReadsLine parts line = (parts ≡ line_parts line) × LineFits line
-
-command_line-means : (first : List ℕ) (rest : List (List ℕ)) (line : Line) → (command_or_fault first rest >>= λ owned. Ok (line_of owned.0 owned.1)) ≡ Ok line → ReadsLine (first ∷ rest) line
-command_line-means first rest line e =
-    let a = bind_ok (command_or_fault first rest) (λ owned. Ok (line_of owned.0 owned.1)) line e in
-    let b = command_or_fault-means first rest a.0 a.1 in
-    let same = line_of-parts a.0.0 a.0.1 b.1 in
-    subst (ReadsLine (first ∷ rest)) (ok_is (line_of a.0.0 a.0.1) line a.2) (b.0 ∙ sym same.0, same.1)
+command_request-means : (first : List ℕ) (rest : List (List ℕ)) (request : Request) → (command_or_fault first rest >>= λ owned. Ok (requests.Command owned.0 owned.1)) ≡ Ok request → ReadsRequest (first ∷ rest) request
+command_request-means first rest request e =
+    let a = bind_ok (command_or_fault first rest) (λ owned. Ok (requests.Command owned.0 owned.1)) request e in
+    subst (ReadsRequest (first ∷ rest)) (ok_is (requests.Command a.0.0 a.0.1) request a.2) (command_or_fault-means first rest a.0 a.1)
 
 -- a line that begins with its keyword
-alone-means : (word : List ℕ) (args : List (List ℕ)) (this line : Line) → ReadsLine (word ∷ []) this → alone args this ≡ Ok line → ReadsLine (word ∷ args) line
-alone-means word [] this line reads e = subst (ReadsLine (word ∷ [])) (ok_is this line e) reads
-alone-means word (a ∷ args) this line reads e = absurd cc
+alone-means : (word : List ℕ) (args : List (List ℕ)) (this request : Request) → ReadsRequest (word ∷ []) this → alone args this ≡ Ok request → ReadsRequest (word ∷ args) request
+alone-means word [] this request reads e = subst (ReadsRequest (word ∷ [])) (ok_is this request e) reads
+alone-means word (a ∷ args) this request reads e = absurd cc
 
-shade_of-means : (args : List (List ℕ)) (line : Line) → shade_of args ≡ Ok line → ReadsLine (codes "shade" ∷ args) line
+shade_of-means : (args : List (List ℕ)) (request : Request) → shade_of args ≡ Ok request → ReadsRequest (codes "shade" ∷ args) request
 unfolding shade_of
-shade_of-means args line e =
-    let a = bind_ok (or_fault (one_part args) Form) (λ part. root_or_fault part >>= λ r. Ok (line_variants.Shade r)) line e in
-    let b = bind_ok (root_or_fault a.0) (λ r. Ok (line_variants.Shade r)) line a.2 in
+shade_of-means args request e =
+    let a = bind_ok (or_fault (one_part args) Form) (λ part. root_or_fault part >>= λ r. Ok (requests.Shade r)) request e in
+    let b = bind_ok (root_or_fault a.0) (λ r. Ok (requests.Shade r)) request a.2 in
     let args_are = one_part-means args a.0 (or_fault_ok (one_part args) Form a.0 a.1) in
     let root_is = root_or_fault-means a.0 b.0 b.1 in
-    let whole : codes "shade" ∷ args ≡ line_parts (line_variants.Shade b.0) = ap (λ (ps : List (List ℕ)). codes "shade" ∷ ps) (args_1 a.0 (root_text b.0) args args_are root_is.0) in
-    subst (ReadsLine (codes "shade" ∷ args)) (ok_is (line_variants.Shade b.0) line b.2) (whole, root_is.1)
+    let whole : codes "shade" ∷ args ≡ request_parts (requests.Shade b.0) = ap (λ (ps : List (List ℕ)). codes "shade" ∷ ps) (args_1 a.0 (root_text b.0) args args_are root_is.0) in
+    subst (ReadsRequest (codes "shade" ∷ args)) (ok_is (requests.Shade b.0) request b.2) (whole, root_is.1)
 
-deal_of-means : (args : List (List ℕ)) (line : Line) → deal_of args ≡ Ok line → ReadsLine (codes "deal" ∷ args) line
+deal_of-means : (args : List (List ℕ)) (request : Request) → deal_of args ≡ Ok request → ReadsRequest (codes "deal" ∷ args) request
 unfolding deal_of
-deal_of-means args line e =
-    let a = bind_ok (or_fault (three_parts args) Form) (λ parts. kind_or_fault parts.0 >>= λ k. number_or_fault parts.1 >>= λ m. tray_or_fault parts.2 >>= λ t. Ok (line_variants.Deal k m t)) line e in
-    let b = bind_ok (kind_or_fault a.0.0) (λ k. number_or_fault a.0.1 >>= λ m. tray_or_fault a.0.2 >>= λ t. Ok (line_variants.Deal k m t)) line a.2 in
-    let c = bind_ok (number_or_fault a.0.1) (λ m. tray_or_fault a.0.2 >>= λ t. Ok (line_variants.Deal b.0 m t)) line b.2 in
-    let d = bind_ok (tray_or_fault a.0.2) (λ t. Ok (line_variants.Deal b.0 c.0 t)) line c.2 in
+deal_of-means args request e =
+    let a = bind_ok (or_fault (three_parts args) Form) (λ parts. kind_or_fault parts.0 >>= λ k. number_or_fault parts.1 >>= λ m. tray_or_fault parts.2 >>= λ t. Ok (requests.Deal k m t)) request e in
+    let b = bind_ok (kind_or_fault a.0.0) (λ k. number_or_fault a.0.1 >>= λ m. tray_or_fault a.0.2 >>= λ t. Ok (requests.Deal k m t)) request a.2 in
+    let c = bind_ok (number_or_fault a.0.1) (λ m. tray_or_fault a.0.2 >>= λ t. Ok (requests.Deal b.0 m t)) request b.2 in
+    let d = bind_ok (tray_or_fault a.0.2) (λ t. Ok (requests.Deal b.0 c.0 t)) request c.2 in
     let args_are = three_parts-means args a.0 (or_fault_ok (three_parts args) Form a.0 a.1) in
     let kind_is = kind_or_fault-means a.0.0 b.0 b.1 in
     let most_is = number_or_fault-means a.0.1 c.0 c.1 in
     let tray_is = tray_or_fault-means a.0.2 d.0 d.1 in
-    let whole : codes "deal" ∷ args ≡ line_parts (line_variants.Deal b.0 c.0 d.0) = ap (λ (ps : List (List ℕ)). codes "deal" ∷ ps) (args_3 a.0.0 a.0.1 a.0.2 (kind_text b.0) (decimal c.0) d.0 args args_are kind_is most_is.0 tray_is.0) in
-    subst (ReadsLine (codes "deal" ∷ args)) (ok_is (line_variants.Deal b.0 c.0 d.0) line d.2) (whole, (most_is.1, tray_is.1))
+    let whole : codes "deal" ∷ args ≡ request_parts (requests.Deal b.0 c.0 d.0) = ap (λ (ps : List (List ℕ)). codes "deal" ∷ ps) (args_3 a.0.0 a.0.1 a.0.2 (kind_text b.0) (decimal c.0) d.0 args args_are kind_is most_is.0 tray_is.0) in
+    subst (ReadsRequest (codes "deal" ∷ args)) (ok_is (requests.Deal b.0 c.0 d.0) request d.2) (whole, (most_is.1, tray_is.1))
 
-give_of-means : (args : List (List ℕ)) (line : Line) → give_of args ≡ Ok line → ReadsLine (codes "give" ∷ args) line
+give_of-means : (args : List (List ℕ)) (request : Request) → give_of args ≡ Ok request → ReadsRequest (codes "give" ∷ args) request
 unfolding give_of
-give_of-means args line e =
-    let a = bind_ok (or_fault (one_part args) Form) (λ part. tray_or_fault part >>= λ t. Ok (line_variants.Give t)) line e in
-    let b = bind_ok (tray_or_fault a.0) (λ t. Ok (line_variants.Give t)) line a.2 in
+give_of-means args request e =
+    let a = bind_ok (or_fault (one_part args) Form) (λ part. tray_or_fault part >>= λ t. Ok (requests.Give t)) request e in
+    let b = bind_ok (tray_or_fault a.0) (λ t. Ok (requests.Give t)) request a.2 in
     let args_are = one_part-means args a.0 (or_fault_ok (one_part args) Form a.0 a.1) in
     let tray_is = tray_or_fault-means a.0 b.0 b.1 in
-    let whole : codes "give" ∷ args ≡ line_parts (line_variants.Give b.0) = ap (λ (ps : List (List ℕ)). codes "give" ∷ ps) (args_1 a.0 b.0 args args_are tray_is.0) in
-    subst (ReadsLine (codes "give" ∷ args)) (ok_is (line_variants.Give b.0) line b.2) (whole, tray_is.1)
+    let whole : codes "give" ∷ args ≡ request_parts (requests.Give b.0) = ap (λ (ps : List (List ℕ)). codes "give" ∷ ps) (args_1 a.0 b.0 args args_are tray_is.0) in
+    subst (ReadsRequest (codes "give" ∷ args)) (ok_is (requests.Give b.0) request b.2) (whole, tray_is.1)
 
-join_of-means : (args : List (List ℕ)) (line : Line) → join_of args ≡ Ok line → ReadsLine (codes "join" ∷ args) line
+join_of-means : (args : List (List ℕ)) (request : Request) → join_of args ≡ Ok request → ReadsRequest (codes "join" ∷ args) request
 unfolding join_of
-join_of-means args line e =
-    let a = bind_ok (or_fault (two_parts args) Form) (λ parts. tray_or_fault parts.0 >>= λ i. tray_or_fault parts.1 >>= λ o. Ok (line_variants.Join i o)) line e in
-    let b = bind_ok (tray_or_fault a.0.0) (λ i. tray_or_fault a.0.1 >>= λ o. Ok (line_variants.Join i o)) line a.2 in
-    let c = bind_ok (tray_or_fault a.0.1) (λ o. Ok (line_variants.Join b.0 o)) line b.2 in
+join_of-means args request e =
+    let a = bind_ok (or_fault (two_parts args) Form) (λ parts. tray_or_fault parts.0 >>= λ i. tray_or_fault parts.1 >>= λ o. Ok (requests.Join i o)) request e in
+    let b = bind_ok (tray_or_fault a.0.0) (λ i. tray_or_fault a.0.1 >>= λ o. Ok (requests.Join i o)) request a.2 in
+    let c = bind_ok (tray_or_fault a.0.1) (λ o. Ok (requests.Join b.0 o)) request b.2 in
     let args_are = two_parts-means args a.0 (or_fault_ok (two_parts args) Form a.0 a.1) in
     let into_is = tray_or_fault-means a.0.0 b.0 b.1 in
     let other_is = tray_or_fault-means a.0.1 c.0 c.1 in
-    let whole : codes "join" ∷ args ≡ line_parts (line_variants.Join b.0 c.0) = ap (λ (ps : List (List ℕ)). codes "join" ∷ ps) (args_2 a.0.0 a.0.1 b.0 c.0 args args_are into_is.0 other_is.0) in
-    subst (ReadsLine (codes "join" ∷ args)) (ok_is (line_variants.Join b.0 c.0) line c.2) (whole, (into_is.1, other_is.1))
+    let whole : codes "join" ∷ args ≡ request_parts (requests.Join b.0 c.0) = ap (λ (ps : List (List ℕ)). codes "join" ∷ ps) (args_2 a.0.0 a.0.1 b.0 c.0 args args_are into_is.0 other_is.0) in
+    subst (ReadsRequest (codes "join" ∷ args)) (ok_is (requests.Join b.0 c.0) request c.2) (whole, (into_is.1, other_is.1))
 
-keyword_line-means : (word : List ℕ) (args : List (List ℕ)) (line : Line) → keyword_line word args ≡ Ok line → ReadsLine (word ∷ args) line
-unfolding keyword_line
-keyword_line-means word args line e =
-    let dumps : Result Line Kind = cond (bytes_eq word (codes "dump")) (alone args line_variants.Dump) (Err Word) in
-    let stats : Result Line Kind = cond (bytes_eq word (codes "stat")) (alone args line_variants.Stat) dumps in
-    let trays : Result Line Kind = cond (bytes_eq word (codes "trays")) (alone args line_variants.Trays) stats in
-    let flips : Result Line Kind = cond (bytes_eq word (codes "flip")) (alone args line_variants.Flip) trays in
-    let joins : Result Line Kind = cond (bytes_eq word (codes "join")) (join_of args) flips in
-    let gives : Result Line Kind = cond (bytes_eq word (codes "give")) (give_of args) joins in
-    let deals : Result Line Kind = cond (bytes_eq word (codes "deal")) (deal_of args) gives in
-    let shades : Result Line Kind = cond (bytes_eq word (codes "shade")) (shade_of args) deals in
-    let says : List ℕ → Line → Type 0 = λ w l. ReadsLine (w ∷ args) l in
-    by_keyword says word (codes "begin") (alone args line_variants.Begin) shades line (alone-means (codes "begin") args line_variants.Begin line (refl, tt))
-    (by_keyword says word (codes "shade") (shade_of args) deals line (shade_of-means args line)
-    (by_keyword says word (codes "deal") (deal_of args) gives line (deal_of-means args line)
-    (by_keyword says word (codes "give") (give_of args) joins line (give_of-means args line)
-    (by_keyword says word (codes "join") (join_of args) flips line (join_of-means args line)
-    (by_keyword says word (codes "flip") (alone args line_variants.Flip) trays line (alone-means (codes "flip") args line_variants.Flip line (refl, tt))
-    (by_keyword says word (codes "trays") (alone args line_variants.Trays) stats line (alone-means (codes "trays") args line_variants.Trays line (refl, tt))
-    (by_keyword says word (codes "stat") (alone args line_variants.Stat) dumps line (alone-means (codes "stat") args line_variants.Stat line (refl, tt))
-    (by_keyword says word (codes "dump") (alone args line_variants.Dump) (Err Word) line (alone-means (codes "dump") args line_variants.Dump line (refl, tt)) (λ no. absurd cc))))))))) e
+keyword_request-means : (word : List ℕ) (args : List (List ℕ)) (request : Request) → keyword_request word args ≡ Ok request → ReadsRequest (word ∷ args) request
+unfolding keyword_request
+keyword_request-means word args request e =
+    let dumps : Result Request Kind = cond (bytes_eq word (codes "dump")) (alone args requests.Dump) (Err Word) in
+    let stats : Result Request Kind = cond (bytes_eq word (codes "stat")) (alone args requests.Stat) dumps in
+    let trays : Result Request Kind = cond (bytes_eq word (codes "trays")) (alone args requests.Trays) stats in
+    let flips : Result Request Kind = cond (bytes_eq word (codes "flip")) (alone args requests.Flip) trays in
+    let joins : Result Request Kind = cond (bytes_eq word (codes "join")) (join_of args) flips in
+    let gives : Result Request Kind = cond (bytes_eq word (codes "give")) (give_of args) joins in
+    let deals : Result Request Kind = cond (bytes_eq word (codes "deal")) (deal_of args) gives in
+    let shades : Result Request Kind = cond (bytes_eq word (codes "shade")) (shade_of args) deals in
+    let says : List ℕ → Request → Type 0 = λ w l. ReadsRequest (w ∷ args) l in
+    by_keyword says word (codes "begin") (alone args requests.Begin) shades request (alone-means (codes "begin") args requests.Begin request (refl, tt))
+    (by_keyword says word (codes "shade") (shade_of args) deals request (shade_of-means args request)
+    (by_keyword says word (codes "deal") (deal_of args) gives request (deal_of-means args request)
+    (by_keyword says word (codes "give") (give_of args) joins request (give_of-means args request)
+    (by_keyword says word (codes "join") (join_of args) flips request (join_of-means args request)
+    (by_keyword says word (codes "flip") (alone args requests.Flip) trays request (alone-means (codes "flip") args requests.Flip request (refl, tt))
+    (by_keyword says word (codes "trays") (alone args requests.Trays) stats request (alone-means (codes "trays") args requests.Trays request (refl, tt))
+    (by_keyword says word (codes "stat") (alone args requests.Stat) dumps request (alone-means (codes "stat") args requests.Stat request (refl, tt))
+    (by_keyword says word (codes "dump") (alone args requests.Dump) (Err Word) request (alone-means (codes "dump") args requests.Dump request (refl, tt)) (λ no. absurd cc))))))))) e
 
-by_owner : (t : Bool) (first : List ℕ) (rest : List (List ℕ)) (line : Line) → cond t (command_or_fault first rest >>= λ owned. Ok (line_of owned.0 owned.1)) (keyword_line first rest) ≡ Ok line → ReadsLine (first ∷ rest) line
-by_owner true first rest line e = command_line-means first rest line e
-by_owner false first rest line e = keyword_line-means first rest line e
+by_owner : (t : Bool) (first : List ℕ) (rest : List (List ℕ)) (request : Request) → cond t (command_or_fault first rest >>= λ owned. Ok (requests.Command owned.0 owned.1)) (keyword_request first rest) ≡ Ok request → ReadsRequest (first ∷ rest) request
+by_owner true first rest request e = command_request-means first rest request e
+by_owner false first rest request e = keyword_request-means first rest request e
 
-line_of_parts-means : (parts : List (List ℕ)) (line : Line) → line_of_parts parts ≡ Ok line → ReadsLine parts line
-unfolding line_of_parts
-line_of_parts-means [] line e = absurd cc
-line_of_parts-means (first ∷ rest) line e = by_owner (begins_with_digit first) first rest line e
+request_of_parts-means : (parts : List (List ℕ)) (request : Request) → request_of_parts parts ≡ Ok request → ReadsRequest parts request
+unfolding request_of_parts
+request_of_parts-means [] request e = absurd cc
+request_of_parts-means (first ∷ rest) request e = by_owner (begins_with_digit first) first rest request e
 
-pub line_or_fault-means : (number : ℕ) (raw : RawLine) (line : Line) → line_or_fault number raw ≡ Ok line → (raw_text raw ≡ spell_line line) × LineFits line
-unfolding line_or_kind
-line_or_fault-means number raw line e =
-    let a = bind_ok (checked_parts number raw) line_of_parts line (with_fault_ok number (checked_parts number raw >>= line_of_parts) line e) in
-    let b = line_of_parts-means a.0 line a.2 in
+pub request_or_fault-means : (number : ℕ) (raw : RawLine) (request : Request) → request_or_fault number raw ≡ Ok request → (raw_text raw ≡ spell_request request) × RequestFits request
+unfolding request_or_kind
+request_or_fault-means number raw request e =
+    let a = bind_ok (checked_parts number raw) request_of_parts request (with_fault_ok number (checked_parts number raw >>= request_of_parts) request e) in
+    let b = request_of_parts-means a.0 request a.2 in
     (checked_parts-means number raw a.0 a.1 ∙ ap spell_parts b.0, b.1)
 
 pub header_or_fault-means : (raw : RawLine) (h : declared.Header.Header) → header_or_fault raw ≡ Ok h → (raw_text raw ≡ spell_header h) × HeaderFits h
@@ -401,45 +390,45 @@ header_or_fault-means raw h e =
     let b = header_of_parts-means a.0 h a.2 in
     (checked_parts-means 1 raw a.0 a.1 ∙ ap spell_parts b.0, b.1)
 
--- the lines
-record ReadAs (raws : List RawLine) (number : ℕ) (lines : List Line) : Type 0 where
-  text : flat_map raw_text raws ≡ flat_map spell_line lines
-  fit : AllByRecursion LineFits lines
-  few : number + length lines ≤ 1048577
+-- the requests of the lines
+record ReadAs (raws : List RawLine) (number : ℕ) (requests : List Request) : Type 0 where
+  text : flat_map raw_text raws ≡ flat_map spell_request requests
+  fit : AllByRecursion RequestFits requests
+  few : number + length requests ≤ 1048577
 
-lines_from-means : (raws : List RawLine) (number : ℕ) (lines : List Line) → number ≤ 1048577 → lines_from number raws ≡ Ok lines → ReadAs raws number lines
-unfolding lines_from
-lines_from-means [] number lines small e = subst (ReadAs [] number) (ok_is [] lines e) (record { text = refl; fit = tt; few = omega arith })
-lines_from-means (raw ∷ raws) number lines small e =
-    let a = bind_ok (line_or_fault number raw) (λ first. lines_from (number + 1) raws >>= λ others. Ok (first ∷ others)) lines e in
-    let b = bind_ok (lines_from (number + 1) raws) (λ others. Ok (a.0 ∷ others)) lines a.2 in
+requests_from-means : (raws : List RawLine) (number : ℕ) (requests : List Request) → number ≤ 1048577 → requests_from number raws ≡ Ok requests → ReadAs raws number requests
+unfolding requests_from
+requests_from-means [] number requests small e = subst (ReadAs [] number) (ok_is [] requests e) (record { text = refl; fit = tt; few = omega arith })
+requests_from-means (raw ∷ raws) number requests small e =
+    let a = bind_ok (request_or_fault number raw) (λ first. requests_from (number + 1) raws >>= λ others. Ok (first ∷ others)) requests e in
+    let b = bind_ok (requests_from (number + 1) raws) (λ others. Ok (a.0 ∷ others)) requests a.2 in
     let within = number_within number raw a.0 (sym a.1) in
-    let first = line_or_fault-means number raw a.0 a.1 in
-    let others = lines_from-means raws (number + 1) b.0 (omega (arith, within)) b.1 in
-    let text : flat_map raw_text (raw ∷ raws) ≡ flat_map spell_line (a.0 ∷ b.0) = ap (λ (t : List ℕ). t ++ flat_map raw_text raws) first.0 ∙ ap (λ (t : List ℕ). spell_line a.0 ++ t) others.text in
-    subst (ReadAs (raw ∷ raws) number) (ok_is (a.0 ∷ b.0) lines b.2) (record { text = text; fit = (first.1, others.fit); few = omega (arith, others.few) })
+    let first = request_or_fault-means number raw a.0 a.1 in
+    let others = requests_from-means raws (number + 1) b.0 (omega (arith, within)) b.1 in
+    let text : flat_map raw_text (raw ∷ raws) ≡ flat_map spell_request (a.0 ∷ b.0) = ap (λ (t : List ℕ). t ++ flat_map raw_text raws) first.0 ∙ ap (λ (t : List ℕ). spell_request a.0 ++ t) others.text in
+    subst (ReadAs (raw ∷ raws) number) (ok_is (a.0 ∷ b.0) requests b.2) (record { text = text; fit = (first.1, others.fit); few = omega (arith, others.few) })
 
 script_or_fault-means : (raws : List RawLine) (script : Script) → script_or_fault raws ≡ Ok script → IsScript script × (flat_map raw_text raws ≡ spelling script)
 unfolding script_or_fault
 script_or_fault-means [] script e = absurd cc
 script_or_fault-means (raw ∷ raws) script e =
-    let a = bind_ok (header_or_fault raw) (λ header. lines_from 2 raws >>= λ lines. Ok (record { header = header; lines = lines })) script e in
-    let b = bind_ok (lines_from 2 raws) (λ lines. Ok (record { header = a.0; lines = lines })) script a.2 in
+    let a = bind_ok (header_or_fault raw) (λ header. requests_from 2 raws >>= λ requests. Ok (record { header = header; requests = requests })) script e in
+    let b = bind_ok (requests_from 2 raws) (λ requests. Ok (record { header = a.0; requests = requests })) script a.2 in
     let first = header_or_fault-means raw a.0 a.1 in
-    let others = lines_from-means raws 2 b.0 (omega arith) b.1 in
-    let made : Script = record { header = a.0; lines = b.0 } in
+    let others = requests_from-means raws 2 b.0 (omega arith) b.1 in
+    let made : Script = record { header = a.0; requests = b.0 } in
     let text : flat_map raw_text (raw ∷ raws) ≡ spelling made = ap (λ (t : List ℕ). t ++ flat_map raw_text raws) first.0 ∙ ap (λ (t : List ℕ). spell_header a.0 ++ t) others.text in
-    subst (λ (s : Script). IsScript s × (flat_map raw_text (raw ∷ raws) ≡ spelling s)) (ok_is made script b.2) (record { header = first.1; lines = others.fit; few = omega (arith, others.few) }, text)
+    subst (λ (s : Script). IsScript s × (flat_map raw_text (raw ∷ raws) ≡ spelling s)) (ok_is made script b.2) (record { header = first.1; requests = others.fit; few = omega (arith, others.few) }, text)
 
--- a header and lines that were read make a trace that fits
-pub IsScript-made : (bytes rest : List ℕ) (raw : RawLine) (h : declared.Header.Header) (ls : List Line) → lines_of bytes ≡ raw ∷ lines_of rest → Ok h ≡ header_or_fault raw → lines_from 2 (lines_of rest) ≡ Ok ls → IsScript (record { header = h; lines = ls })
+-- a header and requests that were read make a trace that fits
+pub IsScript-made : (bytes rest : List ℕ) (raw : RawLine) (h : declared.Header.Header) (ls : List Request) → lines_of bytes ≡ raw ∷ lines_of rest → Ok h ≡ header_or_fault raw → requests_from 2 (lines_of rest) ≡ Ok ls → IsScript (record { header = h; requests = ls })
 unfolding script_or_fault
 IsScript-made bytes rest raw h ls is first others =
-    let made : Script = record { header = h; lines = ls } in
+    let made : Script = record { header = h; requests = ls } in
     let read : script_or_fault (lines_of bytes) ≡ Ok made =
     ap script_or_fault is
-    ∙ ap (λ (r : Result declared.Header.Header TraceFault). r >>= λ header. lines_from 2 (lines_of rest) >>= λ lines. Ok (record { header = header; lines = lines })) (sym first)
-    ∙ ap (λ (r : Result (List Line) TraceFault). r >>= λ lines. Ok (record { header = h; lines = lines })) others in
+    ∙ ap (λ (r : Result declared.Header.Header TraceFault). r >>= λ header. requests_from 2 (lines_of rest) >>= λ requests. Ok (record { header = header; requests = requests })) (sym first)
+    ∙ ap (λ (r : Result (List Request) TraceFault). r >>= λ requests. Ok (record { header = h; requests = requests })) others in
     (script_or_fault-means (lines_of bytes) made read).0
 
 pub trace_of-means : (bytes : List ℕ) (script : Script) → trace_of bytes ≡ Ok script → IsScript script × (bytes ≡ spelling script)

@@ -27,13 +27,11 @@ use Rattle.rh_syntax.specs.declared.fault.Kind.{Kind}
 use Rattle.rh_syntax.specs.declared.fault.Kind.TheVariants.{Long, Form, Word, Number, Root, Tray}
 use Rattle.rh_syntax.specs.declared.fault.TraceFault.{TraceFault}
 use Rattle.rh_syntax.specs.declared.line as declared
-use Rattle.rh_syntax.specs.declared.line.Line.{Line}
-use Rattle.rh_syntax.specs.declared.line.Line.TheVariants as lines
-use Rattle.rh_syntax.specs.declared.line.Asked.TheVariants as asked
-use Rattle.rh_syntax.specs.Line.{asked_of, line_of}
+use Rattle.rh_syntax.specs.declared.request.Request.{Request}
+use Rattle.rh_syntax.specs.declared.request.Request.TheVariants as requests
 use Rattle.rh_syntax.specs.TrayName.{IsNameByte, IsTrayName}
-use Rattle.rh_syntax.specs.Spelling.{Script, operand_text, kind_text, asked_parts, command_parts, command_text, line_parts, header_parts, spell_line, spelling, OperandFits, CommandFits, LineFits, HeaderFits, IsScript}
-use Rattle.rh_syntax.specs.Reading.{number_or_fault, integer_or_fault, root_or_fault, operand_or_fault, tray_or_fault, kind_or_fault, alloc_of, load_of, store_of, copy_of, same_of, drop_of, command_or_fault, owned_command, single_command, shade_of, deal_of, give_of, join_of, keyword_line, line_of_parts, sizes_of, header_of_parts, checked_parts, fault_at, line_or_kind, header_or_kind, line_or_fault, header_or_fault, lines_from, script_or_fault, trace_of}
+use Rattle.rh_syntax.specs.Spelling.{Script, operand_text, kind_text, command_parts, command_text, request_parts, header_parts, spell_request, spelling, OperandFits, CommandFits, RequestFits, HeaderFits, IsScript}
+use Rattle.rh_syntax.specs.Reading.{number_or_fault, integer_or_fault, root_or_fault, operand_or_fault, tray_or_fault, kind_or_fault, alloc_of, load_of, store_of, copy_of, same_of, drop_of, command_or_fault, owned_command, single_command, shade_of, deal_of, give_of, join_of, keyword_request, request_of_parts, sizes_of, header_of_parts, checked_parts, fault_at, request_or_kind, header_or_kind, request_or_fault, header_or_fault, requests_from, script_or_fault, trace_of}
 use Rattle.rh_syntax.specs.lemmas.TrayNames.{read-from_name}
 
 -- ---- what the parts of a spelled line are like
@@ -235,114 +233,106 @@ single_command-text owner command fits =
     ∙ ap owned_command (parts_of-join a.first a.others a.are.each)
     ∙ a.read
 
--- the line of a command that is read after an owner
-by_owner : (t : Bool) (owned : Result (ℕ × Command) Kind) (other : Result Line Kind) (owner : ℕ) (command : Command) → cond t owned (Err Word) ≡ Ok (owner, command) → cond t (owned >>= λ o. Ok (line_of o.0 o.1)) other ≡ Ok (line_of owner command)
-by_owner true owned other owner command e = ap (λ (r : Result (ℕ × Command) Kind). r >>= λ o. Ok (line_of o.0 o.1)) e
+-- the request of a command that is read after an owner
+by_owner : (t : Bool) (owned : Result (ℕ × Command) Kind) (other : Result Request Kind) (owner : ℕ) (command : Command) → cond t owned (Err Word) ≡ Ok (owner, command) → cond t (owned >>= λ o. Ok (requests.Command o.0 o.1)) other ≡ Ok (requests.Command owner command)
+by_owner true owned other owner command e = ap (λ (r : Result (ℕ × Command) Kind). r >>= λ o. Ok (requests.Command o.0 o.1)) e
 by_owner false owned other owner command e = absurd cc
 
-pub line_of_parts-owned : (first : List ℕ) (rest : List (List ℕ)) (owner : ℕ) (command : Command) → owned_command (first ∷ rest) ≡ Ok (owner, command) → line_of_parts (first ∷ rest) ≡ Ok (line_of owner command)
-unfolding owned_command line_of_parts
-line_of_parts-owned first rest owner command e = by_owner (begins_with_digit first) (command_or_fault first rest) (keyword_line first rest) owner command e
+pub request_of_parts-owned : (first : List ℕ) (rest : List (List ℕ)) (owner : ℕ) (command : Command) → owned_command (first ∷ rest) ≡ Ok (owner, command) → request_of_parts (first ∷ rest) ≡ Ok (requests.Command owner command)
+unfolding owned_command request_of_parts
+request_of_parts-owned first rest owner command e = by_owner (begins_with_digit first) (command_or_fault first rest) (keyword_request first rest) owner command e
 
--- the parts of a line are parts, and the line is read from them
-record IsLineReadFrom (line : Line) : Type 0 where
+-- the parts of a request's line are parts, and the request is read from them
+record IsRequestReadFrom (request : Request) : Type 0 where
   first : List ℕ
   others : List (List ℕ)
-  spelled : line_parts line ≡ first ∷ others
+  spelled : request_parts request ≡ first ∷ others
   are : AreParts first others
-  read : line_of_parts (first ∷ others) ≡ Ok line
+  read : request_of_parts (first ∷ others) ≡ Ok request
 
-command_line-read : (line : Line) (owner : ℕ) (command : Command) → CommandFits owner command → line_of owner command ≡ line → asked_of line ≡ asked.Command owner command → IsLineReadFrom line
-command_line-read line owner command fits is asks =
+-- a line that is its keyword alone
+alone-read : (request : Request) (keyword : List ℕ) → IsPart keyword → request_parts request ≡ keyword ∷ [] → request_of_parts (keyword ∷ []) ≡ Ok request → IsRequestReadFrom request
+alone-read request keyword part spelled read = record { first = keyword; others = []; spelled = spelled; are = record { each = (part, tt); few = omega arith }; read = read }
+
+begin-read : request_of_parts (codes "begin" ∷ []) ≡ Ok requests.Begin
+unfolding request_of_parts keyword_request
+begin-read = refl
+
+shade-read : (root : RootId) → RootFits root → request_of_parts (codes "shade" ∷ root_text root ∷ []) ≡ Ok (requests.Shade root)
+unfolding request_of_parts keyword_request shade_of one_part
+shade-read root fits = rw (root_or_fault-text root fits) refl
+
+deal-read : (kind : pieces.Kind) (most : ℕ) (tray : List ℕ) → IsU32 most → IsTrayName tray → request_of_parts (codes "deal" ∷ kind_text kind ∷ decimal most ∷ tray ∷ []) ≡ Ok (requests.Deal kind most tray)
+unfolding request_of_parts keyword_request deal_of three_parts
+deal-read kind most tray small name = rw (kind_or_fault-text kind, number_or_fault-decimal most small, tray_or_fault-name tray name) refl
+
+give-read : (tray : List ℕ) → IsTrayName tray → request_of_parts (codes "give" ∷ tray ∷ []) ≡ Ok (requests.Give tray)
+unfolding request_of_parts keyword_request give_of one_part
+give-read tray name = rw (tray_or_fault-name tray name) refl
+
+join-read : (into other : List ℕ) → IsTrayName into → IsTrayName other → request_of_parts (codes "join" ∷ into ∷ other ∷ []) ≡ Ok (requests.Join into other)
+unfolding request_of_parts keyword_request join_of two_parts
+join-read into other name second = rw (tray_or_fault-name into name, tray_or_fault-name other second) refl
+
+flip-read : request_of_parts (codes "flip" ∷ []) ≡ Ok requests.Flip
+unfolding request_of_parts keyword_request
+flip-read = refl
+
+trays-read : request_of_parts (codes "trays" ∷ []) ≡ Ok requests.Trays
+unfolding request_of_parts keyword_request
+trays-read = refl
+
+stat-read : request_of_parts (codes "stat" ∷ []) ≡ Ok requests.Stat
+unfolding request_of_parts keyword_request
+stat-read = refl
+
+dump-read : request_of_parts (codes "dump" ∷ []) ≡ Ok requests.Dump
+unfolding request_of_parts keyword_request
+dump-read = refl
+
+request-read : (line : Request) → RequestFits line → IsRequestReadFrom line
+request-read (requests.Command owner command) fits =
     let a = command-read owner command fits in
     record {
       first = a.first;
       others = a.others;
-      spelled = ap asked_parts asks ∙ a.spelled;
+      spelled = a.spelled;
       are = a.are;
-      read = line_of_parts-owned a.first a.others owner command a.read ∙ ap (λ (l : Line). Ok l) is;
+      read = request_of_parts-owned a.first a.others owner command a.read;
     }
-
--- a line that is its keyword alone
-alone-read : (line : Line) (keyword : List ℕ) → IsPart keyword → line_parts line ≡ keyword ∷ [] → line_of_parts (keyword ∷ []) ≡ Ok line → IsLineReadFrom line
-alone-read line keyword part spelled read = record { first = keyword; others = []; spelled = spelled; are = record { each = (part, tt); few = omega arith }; read = read }
-
-begin-read : line_of_parts (codes "begin" ∷ []) ≡ Ok lines.Begin
-unfolding line_of_parts keyword_line
-begin-read = refl
-
-shade-read : (root : RootId) → RootFits root → line_of_parts (codes "shade" ∷ root_text root ∷ []) ≡ Ok (lines.Shade root)
-unfolding line_of_parts keyword_line shade_of one_part
-shade-read root fits = rw (root_or_fault-text root fits) refl
-
-deal-read : (kind : pieces.Kind) (most : ℕ) (tray : List ℕ) → IsU32 most → IsTrayName tray → line_of_parts (codes "deal" ∷ kind_text kind ∷ decimal most ∷ tray ∷ []) ≡ Ok (lines.Deal kind most tray)
-unfolding line_of_parts keyword_line deal_of three_parts
-deal-read kind most tray small name = rw (kind_or_fault-text kind, number_or_fault-decimal most small, tray_or_fault-name tray name) refl
-
-give-read : (tray : List ℕ) → IsTrayName tray → line_of_parts (codes "give" ∷ tray ∷ []) ≡ Ok (lines.Give tray)
-unfolding line_of_parts keyword_line give_of one_part
-give-read tray name = rw (tray_or_fault-name tray name) refl
-
-join-read : (into other : List ℕ) → IsTrayName into → IsTrayName other → line_of_parts (codes "join" ∷ into ∷ other ∷ []) ≡ Ok (lines.Join into other)
-unfolding line_of_parts keyword_line join_of two_parts
-join-read into other name second = rw (tray_or_fault-name into name, tray_or_fault-name other second) refl
-
-flip-read : line_of_parts (codes "flip" ∷ []) ≡ Ok lines.Flip
-unfolding line_of_parts keyword_line
-flip-read = refl
-
-trays-read : line_of_parts (codes "trays" ∷ []) ≡ Ok lines.Trays
-unfolding line_of_parts keyword_line
-trays-read = refl
-
-stat-read : line_of_parts (codes "stat" ∷ []) ≡ Ok lines.Stat
-unfolding line_of_parts keyword_line
-stat-read = refl
-
-dump-read : line_of_parts (codes "dump" ∷ []) ≡ Ok lines.Dump
-unfolding line_of_parts keyword_line
-dump-read = refl
-
-line-read : (line : Line) → LineFits line → IsLineReadFrom line
-line-read (lines.Alloc owner dst fields) fits = command_line-read (lines.Alloc owner dst fields) owner (Alloc dst fields) fits refl refl
-line-read (lines.Load owner dst src field) fits = command_line-read (lines.Load owner dst src field) owner (Load dst src field) fits refl refl
-line-read (lines.Store owner obj field operand) fits = command_line-read (lines.Store owner obj field operand) owner (Store obj field operand) fits refl refl
-line-read (lines.Copy owner dst src) fits = command_line-read (lines.Copy owner dst src) owner (Copy dst src) fits refl refl
-line-read (lines.Same owner a b) fits = command_line-read (lines.Same owner a b) owner (Same a b) fits refl refl
-line-read (lines.Drop owner root) fits = command_line-read (lines.Drop owner root) owner (Drop root) fits refl refl
-line-read lines.Begin fits = alone-read lines.Begin (codes "begin") (keyword_part (codes "begin") refl refl refl) refl begin-read
-line-read (lines.Shade root) fits = record {
+request-read requests.Begin fits = alone-read requests.Begin (codes "begin") (keyword_part (codes "begin") refl refl refl) refl begin-read
+request-read (requests.Shade root) fits = record {
   first = codes "shade";
   others = root_text root ∷ [];
   spelled = refl;
   are = record { each = (keyword_part (codes "shade") refl refl refl, (root_part root fits, tt)); few = omega arith };
   read = shade-read root fits;
 }
-line-read (lines.Deal kind most tray) fits = record {
+request-read (requests.Deal kind most tray) fits = record {
   first = codes "deal";
   others = kind_text kind ∷ decimal most ∷ tray ∷ [];
   spelled = refl;
   are = record { each = (keyword_part (codes "deal") refl refl refl, (kind_part kind, (number_part most fits.0, (tray_part tray fits.1, tt)))); few = omega arith };
   read = deal-read kind most tray fits.0 fits.1;
 }
-line-read (lines.Give tray) fits = record {
+request-read (requests.Give tray) fits = record {
   first = codes "give";
   others = tray ∷ [];
   spelled = refl;
   are = record { each = (keyword_part (codes "give") refl refl refl, (tray_part tray fits, tt)); few = omega arith };
   read = give-read tray fits;
 }
-line-read (lines.Join into other) fits = record {
+request-read (requests.Join into other) fits = record {
   first = codes "join";
   others = into ∷ other ∷ [];
   spelled = refl;
   are = record { each = (keyword_part (codes "join") refl refl refl, (tray_part into fits.0, (tray_part other fits.1, tt))); few = omega arith };
   read = join-read into other fits.0 fits.1;
 }
-line-read lines.Flip fits = alone-read lines.Flip (codes "flip") (keyword_part (codes "flip") refl refl refl) refl flip-read
-line-read lines.Trays fits = alone-read lines.Trays (codes "trays") (keyword_part (codes "trays") refl refl refl) refl trays-read
-line-read lines.Stat fits = alone-read lines.Stat (codes "stat") (keyword_part (codes "stat") refl refl refl) refl stat-read
-line-read lines.Dump fits = alone-read lines.Dump (codes "dump") (keyword_part (codes "dump") refl refl refl) refl dump-read
+request-read requests.Flip fits = alone-read requests.Flip (codes "flip") (keyword_part (codes "flip") refl refl refl) refl flip-read
+request-read requests.Trays fits = alone-read requests.Trays (codes "trays") (keyword_part (codes "trays") refl refl refl) refl trays-read
+request-read requests.Stat fits = alone-read requests.Stat (codes "stat") (keyword_part (codes "stat") refl refl refl) refl stat-read
+request-read requests.Dump fits = alone-read requests.Dump (codes "dump") (keyword_part (codes "dump") refl refl refl) refl dump-read
 
 header_parts_are : (h : declared.Header.Header) → HeaderFits h → AreParts (codes "heap") (decimal h.words ∷ decimal h.ratio ∷ decimal h.log ∷ decimal h.owners ∷ decimal h.slots ∷ [])
 header_parts_are h fits = record {
@@ -360,24 +350,24 @@ pub lines_of-parts : (first : List ℕ) (others : List (List ℕ)) (rest : List 
 lines_of-parts first others rest are =
     ap lines_of (append_assoc (join_with_byte 32 (first ∷ others)) (10 ∷ []) rest) ∙ lines_of-prefix (join_with_byte 32 (first ∷ others)) rest (printable-join first others are.each)
 
-pub line_or_fault-join : (number : ℕ) (line : Line) (first : List ℕ) (others : List (List ℕ)) → number ≤ 1048576 → AreParts first others → line_of_parts (first ∷ others) ≡ Ok line → line_or_fault number (ended_line (join_with_byte 32 (first ∷ others))) ≡ Ok line
-unfolding line_or_kind
-line_or_fault-join number line first others small are read =
-    ap (λ (r : Result (List (List ℕ)) Kind). with_fault (fault_at number) (r >>= line_of_parts)) (checked_parts-join number first others small are) ∙ ap (with_fault (fault_at number)) read
+pub request_or_fault-join : (number : ℕ) (request : Request) (first : List ℕ) (others : List (List ℕ)) → number ≤ 1048576 → AreParts first others → request_of_parts (first ∷ others) ≡ Ok request → request_or_fault number (ended_line (join_with_byte 32 (first ∷ others))) ≡ Ok request
+unfolding request_or_kind
+request_or_fault-join number request first others small are read =
+    ap (λ (r : Result (List (List ℕ)) Kind). with_fault (fault_at number) (r >>= request_of_parts)) (checked_parts-join number first others small are) ∙ ap (with_fault (fault_at number)) read
 
-lines_from-spelled : (lines : List Line) (number : ℕ) → AllByRecursion LineFits lines → number + length lines ≤ 1048577 → lines_from number (lines_of (flat_map spell_line lines)) ≡ Ok lines
-unfolding lines_from
-lines_from-spelled [] number fit few = refl
-lines_from-spelled (line ∷ lines) number fit few =
-    let a = line-read line fit.0 in
-    let rest = flat_map spell_line lines in
-    let text : spell_line line ++ rest ≡ spell_parts (a.first ∷ a.others) ++ rest = ap (λ (ps : List (List ℕ)). spell_parts ps ++ rest) a.spelled in
-    let raws : lines_of (spell_line line ++ rest) ≡ ended_line (join_with_byte 32 (a.first ∷ a.others)) ∷ lines_of rest = ap lines_of text ∙ lines_of-parts a.first a.others rest a.are in
-    let read = line_or_fault-join number line a.first a.others (omega (arith, few)) a.are a.read in
-    let others = lines_from-spelled lines (number + 1) fit.1 (omega (arith, few)) in
-    ap (lines_from number) raws
-    ∙ ap (λ (r : Result Line TraceFault). r >>= λ first. lines_from (number + 1) (lines_of rest) >>= λ others. Ok (first ∷ others)) read
-    ∙ ap (λ (r : Result (List Line) TraceFault). r >>= λ others. Ok (line ∷ others)) others
+requests_from-spelled : (requests : List Request) (number : ℕ) → AllByRecursion RequestFits requests → number + length requests ≤ 1048577 → requests_from number (lines_of (flat_map spell_request requests)) ≡ Ok requests
+unfolding requests_from
+requests_from-spelled [] number fit few = refl
+requests_from-spelled (request ∷ requests) number fit few =
+    let a = request-read request fit.0 in
+    let rest = flat_map spell_request requests in
+    let text : spell_request request ++ rest ≡ spell_parts (a.first ∷ a.others) ++ rest = ap (λ (ps : List (List ℕ)). spell_parts ps ++ rest) a.spelled in
+    let raws : lines_of (spell_request request ++ rest) ≡ ended_line (join_with_byte 32 (a.first ∷ a.others)) ∷ lines_of rest = ap lines_of text ∙ lines_of-parts a.first a.others rest a.are in
+    let read = request_or_fault-join number request a.first a.others (omega (arith, few)) a.are a.read in
+    let others = requests_from-spelled requests (number + 1) fit.1 (omega (arith, few)) in
+    ap (requests_from number) raws
+    ∙ ap (λ (r : Result Request TraceFault). r >>= λ first. requests_from (number + 1) (lines_of rest) >>= λ others. Ok (first ∷ others)) read
+    ∙ ap (λ (r : Result (List Request) TraceFault). r >>= λ others. Ok (request ∷ others)) others
 
 header_or_fault-join : (h : declared.Header.Header) → HeaderFits h → header_or_fault (ended_line (join_with_byte 32 (header_parts h))) ≡ Ok h
 unfolding header_or_kind
@@ -388,9 +378,9 @@ header_or_fault-join h fits =
 pub trace_of-spelling : (script : Script) → IsScript script → trace_of (spelling script) ≡ Ok script
 unfolding script_or_fault
 trace_of-spelling script is =
-    let rest = flat_map spell_line script.lines in
+    let rest = flat_map spell_request script.requests in
     let raws : lines_of (spelling script) ≡ ended_line (join_with_byte 32 (header_parts script.header)) ∷ lines_of rest = lines_of-parts (codes "heap") (decimal script.header.words ∷ decimal script.header.ratio ∷ decimal script.header.log ∷ decimal script.header.owners ∷ decimal script.header.slots ∷ []) rest (header_parts_are script.header is.header) in
-    let lines = lines_from-spelled script.lines 2 is.lines (omega (arith, is.few)) in
+    let requests = requests_from-spelled script.requests 2 is.requests (omega (arith, is.few)) in
     ap script_or_fault raws
-    ∙ ap (λ (r : Result declared.Header.Header TraceFault). r >>= λ header. lines_from 2 (lines_of rest) >>= λ lines. Ok (record { header = header; lines = lines })) (header_or_fault-join script.header is.header)
-    ∙ ap (λ (r : Result (List Line) TraceFault). r >>= λ lines. Ok (record { header = script.header; lines = lines })) lines
+    ∙ ap (λ (r : Result declared.Header.Header TraceFault). r >>= λ header. requests_from 2 (lines_of rest) >>= λ requests. Ok (record { header = header; requests = requests })) (header_or_fault-join script.header is.header)
+    ∙ ap (λ (r : Result (List Request) TraceFault). r >>= λ requests. Ok (record { header = script.header; requests = requests })) requests

@@ -1,4 +1,4 @@
-//! Laws of the lines of a trace, run one after the other.
+//! Laws of the requests of a trace, run one after the other.
 
 ghost use Rattle.std.specs.Prelude.{◌≡◌, ℕ, ◌^◌, List, [], Some};
 ghost use Rattle.rh_layout.specs.declared.kind.Kind.{Kind as KindOf};
@@ -8,28 +8,28 @@ ghost use Rattle.rh_core.specs.runs.Run.{answers_of, heap_after};
 ghost use Rattle.rh_core.specs.Stat.{stat_of};
 ghost use Rattle.rh_trace.specs.Answers as answers;
 ghost use Rattle.rh_engine.specs.Engine.{EngineState, deal_line_step, give_line_step, join_line_step};
-ghost use Rattle.rh_trace.specs.Events.{events_asked, events_of, MayChangeTrays, TellsAnswer};
+ghost use Rattle.rh_trace.specs.Events.{events_of, request_events, MayChangeTrays, TellsAnswer};
 ghost use Rattle.rh_trace.specs.HeapDump.{dump_of};
-ghost use Rattle.rh_syntax.specs.Line.{asked_of};
-ghost use Rattle.rh_trace.specs.Run.{config_of, engine_after, line_step, new_run};
+ghost use Rattle.rh_trace.specs.Run.{config_of, engine_after, new_run, request_step};
 ghost use Rattle.rh_syntax.specs.Spelling.{Script};
 ghost use Rattle.rh_engine.specs.Trays.{Tray, tray_named, AreFewInOrder};
 ghost use Rattle.rh_syntax.specs.declared.line.Header.{Header as HeaderOf};
-ghost use Rattle.rh_syntax.specs.declared.line.Line.{Line as LineOf};
-ghost use Rattle.rh_syntax.specs.declared.line.Line.TheVariants as forms;
+ghost use Rattle.rh_syntax.specs.declared.request.Request.{Request as RequestOf};
+ghost use Rattle.rh_syntax.specs.declared.request.Request.TheVariants as forms;
 
 use std::alloc::Allocator;
 
-/// The heap after the lines of a trace is the heap after the events that these lines are to it, and
-/// what is answered to such a line is what the heap answers to its event. So what is promised of
-/// every run of events holds of every trace, and a promise that asks of a replica that no two of
-/// its entries are of one place holds too: see [`the_trays_of_a_trace_stand_in_order`].
+/// The heap after the requests of a trace is the heap after the events that they are to it, and what
+/// is answered to such a request is what the heap answers to its event. So what is promised of every
+/// run of events holds of every trace, and a promise that asks of a replica that no two of its
+/// entries are of one place holds too: see [`the_trays_of_a_trace_stand_in_order`].
 pub fn the_lines_of_a_trace_are_events<A: Allocator + Copy>()
-    ensures heap { (e : EngineState) (lines : List LineOf)
-        → (engine_after e lines).heap ≡ heap_after {A = A} e.heap (events_of {A = A} e lines) }
-    ensures answer { (e : EngineState) (line : LineOf)
-        → TellsAnswer (answers_of {A = A} e.heap (events_asked {A = A} e (asked_of line)))
-        (line_step e line).1 }
+    ensures heap { (e : EngineState) (requests : List RequestOf)
+        → (engine_after e requests).heap
+        ≡ heap_after {A = A} e.heap (events_of {A = A} e requests) }
+    ensures answer { (e : EngineState) (request : RequestOf)
+        → TellsAnswer (answers_of {A = A} e.heap (request_events {A = A} e request))
+        (request_step e request).1 }
 {}
 
 /// A trace begins with a new heap of the sizes of its first line, 2^62 store numbers and 2^62
@@ -51,47 +51,47 @@ pub fn a_trace_has_the_heap_of_its_first_line()
 /// laws of trays tell.
 pub fn lines_of_trays_are_their_steps()
     ensures dealt { (e : EngineState) (kind : KindOf) (most : ℕ) (tray : List ℕ)
-        → line_step e (forms.Deal kind most tray) ≡ (
+        → request_step e (forms.Deal kind most tray) ≡ (
           (deal_line_step e kind most tray).0,
           answers.Deal (deal_line_step e kind most tray).1,
         ) }
     ensures given { (e : EngineState) (tray : List ℕ)
-        → line_step e (forms.Give tray) ≡ (
+        → request_step e (forms.Give tray) ≡ (
           (give_line_step e tray).0,
           answers.Give (give_line_step e tray).1,
         ) }
     ensures joined { (e : EngineState) (into other : List ℕ)
-        → line_step e (forms.Join into other) ≡ (
+        → request_step e (forms.Join into other) ≡ (
           (join_line_step e into other).0,
           answers.Join (join_line_step e into other).1,
         ) }
 {}
 
-/// A line leaves the trays as they are, unless it is a deal or a join, and a join leaves the heap.
+/// A request leaves the trays as they are, unless it is a deal or a join, and a join leaves the heap.
 /// A listing is answered the trays, a `stat` the numbers of the heap and a `dump` its dump, and
 /// they change nothing.
 pub fn lines_that_are_no_events_leave_the_heap()
-    ensures trays { (e : EngineState) (line : LineOf) → (MayChangeTrays (asked_of line) → ⊥)
-        → (line_step e line).0.trays ≡ e.trays }
+    ensures trays { (e : EngineState) (request : RequestOf) → (MayChangeTrays request → ⊥)
+        → (request_step e request).0.trays ≡ e.trays }
     ensures heap { (e : EngineState) (into other : List ℕ)
-        → (line_step e (forms.Join into other)).0.heap ≡ e.heap }
+        → (request_step e (forms.Join into other)).0.heap ≡ e.heap }
     ensures listed { (e : EngineState)
-        → line_step e forms.Trays ≡ (e, answers.Listing e.trays) }
+        → request_step e forms.Trays ≡ (e, answers.Listing e.trays) }
     ensures counted { (e : EngineState)
-        → line_step e forms.Stat ≡ (e, answers.Numbers (stat_of e.heap)) }
+        → request_step e forms.Stat ≡ (e, answers.Numbers (stat_of e.heap)) }
     ensures dumped { (e : EngineState)
-        → line_step e forms.Dump ≡ (e, answers.Dump (dump_of e.heap)) }
+        → request_step e forms.Dump ≡ (e, answers.Dump (dump_of e.heap)) }
 {}
 
 /// Where the entries of each tray stand in order of place and there are at most 64 trays, it is so
-/// after all lines, and a trace begins with no trays. So after any lines of a trace no two entries
-/// of a tray are of one place, as some promises ask of a replica that is given.
+/// after all requests, and a trace begins with no trays. So after any requests of a trace no two
+/// entries of a tray are of one place, as some promises ask of a replica that is given.
 pub fn the_trays_of_a_trace_stand_in_order()
-    ensures stay { (e : EngineState) (lines : List LineOf) → AreFewInOrder e.trays
-        → AreFewInOrder (engine_after e lines).trays }
-    ensures run { (script : Script) (lines : List LineOf)
-        → AreFewInOrder (engine_after (new_run script) lines).trays }
-    ensures places { (script : Script) (lines : List LineOf) (name : List ℕ) (t : Tray)
-        → tray_named (engine_after (new_run script) lines).trays name ≡ Some t
+    ensures stay { (e : EngineState) (requests : List RequestOf) → AreFewInOrder e.trays
+        → AreFewInOrder (engine_after e requests).trays }
+    ensures run { (script : Script) (requests : List RequestOf)
+        → AreFewInOrder (engine_after (new_run script) requests).trays }
+    ensures places { (script : Script) (requests : List RequestOf) (name : List ℕ) (t : Tray)
+        → tray_named (engine_after (new_run script) requests).trays name ≡ Some t
         → HaveDistinctPlaces t.entries }
 {}

@@ -2,10 +2,9 @@
 
 ghost use Rattle.std.specs.Prelude.{◌≡◌, ◌+◌, List, count_by};
 ghost use Rattle.rh_core.specs.runs.Run.{answers_of};
-ghost use Rattle.rh_syntax.specs.declared.line.Line.{Line as LineOf};
+ghost use Rattle.rh_syntax.specs.declared.request.Request.{Request as RequestOf};
 ghost use Rattle.rh_engine.specs.Engine.{EngineState};
 ghost use Rattle.rh_trace.specs.Events.{events_of, is_command, is_refused_command};
-ghost use Rattle.rh_syntax.specs.Line.{asked_of};
 ghost use Rattle.rh_trace.specs.Run.{answers_to, engine_after, summary_of};
 
 use rh_core::laws::a_command_leaves_the_cycle;
@@ -17,14 +16,15 @@ use rh_core::laws::deals::a_deal_looks_at_as_many_as_it_may;
 use rh_core::laws::gives::{a_give_leaves_the_cycle, a_shade_leaves_the_cycle};
 use std::alloc::Allocator;
 
-/// The flips and the root words of a summary are those that the heap counted: after lines it has
+/// The flips and the root words of a summary are those that the heap counted: after requests it has
 /// done as many flips more, and written as many words of roots more, as their answers add up to.
 pub fn a_summary_has_what_the_heap_counted()
-    ensures flips { (e : EngineState) (lines : List LineOf) → (engine_after e lines).heap.flips
-        ≡ e.heap.flips + (summary_of (answers_to e lines)).flips }
-    ensures root_words { (e : EngineState) (lines : List LineOf)
-        → (engine_after e lines).heap.root_words
-        ≡ e.heap.root_words + (summary_of (answers_to e lines)).root_words }
+    ensures flips { (e : EngineState) (requests : List RequestOf)
+        → (engine_after e requests).heap.flips
+        ≡ e.heap.flips + (summary_of (answers_to e requests)).flips }
+    ensures root_words { (e : EngineState) (requests : List RequestOf)
+        → (engine_after e requests).heap.root_words
+        ≡ e.heap.root_words + (summary_of (answers_to e requests)).root_words }
 {
     a_command_leaves_the_cycle();
     a_cycle_begins_with_nothing_placed();
@@ -35,13 +35,12 @@ pub fn a_summary_has_what_the_heap_counted()
     a_flip_is_refused_exactly_where_its_cycle_is_not_closed();
 }
 
-/// The commands of a summary are as many as the lines that ask one, and its refused ones are as
-/// many as the commands that the heap refuses of the events that the lines are to it.
+/// The commands of a summary are as many as the requests that are one, and its refused ones are as
+/// many as the commands that the heap refuses of the events that the requests are to it.
 pub fn a_summary_has_the_commands_of_its_lines<A: Allocator + Copy>()
-    ensures commands { (e : EngineState) (lines : List LineOf)
-        → (summary_of (answers_to e lines)).commands
-        ≡ count_by (λ line. is_command (asked_of line)) lines }
-    ensures refused { (e : EngineState) (lines : List LineOf)
-        → (summary_of (answers_to e lines)).refused
-        ≡ count_by is_refused_command (answers_of {A = A} e.heap (events_of {A = A} e lines)) }
+    ensures commands { (e : EngineState) (requests : List RequestOf)
+        → (summary_of (answers_to e requests)).commands ≡ count_by is_command requests }
+    ensures refused { (e : EngineState) (requests : List RequestOf)
+        → (summary_of (answers_to e requests)).refused
+        ≡ count_by is_refused_command (answers_of {A = A} e.heap (events_of {A = A} e requests)) }
 {}

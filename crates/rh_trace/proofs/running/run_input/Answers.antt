@@ -67,8 +67,8 @@ returns-in-Err-Write-clause-ends g c =
     let text : text_of (run_of_trace (trace_of c.args.input.now)) ≡ output_of (answers_of script) = ap text_of (run-made (trace_of c.args.input.now) script c.in-Ok.ensures.exact good) in
     let heap_is : c.in-Ok-new.heap ≡ new_heap (config_of script.header) = c.in-Ok-new.ensures.made ∙ ap new_heap config_is in
     let engine_is : c.new-engine.result ≡ new_run script = c.new-engine.ensures ∙ ap started heap_is in
-    let answers : answers_to c.new-engine.result c.lines.result.now ≡ answers_of script = ap (λ e. answers_to e c.lines.result.now) engine_is ∙ ap (answers_to (new_run script)) c.lines.ensures in
-    let cut = stopped _ c.play.result c.in-Err-Write.field-0 (output_of (answers_to c.new-engine.result c.lines.result.now)) (known c.args.writer.now) (known c.play.new.writer) c.in-Err-Write.is c.play.ensures.written in
+    let answers : answers_to c.new-engine.result c.requests.result.now ≡ answers_of script = ap (λ e. answers_to e c.requests.result.now) engine_is ∙ ap (answers_to (new_run script)) c.requests.ensures in
+    let cut = stopped _ c.play.result c.in-Err-Write.field-0 (output_of (answers_to c.new-engine.result c.requests.result.now)) (known c.args.writer.now) (known c.play.new.writer) c.in-Err-Write.is c.play.ensures.written in
     subst (AppendsLess (known c.args.writer.now) (known c.play.new.writer)) (ap output_of answers ∙ sym text) cut
 
 pub returns-clause-ends : goal.returns-clause-ends
@@ -81,7 +81,7 @@ returns-clause-ends g c =
     let made = run-made (trace_of c.args.input.now) script c.in-Ok.ensures.exact good in
     let heap_is : c.in-Ok-new.heap ≡ new_heap (config_of script.header) = c.in-Ok-new.ensures.made ∙ ap new_heap config_is in
     let engine_is : c.new-engine.result ≡ new_run script = c.new-engine.ensures ∙ ap started heap_is in
-    let answers : answers_to c.new-engine.result c.lines.result.now ≡ answers_of script = ap (λ e. answers_to e c.lines.result.now) engine_is ∙ ap (answers_to (new_run script)) c.lines.ensures in
+    let answers : answers_to c.new-engine.result c.requests.result.now ≡ answers_of script = ap (λ e. answers_to e c.requests.result.now) engine_is ∙ ap (answers_to (new_run script)) c.requests.ensures in
     let text = flat_map answered_text (answers_of script) in
     let cut : AppendsLess (known c.args.writer.now) (known c.play.new.writer) text = subst (λ due. AppendsLess (known c.args.writer.now) (known c.play.new.writer) (flat_map answered_text due)) answers (c.play.ensures.before_total (c.in-Err-OutOfMemory-play.is ∙ ap Err c.in-Err-OutOfMemory-play.field-0-is)) in
     subst (λ due. StopsBeforeTotal due (known c.args.writer.now) (known c.play.new.writer)) (sym made) (text, refl, (cut.0, cut.1, cut.2, cut.4))
@@ -97,7 +97,7 @@ returns-in-Ok-play-clause-ends g c =
     let text : text_of due ≡ output_of (answers_of script) = ap text_of made in
     let heap_is : c.in-Ok-new.heap ≡ new_heap (config_of script.header) = c.in-Ok-new.ensures.made ∙ ap new_heap config_is in
     let engine_is : c.new-engine.result ≡ new_run script = c.new-engine.ensures ∙ ap started heap_is in
-    let answers : answers_to c.new-engine.result c.lines.result.now ≡ answers_of script = ap (λ e. answers_to e c.lines.result.now) engine_is ∙ ap (answers_to (new_run script)) c.lines.ensures in
+    let answers : answers_to c.new-engine.result c.requests.result.now ≡ answers_of script = ap (λ e. answers_to e c.requests.result.now) engine_is ∙ ap (answers_to (new_run script)) c.requests.ensures in
     let summary : c.in-Ok-play.summary ≡ summary_of (answers_of script) = c.in-Ok-play.ensures.summary ∙ ap summary_of answers in (
       made ∙ ap (λ t. Ok (t, summary_of (answers_of script))) (sym text) ∙ ap (λ s. Ok (text_of due, s)) (sym summary),
       subst (Appends (g.W.Write.contents c.args.writer.now) (g.W.Write.contents c.play.new.writer)) (ap output_of answers ∙ sym text) c.in-Ok-play.ensures.written,

@@ -1,10 +1,9 @@
 use Rattle.std.proofs.Common.{refl}
-use Rattle.rh_trace.proofs.LinesAreEvents.{trays-of_asked}
-use Rattle.rh_syntax.specs.Line.{asked_of}
+use Rattle.rh_trace.proofs.LinesAreEvents.{trays-of_request}
 use Rattle.rh_trace.proofs.laws.runs.lines_that_are_no_events_leave_the_heap.Goals as goal
 
 pub returns-clause-trays : goal.returns-clause-trays
-returns-clause-trays c = λ e line other. trays-of_asked e (asked_of line) other
+returns-clause-trays c = λ e request other. trays-of_request e request other
 
 pub returns-clause-heap : goal.returns-clause-heap
 returns-clause-heap c = λ e into other. refl

@@ -1,6 +1,6 @@
 use Rattle.std.proofs.Common.{ap}
 use Rattle.rh_core.specs.Heap.{HeapState}
-use Rattle.rh_trace.proofs.CountedFlips.{flip_counts, flips_of-lines, root_words_of-lines}
+use Rattle.rh_trace.proofs.CountedFlips.{flip_counts, flips_of-requests, root_words_of-requests}
 use Rattle.rh_trace.proofs.laws.summaries.a_summary_has_what_the_heap_counted.Goals as goal
 
 pub returns-clause-flips : goal.returns-clause-flips
@@ -12,7 +12,7 @@ returns-clause-flips c =
     let give = c.a_give_leaves_the_cycle.ensures in
     let ended = c.a_flip_ends_the_cycle.ensures.ended in
     let refused = c.a_flip_is_refused_exactly_where_its_cycle_is_not_closed.ensures.refused in
-    flips_of-lines (record {
+    flips_of-requests (record {
       command = λ h owner what. (ap (λ (g : HeapState). g.flips) (command h owner what), ap (λ (g : HeapState). g.root_words) (command h owner what));
       begin = λ h. ((begin h).6, (begin h).7);
       shade = λ h root. (ap (λ (g : HeapState). g.flips) (shade h root), ap (λ (g : HeapState). g.root_words) (shade h root));
@@ -30,7 +30,7 @@ returns-clause-root_words c =
     let give = c.a_give_leaves_the_cycle.ensures in
     let ended = c.a_flip_ends_the_cycle.ensures.ended in
     let refused = c.a_flip_is_refused_exactly_where_its_cycle_is_not_closed.ensures.refused in
-    root_words_of-lines (record {
+    root_words_of-requests (record {
       command = λ h owner what. (ap (λ (g : HeapState). g.flips) (command h owner what), ap (λ (g : HeapState). g.root_words) (command h owner what));
       begin = λ h. ((begin h).6, (begin h).7);
       shade = λ h root. (ap (λ (g : HeapState). g.flips) (shade h root), ap (λ (g : HeapState). g.root_words) (shade h root));
