@@ -1,5 +1,6 @@
 -- What the lines of a trace make of a heap and the trays, and what they are answered.
 use Rattle.std.specs.Prelude.{◌≡◌, ◌≢◌, ℕ, ◌≤◌, ◌==◌, not, false, if◌then◌else◌, List, length, Option, Some, None, Result, Ok, Err}
+use Rattle.rh_layout.specs.Refusing.{unless}
 use Rattle.rh_layout.specs.declared.command.Command.{Command}
 use Rattle.rh_layout.specs.declared.command.Reply.{Reply}
 use Rattle.rh_layout.specs.declared.command.RootId.{RootId}
@@ -88,9 +89,8 @@ deal_done heap (Err why) trays name =
 -- the same, unless it was refused before
 abbrev pub deal_unless : Option DealRefusal → EngineState → Kind → ℕ → List ℕ
     → EngineState × Result Counted DealRefusal
-deal_unless (Some why) e kind most name = (e, Err why)
-deal_unless None e kind most name =
-    deal_done (deal_step e.heap kind most).0 (deal_step e.heap kind most).1 e.trays name
+deal_unless refusal e kind most name = unless refusal e
+    (deal_done (deal_step e.heap kind most).0 (deal_step e.heap kind most).1 e.trays name)
 
 -- A piece is dealt, and folded into a tray.
 abbrev pub deal_line_step : EngineState → Kind → ℕ → List ℕ
