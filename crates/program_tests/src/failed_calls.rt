@@ -3,8 +3,8 @@
 use crate::devices::{InterruptedReader, SlowReader, SlowWriter};
 use crate::expectations::expect_equal;
 use crate::texts::WITHOUT_FIELDS;
-use rh_text::{Calls, send};
-use rh_trace::{RunFault, Write, parse, print_told, run_trace_told};
+use rh_text::{IoLog, send};
+use rh_trace::{RunFault, Write, parse, print_logged, run_trace_logged};
 use std::test::Fail;
 
 #[test]
@@ -17,8 +17,8 @@ fn runs_tell_which_call_failed(rt: HostRuntime) {
     ] {
         let mut reader = SlowReader::new(WITHOUT_FIELDS, read);
         let mut writer = SlowWriter::new(&rt, 1000, write);
-        let (mut reads, mut writes) = (Calls::new(), Calls::new());
-        let outcome = run_trace_told(
+        let (mut reads, mut writes) = (IoLog::new(), IoLog::new());
+        let outcome = run_trace_logged(
             rt.alloc(),
             &mut reader,
             &mut reads,
@@ -37,8 +37,8 @@ fn reads_that_run_out_are_no_failed_read(rt: HostRuntime) {
         ends_at: 0,
     };
     let mut writer = SlowWriter::new(&rt, 1000, 0);
-    let (mut reads, mut writes) = (Calls::new(), Calls::new());
-    let outcome = run_trace_told(
+    let (mut reads, mut writes) = (IoLog::new(), IoLog::new());
+    let outcome = run_trace_logged(
         rt.alloc(),
         &mut reader,
         &mut reads,
@@ -55,8 +55,8 @@ fn prints_tell_a_failed_write(rt: HostRuntime) -> Result<(), Fail> {
     let trace = parse(rt.alloc(), WITHOUT_FIELDS).ok().ok_or("a trace")?;
     for &(most, nth, outcome) in &[(1000, 0, Ok(())), (1000, 2, Err(Write)), (0, 0, Err(Write))] {
         let mut writer = SlowWriter::new(&rt, most, nth);
-        let mut writes = Calls::new();
-        expect_equal(&rt, print_told(&trace, &mut writer, &mut writes), outcome);
+        let mut writes = IoLog::new();
+        expect_equal(&rt, print_logged(&trace, &mut writer, &mut writes), outcome);
         expect_equal(&rt, writes.has_failed(), outcome.is_err());
     }
     Ok(())
@@ -65,7 +65,7 @@ fn prints_tell_a_failed_write(rt: HostRuntime) -> Result<(), Fail> {
 #[test]
 fn a_text_renews_the_writes(rt: HostRuntime) {
     let mut writer = SlowWriter::new(&rt, 1000, 0);
-    let mut writes = Calls::limited(0);
+    let mut writes = IoLog::limited(0);
     expect_equal(&rt, send(&mut writer, &mut writes, WITHOUT_FIELDS), Ok(()));
     expect_equal(&rt, (writes.left(), writer.writes), (33_554_431, 1));
 }

@@ -4,8 +4,8 @@ use crate::devices::{SlowReader, SlowWriter};
 use crate::expectations::expect_equal;
 use crate::texts::repeated;
 use refusing::RefusingAllocator;
-use rh_dump::{DumpFault, DumpKind, DumpReadError, read_dump, read_dump_told, write_dump};
-use rh_text::Calls;
+use rh_dump::{DumpFault, DumpKind, DumpReadError, read_dump, read_dump_logged, write_dump};
+use rh_text::IoLog;
 use std::io;
 use std::process::Abort;
 use std::test::Fail;
@@ -91,8 +91,8 @@ fn reads_tell_which_failed(rt: HostRuntime) {
         (0, 9, Some(DumpReadError::Read), false),
     ] {
         let mut reader = SlowReader::new(EMPTY, nth);
-        let mut reads = Calls::limited(limit);
-        let outcome = read_dump_told(rt.alloc(), &mut reader, &mut reads);
+        let mut reads = IoLog::limited(limit);
+        let outcome = read_dump_logged(rt.alloc(), &mut reader, &mut reads);
         expect_equal(&rt, outcome.err(), error);
         expect_equal(&rt, reads.has_failed(), told);
     }

@@ -1,11 +1,9 @@
 //! The arguments of the program.
 
-ghost use Rattle.std.specs.Prelude.{◌≡◌, ◌≢◌, map, false, Some, IsTrue, IfSome, IfNone, IfOk};
-ghost use Rattle.std.specs.Prelude.{IfErr, codes};
+ghost use Rattle.std.specs.Prelude.{◌≡◌, ◌≢◌, map, false, Some, IsTrue, IfSome, IfNone, IfOk, IfErr, codes};
 ghost use Rattle.clap.specs.declared.builder.command.Command.TheViews.{out-Command as fields_of};
 ghost use Rattle.clap.specs.Words.{kind_of, app_of, subcommand_rows_of};
-ghost use Rattle.rh_cli.specs.Ask.{command_and_file, command_and_file_in, command_and_file_of};
-ghost use Rattle.rh_cli.specs.Ask.{file_app, rheap_app, is_taken, name_of};
+ghost use Rattle.rh_cli.specs.Ask.{command_and_file, command_and_file_in, command_and_file_of, file_app, rheap_app, is_taken, name_of};
 ghost use Rattle.rh_cli.specs.declared.ask.Ask.{Ask};
 ghost use Rattle.rh_cli.specs.declared.ask.Subcommand.{Subcommand as SubcommandOf};
 

@@ -9,7 +9,7 @@ ghost use Rattle.rh_cli.specs.Fault.{status_after, IsLateFault};
 use crate::ending::Ending;
 use crate::fault::LineFault;
 use rh_dump::{DumpReadError, Graph, read_dump};
-use rh_text::{Calls, LineText, Write as Unsent, send};
+use rh_text::{IoLog, LineText, Write as Unsent, send};
 use std::alloc::Allocator;
 use std::io::{Read, Write};
 
@@ -53,7 +53,7 @@ fn write_counts<A: Allocator, O: Write>(graph: &Graph<A>, out: &mut O) -> Result
 {
     let mut text = LineText::new();
     put_counts(&mut text, graph);
-    let sent = send(out, &mut Calls::new(), text.as_bytes());
+    let sent = send(out, &mut IoLog::new(), text.as_bytes());
     let flushed = out.flush();
     conclude(sent, flushed.is_ok())
 }

@@ -3,14 +3,13 @@
 ghost use Rattle.std.specs.Prelude.{◌≡◌, ◌≤◌, ◌↔◌, List, ℕ, length, IfSome, IfErr, IsTrue};
 ghost use Rattle.std.specs.Io.KnownBytes.{Consumes};
 ghost use Rattle.rh_cli.specs.Fault.{status_after, IsLateFault};
-ghost use Rattle.rh_cli.specs.Replay.{ConcludesReplay, IsReplayStatus, ReplayEnds};
-ghost use Rattle.rh_cli.specs.Replay.{TellsLegal, TellsWrong};
+ghost use Rattle.rh_cli.specs.Replay.{ConcludesReplay, IsReplayStatus, ReplayEnds, TellsLegal, TellsWrong};
 
 use crate::ending::Ending;
 use crate::fault::LineFault;
 use rh_layout::limits::MAX_INPUT_BYTES;
 use rh_replay::{HistoryError, Verdict, check, read_history, report};
-use rh_text::{Calls, InputFault, read_all};
+use rh_text::{InputFault, IoLog, read_all};
 use std::alloc::Allocator;
 use std::io::{Read, Write};
 
@@ -28,7 +27,7 @@ pub fn replay<A: Allocator + Copy, R: Read, O: Write>(
         × ConcludesReplay input (status_after result) (O.contents out.old) (O.contents out.new) }
     ensures late { IfErr result (λ fault. IsLateFault fault) }
 {
-    match read_all(alloc, reader, &mut Calls::new()) {
+    match read_all(alloc, reader, &mut IoLog::new()) {
         Ok(input) => replay_input(alloc, &input, out),
         Err(InputFault::Read) => Err(LineFault::Read),
         Err(InputFault::Long) => Err(LineFault::TooLong),

@@ -19,6 +19,6 @@ pub use object_graph::ObjectGraph;
 pub use plain_dump::plain_graph;
 pub use reading::fault::{DumpFault, DumpKind};
 pub use reading::read_error::DumpReadError;
-pub use reading::{read_dump, read_dump_told};
+pub use reading::{read_dump, read_dump_logged};
 pub use rh_text::Write;
-pub use writing::{write_dump, write_dump_told};
+pub use writing::{write_dump, write_dump_logged};

@@ -1,7 +1,6 @@
 //! The numbering of objects, breadth first.
 
-ghost use Rattle.std.specs.Prelude.{◌≡◌, ◌<◌, ◌≤◌, ℕ, [], ◌∷◌, ◌++◌, length, OnOk, OnErr, IfOk};
-ghost use Rattle.std.specs.Prelude.{IfSome, slice_get, Some, None};
+ghost use Rattle.std.specs.Prelude.{◌≡◌, ◌<◌, ◌≤◌, ℕ, [], ◌∷◌, ◌++◌, length, OnOk, OnErr, IfOk, IfSome, slice_get, Some, None};
 ghost use Rattle.rh_dump.specs.Dump.{IsGraph};
 ghost use Rattle.rh_dump.specs.Graph.{graph_in, IsFilled};
 ghost use Rattle.rh_model.specs.Graph.{root_value};

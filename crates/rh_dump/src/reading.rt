@@ -1,7 +1,7 @@
 //! A dump read from a reader.
 
 ghost use Rattle.std.specs.Prelude.{◌≡◌, [], false, IfSome, IsErrOf};
-ghost use Rattle.rh_text.specs.Calls.{AreSpent};
+ghost use Rattle.rh_text.specs.IoLog.{AreSpent};
 ghost use Rattle.rh_text.specs.RawLine.{lines_of};
 ghost use Rattle.rh_dump.specs.texts.Putting.{put_lines, error_in, Gives, Reads, ReadsDump};
 ghost use Rattle.rh_dump.specs.texts.Reading.{end_or_fault, lines_from, graph_of_text};
@@ -21,7 +21,7 @@ use crate::reading::due::Due;
 use crate::reading::fault::{DumpFault, DumpKind};
 use crate::reading::line_reading::read_raw_line;
 use crate::reading::read_error::{DumpReadError, LineError};
-use rh_text::{Calls, InputFault, first_line, read_past};
+use rh_text::{InputFault, IoLog, first_line, read_past};
 use std::alloc::Allocator;
 use std::io;
 
@@ -91,7 +91,7 @@ fn graph_in_text<A: Allocator + Copy>(alloc: A, text: &[u8]) -> Result<Graph<A>,
 /// `Fault` where the text is no dump, or has more than 268,435,456 bytes: it names the first faulty
 /// line and what is wrong with it. `Read` where a read failed, or 536,870,912 reads, those that
 /// were interrupted among them, didn't come to the end; `OutOfMemory` where the allocator refused
-/// memory. `read_dump_told` says of `Read` that it comes nowhere else.
+/// memory. `read_dump_logged` says of `Read` that it comes nowhere else.
 pub fn read_dump<A: Allocator + Copy, R: io::Read>(
     alloc: A,
     reader: &mut R,
@@ -102,7 +102,7 @@ pub fn read_dump<A: Allocator + Copy, R: io::Read>(
     // its bytes.
     ensures bytes { ReadsDump (R.remaining reader.old) (R.remaining reader.new) (λ g. g) result }
 {
-    read_dump_told(alloc, reader, &mut Calls::limited(MAX_DUMP_READS))
+    read_dump_logged(alloc, reader, &mut IoLog::limited(MAX_DUMP_READS))
 }
 
 /// Reads a dump as `read_dump` does, by as many reads as are left, and tells in `reads` whether a
@@ -111,10 +111,10 @@ pub fn read_dump<A: Allocator + Copy, R: io::Read>(
 /// # Errors
 ///
 /// As `read_dump`.
-pub fn read_dump_told<A: Allocator + Copy, R: io::Read>(
+pub fn read_dump_logged<A: Allocator + Copy, R: io::Read>(
     alloc: A,
     reader: &mut R,
-    reads: &mut Calls,
+    reads: &mut IoLog,
 ) -> Result<Graph<A>, DumpReadError>
     requires { reads.old.failed ≡ false }
     // As of `read_dump`.

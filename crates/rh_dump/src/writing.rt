@@ -3,11 +3,10 @@
 ghost use Rattle.std.specs.Prelude.{◌≡◌, length, false, OnOk, OnErr};
 ghost use Rattle.std.specs.Io.KnownBytes.{Appends};
 ghost use Rattle.std.specs.List.{flat_map};
-ghost use Rattle.rh_text.specs.Calls.{AreSpent};
+ghost use Rattle.rh_text.specs.IoLog.{AreSpent};
 ghost use Rattle.rh_text.specs.Output.{AppendsLess};
 ghost use Rattle.rh_dump.specs.Graph.{graph_in, objects_in, total};
-ghost use Rattle.rh_dump.specs.texts.Line.{spell_dump_line, object_line, root_lines, object_lines};
-ghost use Rattle.rh_dump.specs.texts.Line.{dump_text};
+ghost use Rattle.rh_dump.specs.texts.Line.{spell_dump_line, object_line, root_lines, object_lines, dump_text};
 
 mod spelling;
 
@@ -16,7 +15,7 @@ use crate::writing::spelling::{
     put_head, put_next_value, put_object_head, put_objects_line, put_root_line,
 };
 use rh_layout::{RootId, Value};
-use rh_text::{Calls, LineText, Write, send};
+use rh_text::{IoLog, LineText, Write, send};
 use std::alloc::Allocator;
 use std::io;
 
@@ -24,7 +23,7 @@ use std::io;
 fn write_roots<W: io::Write>(
     text: &mut LineText,
     writer: &mut W,
-    writes: &mut Calls,
+    writes: &mut IoLog,
     roots: &[(RootId, Value)],
 ) -> Result<(), Write>
     requires { writes.old.failed ≡ false }
@@ -46,7 +45,7 @@ fn write_roots<W: io::Write>(
 fn write_object<W: io::Write>(
     text: &mut LineText,
     writer: &mut W,
-    writes: &mut Calls,
+    writes: &mut IoLog,
     number: usize,
     fields: &[Value],
 ) -> Result<(), Write>
@@ -71,7 +70,7 @@ fn write_object<W: io::Write>(
 fn write_objects<W: io::Write>(
     text: &mut LineText,
     writer: &mut W,
-    writes: &mut Calls,
+    writes: &mut IoLog,
     counts: &[u32],
     values: &[Value],
 ) -> Result<(), Write>
@@ -98,7 +97,7 @@ fn write_objects<W: io::Write>(
 /// Writes the dump text of the graph that is stored so.
 fn write_flat<W: io::Write>(
     writer: &mut W,
-    writes: &mut Calls,
+    writes: &mut IoLog,
     roots: &[(RootId, Value)],
     counts: &[u32],
     values: &[Value],
@@ -136,14 +135,15 @@ fn write_flat<W: io::Write>(
 /// # Errors
 ///
 /// `Write` where a write failed, or 33,554,432 writes of a line or a part of one didn't come to its
-/// end (`write_dump_told` says that it comes nowhere else). A prefix of the text was written then.
+/// end (`write_dump_logged` says that it comes nowhere else). A prefix of the text was written
+/// then.
 pub fn write_dump<A: Allocator, W: io::Write>(graph: &Graph<A>, writer: &mut W) -> Result<(), Write>
     ensures ok { OnOk result (Appends (W.contents writer.old) (W.contents writer.new)
         (dump_text graph.now)) }
     ensures err { OnErr result (AppendsLess (W.contents writer.old) (W.contents writer.new)
         (dump_text graph.now)) }
 {
-    write_dump_told(graph, writer, &mut Calls::new())
+    write_dump_logged(graph, writer, &mut IoLog::new())
 }
 
 /// Writes the dump text of a graph as `write_dump` does, and tells in `writes` whether a write
@@ -152,10 +152,10 @@ pub fn write_dump<A: Allocator, W: io::Write>(graph: &Graph<A>, writer: &mut W) 
 /// # Errors
 ///
 /// As `write_dump`.
-pub fn write_dump_told<A: Allocator, W: io::Write>(
+pub fn write_dump_logged<A: Allocator, W: io::Write>(
     graph: &Graph<A>,
     writer: &mut W,
-    writes: &mut Calls,
+    writes: &mut IoLog,
 ) -> Result<(), Write>
     requires { writes.old.failed ≡ false }
     ensures ok { OnOk result (Appends (W.contents writer.old) (W.contents writer.new)

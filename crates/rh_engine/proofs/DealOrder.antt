@@ -13,7 +13,7 @@ use Rattle.rh_core.specs.declared.errors.DealError.{DealError}
 use Rattle.rh_core.specs.declared.errors.DealError.TheVariants as deal_errors
 use Rattle.rh_engine.specs.Trays.{Tray, tray_named, tray_or_empty, empty_tray, is_beyond}
 use Rattle.rh_engine.specs.Engine.{EngineState, deal_done, deal_unless as line_unless, deal_line_step, IsOneTooMany, IsOfOtherEpoch, refusals_of_deal}
-use Rattle.rh_engine.specs.declared.engine.Counted.{Counted}
+use Rattle.rh_engine.specs.declared.engine.TrayDeal.{TrayDeal}
 use Rattle.rh_engine.specs.declared.engine.DealRefusal.{DealRefusal}
 use Rattle.rh_engine.specs.declared.engine.DealRefusal.TheVariants as deal_refusals
 use Rattle.rh_engine.proofs.EngineLemmas.{refused-heap}
@@ -86,7 +86,7 @@ module _ (e : EngineState) (kind : Kind) (most : ℕ) (name : List ℕ) where
       else if not t then Some deal_refusals.OtherEpoch
       else None
 
-  abbrev IsRefused : EngineState × Result Counted DealRefusal → DealRefusal → Type 0
+  abbrev IsRefused : EngineState × Result TrayDeal DealRefusal → DealRefusal → Type 0
   IsRefused done why = IsLeast Holds why × (done.0 ≡ e)
 
   heap_by : (heap : HeapState) (answer : Result Dealt DealError) → (deal_step e.heap kind most).1 ≡ answer
@@ -129,12 +129,12 @@ module _ (e : EngineState) (kind : Kind) (most : ℕ) (name : List ℕ) where
 
   dealt_by : (heap : HeapState) (answer : Result Dealt DealError) → (deal_step e.heap kind most).1 ≡ answer
       → e.heap.mutators.cycle ≡ true → is_beyond e.trays name ≡ false → tray_epoch ≡ e.heap.epoch
-      → (done : Counted) → (deal_done heap answer e.trays name).1 ≡ Ok done → (p : ℕ) (k : DealRefusal) → Holds p k → ⊥
+      → (done : TrayDeal) → (deal_done heap answer e.trays name).1 ≡ Ok done → (p : ℕ) (k : DealRefusal) → Holds p k → ⊥
   dealt_by heap (Ok d) is on few same done h = none_holds d is on few same
   dealt_by heap (Err error) is on few same done h = cc
 
   accepted_by : (c b t : Bool) → e.heap.mutators.cycle ≡ c → is_beyond e.trays name ≡ b → (tray_epoch == e.heap.epoch) ≡ t
-      → (done : Counted) → (line_unless (choice c b t) e kind most name).1 ≡ Ok done → (p : ℕ) (k : DealRefusal) → Holds p k → ⊥
+      → (done : TrayDeal) → (line_unless (choice c b t) e kind most name).1 ≡ Ok done → (p : ℕ) (k : DealRefusal) → Holds p k → ⊥
   accepted_by false b t on few same done h = cc
   accepted_by true true t on few same done h = cc
   accepted_by true false false on few same done h = cc
@@ -142,5 +142,5 @@ module _ (e : EngineState) (kind : Kind) (most : ℕ) (name : List ℕ) where
       dealt_by (deal_step e.heap kind most).0 (deal_step e.heap kind most).1 refl on few (eqb-true tray_epoch e.heap.epoch same) done h
 
   -- where something is dealt no refusal holds
-  pub deal-accepted : (done : Counted) → (deal_line_step e kind most name).1 ≡ Ok done → IsFaultless Holds
+  pub deal-accepted : (done : TrayDeal) → (deal_line_step e kind most name).1 ≡ Ok done → IsFaultless Holds
   deal-accepted done h = accepted_by e.heap.mutators.cycle (is_beyond e.trays name) (tray_epoch == e.heap.epoch) refl refl refl done h

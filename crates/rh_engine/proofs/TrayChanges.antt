@@ -12,7 +12,7 @@ use Rattle.rh_layout.specs.declared.kind.Kind.{Kind}
 use Rattle.rh_core.specs.declared.errors.DealError.{DealError}
 use Rattle.rh_engine.specs.Trays.{Tray, Trays, tray_named, trays_with, tray_with, tray_or_empty, empty_tray, joined_trays, joined_into, join_found, with_join, is_beyond, IsInOrder, content_of_tray, IsChangedAlone, IsFoldedInto, IsJoinOf, IsJoinedInto}
 use Rattle.rh_engine.specs.Engine.{EngineState, tray_refusal, with_dealt, counts_of_dealt, deal_done, deal_unless, deal_line_step, join_line_step, IsDealtInto}
-use Rattle.rh_engine.specs.declared.engine.Counted.{Counted}
+use Rattle.rh_engine.specs.declared.engine.TrayDeal.{TrayDeal}
 use Rattle.rh_engine.specs.declared.engine.DealRefusal.{DealRefusal}
 use Rattle.rh_engine.specs.declared.trays.JoinRefusal.TheVariants as join_refusals
 use Rattle.rh_engine.proofs.EngineLemmas.{epoch_of_tray}
@@ -50,7 +50,7 @@ folded-dealt trays name d same =
 
 module _ (e : EngineState) (kind : Kind) (most : ℕ) (name : List ℕ) where
   dealt_by : (heap : HeapState) (answer : Result Dealt DealError) → deal_step e.heap kind most ≡ (heap, answer) → tray_refusal e name ≡ None
-      → (done : Counted) → (deal_done heap answer e.trays name).1 ≡ Ok done → IsDealtInto e (deal_done heap answer e.trays name).0 kind most name done
+      → (done : TrayDeal) → (deal_done heap answer e.trays name).1 ≡ Ok done → IsDealtInto e (deal_done heap answer e.trays name).0 kind most name done
   dealt_by heap (Ok d) is free done h =
       let counts : done ≡ counts_of_dealt d = cc in
       record {
@@ -62,12 +62,12 @@ module _ (e : EngineState) (kind : Kind) (most : ℕ) (name : List ℕ) where
       }
   dealt_by heap (Err why) is free done h = cc
 
-  unless_by : (x : Option DealRefusal) → tray_refusal e name ≡ x → (done : Counted) → (deal_unless x e kind most name).1 ≡ Ok done
+  unless_by : (x : Option DealRefusal) → tray_refusal e name ≡ x → (done : TrayDeal) → (deal_unless x e kind most name).1 ≡ Ok done
       → IsDealtInto e (deal_unless x e kind most name).0 kind most name done
   unless_by (Some why) is done h = cc
   unless_by None is done h = dealt_by (deal_step e.heap kind most).0 (deal_step e.heap kind most).1 refl is done h
 
-  pub dealt-into : (done : Counted) → (deal_line_step e kind most name).1 ≡ Ok done → IsDealtInto e (deal_line_step e kind most name).0 kind most name done
+  pub dealt-into : (done : TrayDeal) → (deal_line_step e kind most name).1 ≡ Ok done → IsDealtInto e (deal_line_step e kind most name).0 kind most name done
   dealt-into done h = unless_by (tray_refusal e name) refl done h
 
 abbrev chosen : Bool → Bool → Tray → Tray → Tray

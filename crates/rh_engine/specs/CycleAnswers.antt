@@ -16,7 +16,7 @@ use Rattle.rh_core.specs.declared.errors.GiveError.TheVariants as gives
 use Rattle.rh_core.specs.declared.errors.ShadeError.{ShadeError}
 use Rattle.rh_core.specs.declared.errors.ShadeError.TheVariants as shade_errors
 use Rattle.rh_core.specs.declared.stat.Stat.{Stat}
-use Rattle.rh_engine.specs.declared.engine.Counted.{Counted}
+use Rattle.rh_engine.specs.declared.engine.TrayDeal.{TrayDeal}
 use Rattle.rh_engine.specs.declared.engine.DealRefusal.{DealRefusal}
 use Rattle.rh_engine.specs.declared.engine.DealRefusal.TheVariants as deal_refusals
 use Rattle.rh_engine.specs.declared.engine.GiveRefusal.{GiveRefusal}
@@ -55,7 +55,7 @@ deal_error_text deals.NothingToDeal = codes "refused NothingToDeal"
 deal_error_text (deals.CreditShort need free) = credit_text need free
 
 -- dealt ITEMS passed ENTRIES
-abbrev pub deal_text : Result Counted DealRefusal → List ℕ
+abbrev pub deal_text : Result TrayDeal DealRefusal → List ℕ
 deal_text (Ok done) = two_numbers (codes "dealt ") done.items (codes " passed ") done.passed
 deal_text (Err deal_refusals.TooManyTrays) = codes "refused TooManyTrays"
 deal_text (Err deal_refusals.OtherEpoch) = codes "refused OtherEpoch"

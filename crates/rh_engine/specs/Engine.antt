@@ -23,7 +23,7 @@ use Rattle.rh_core.specs.Cycle.{begin_step, flip_step}
 use Rattle.rh_core.specs.Shading.{shade_step}
 use Rattle.rh_core.specs.Dealing.{deal_step}
 use Rattle.rh_core.specs.Giving.{give_step}
-use Rattle.rh_engine.specs.declared.engine.Counted.{Counted}
+use Rattle.rh_engine.specs.declared.engine.TrayDeal.{TrayDeal}
 use Rattle.rh_engine.specs.declared.engine.DealRefusal.{DealRefusal}
 use Rattle.rh_engine.specs.declared.engine.DealRefusal.TheVariants as deal_refusals
 use Rattle.rh_engine.specs.declared.engine.GiveRefusal.{GiveRefusal}
@@ -75,12 +75,12 @@ with_dealt trays name dealt =
     (tray_with (tray_or_empty trays name dealt.piece.epoch) dealt.piece.items)
 
 -- how many items a piece has, and how many entries were passed over
-abbrev pub counts_of_dealt : Dealt → Counted
+abbrev pub counts_of_dealt : Dealt → TrayDeal
 counts_of_dealt dealt = record { items = length dealt.piece.items; passed = dealt.passed }
 
 -- the engine and the answer, once the heap was asked to deal
 abbrev pub deal_done : HeapState → Result Dealt DealError → Trays → List ℕ
-    → EngineState × Result Counted DealRefusal
+    → EngineState × Result TrayDeal DealRefusal
 deal_done heap (Ok dealt) trays name =
     (record { heap = heap; trays = with_dealt trays name dealt }, Ok (counts_of_dealt dealt))
 deal_done heap (Err why) trays name =
@@ -88,13 +88,13 @@ deal_done heap (Err why) trays name =
 
 -- the same, unless it was refused before
 abbrev pub deal_unless : Option DealRefusal → EngineState → Kind → ℕ → List ℕ
-    → EngineState × Result Counted DealRefusal
+    → EngineState × Result TrayDeal DealRefusal
 deal_unless refusal e kind most name = unless refusal e
     (deal_done (deal_step e.heap kind most).0 (deal_step e.heap kind most).1 e.trays name)
 
 -- A piece is dealt, and folded into a tray.
 abbrev pub deal_line_step : EngineState → Kind → ℕ → List ℕ
-    → EngineState × Result Counted DealRefusal
+    → EngineState × Result TrayDeal DealRefusal
 deal_line_step e kind most name = deal_unless (tray_refusal e name) e kind most name
 
 -- Give.
@@ -172,7 +172,7 @@ refusals_of_give e name =
 -- The heap dealt a piece, which was folded into the tray of this name. Its items, and the entries
 -- that were passed over, are counted.
 pub record IsDealtInto (before after : EngineState) (kind : Kind) (most : ℕ) (name : List ℕ)
-    (done : Counted) : Type 0 where
+    (done : TrayDeal) : Type 0 where
   pub dealt : Dealt
   pub step : deal_step before.heap kind most ≡ (after.heap, Ok dealt)
   pub folded : IsFoldedInto before.trays after.trays name dealt.piece

@@ -1,14 +1,10 @@
 //! The texts of the answers to the lines of a cycle, without line ends.
 
 ghost use Rattle.std.specs.Prelude.{◌≡◌, ◌+◌, ◌^◌, ◌<◌, ◌≤◌, ◌++◌, length, codes};
-ghost use Rattle.rh_engine.specs.CycleAnswers.{two_numbers, credit_text, begin_text, shade_text};
-ghost use Rattle.rh_engine.specs.CycleAnswers.{deal_error_text, deal_text, give_error_text};
-ghost use Rattle.rh_engine.specs.CycleAnswers.{given_text, give_text, join_text, flip_text};
-ghost use Rattle.rh_engine.specs.CycleAnswers.{tray_text, stat_start, stat_log, stat_work};
-ghost use Rattle.rh_engine.specs.CycleAnswers.{stat_text};
+ghost use Rattle.rh_engine.specs.CycleAnswers.{two_numbers, credit_text, begin_text, shade_text, deal_error_text, deal_text, give_error_text, given_text, give_text, join_text, flip_text, tray_text, stat_start, stat_log, stat_work, stat_text};
 ghost use Rattle.rh_engine.specs.Trays.{tray_of};
 
-use crate::engine::{Counted, DealRefusal, GiveRefusal};
+use crate::engine::{DealRefusal, GiveRefusal, TrayDeal};
 use crate::trays::JoinRefusal;
 use rh_core::{
     BeginError, DealError, FlipError, Flipped, GiveError, Given, ShadeError, Shaded, Stat,
@@ -88,7 +84,7 @@ fn put_deal_error(text: &mut LineText, why: DealError)
 }
 
 /// The text becomes that of the answer to `deal`.
-pub fn put_deal(text: &mut LineText, answer: Result<Counted, DealRefusal>)
+pub fn put_deal(text: &mut LineText, answer: Result<TrayDeal, DealRefusal>)
     ensures value { text.new ≡ deal_text answer }
     ensures len { length text.new ≤ 100 }
 {

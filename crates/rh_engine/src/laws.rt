@@ -1,9 +1,7 @@
 //! Laws of trays, and of the lines that deal into them. Each function does nothing: its contract is
 //! the law.
 
-ghost use Rattle.std.specs.Prelude.{◌≡◌, ◌≢◌, ◌++◌, ◌∷◌, [], ℕ, List, Some, Ok, Err, is_some, map};
-ghost use Rattle.std.specs.Prelude.{None};
-ghost use Rattle.std.specs.Prelude.{if◌then◌else◌};
+ghost use Rattle.std.specs.Prelude.{◌≡◌, ◌≢◌, ◌++◌, ◌∷◌, [], ℕ, List, Some, Ok, Err, is_some, map, None, if◌then◌else◌};
 ghost use Rattle.std.specs.List.Sorted.{IsStrictlySortedBy};
 ghost use Rattle.std.specs.Map.{keys_of};
 ghost use Rattle.rh_layout.specs.Item.{place_cmp, place_of};
@@ -11,17 +9,14 @@ ghost use Rattle.rh_layout.specs.declared.item.Item.{Item};
 ghost use Rattle.rh_partial.specs.Item.{newest};
 ghost use Rattle.rh_partial.specs.PartialReplica.{pair_at, joined_newest};
 ghost use Rattle.rh_text.specs.Stages.{IsFaultless, IsLeast};
-ghost use Rattle.rh_layout.specs.declared.kind.Kind.{Kind as KindOf};
-ghost use Rattle.rh_engine.specs.declared.engine.Counted.{Counted};
+ghost use Rattle.rh_layout.specs.declared.kind.Kind.{Kind as PieceKind};
+ghost use Rattle.rh_engine.specs.declared.engine.TrayDeal.{TrayDeal};
 ghost use Rattle.rh_engine.specs.declared.engine.DealRefusal.{DealRefusal};
 ghost use Rattle.rh_engine.specs.declared.engine.GiveRefusal.{GiveRefusal};
 ghost use Rattle.rh_engine.specs.declared.trays.JoinRefusal.{JoinRefusal};
 ghost use Rattle.rh_core.specs.declared.outcomes.Given.{Given as GivenOf};
-ghost use Rattle.rh_engine.specs.Trays.{Trays as TraysOf, Tray, tray_named, trays_with};
-ghost use Rattle.rh_engine.specs.Trays.{entries_with_all, replica_of, tray_of, IsJoinedInto};
-ghost use Rattle.rh_engine.specs.Engine.{EngineState, deal_line_step, refusals_of_deal};
-ghost use Rattle.rh_engine.specs.Engine.{join_line_step, refusals_of_join, give_line_step};
-ghost use Rattle.rh_engine.specs.Engine.{refusals_of_give, IsDealtInto};
+ghost use Rattle.rh_engine.specs.Trays.{Trays as TraysOf, Tray, tray_named, trays_with, entries_with_all, replica_of, tray_of, IsJoinedInto};
+ghost use Rattle.rh_engine.specs.Engine.{EngineState, deal_line_step, refusals_of_deal, join_line_step, refusals_of_join, give_line_step, refusals_of_give, IsDealtInto};
 
 /// Entries with items joined in have at each place what they had, joined with the newest of the
 /// items, and stand in order of place where they did before.
@@ -49,12 +44,12 @@ pub fn a_tray_takes_its_name_alone()
 /// A deal into a tray is refused by the first of its refusals that holds, and makes no tray and
 /// changes nothing then. Where something is dealt none of them holds.
 pub fn deals_into_trays_are_refused_in_order()
-    ensures refused { (e : EngineState) (kind : KindOf) (most : ℕ) (name : List ℕ)
+    ensures refused { (e : EngineState) (kind : PieceKind) (most : ℕ) (name : List ℕ)
         (why : DealRefusal) → (deal_line_step e kind most name).1 ≡ Err why
         → IsLeast (refusals_of_deal e kind most name) why
         × ((deal_line_step e kind most name).0 ≡ e) }
-    ensures dealt { (e : EngineState) (kind : KindOf) (most : ℕ) (name : List ℕ)
-        (done : Counted) → (deal_line_step e kind most name).1 ≡ Ok done
+    ensures dealt { (e : EngineState) (kind : PieceKind) (most : ℕ) (name : List ℕ)
+        (done : TrayDeal) → (deal_line_step e kind most name).1 ≡ Ok done
         → IsFaultless (refusals_of_deal e kind most name) }
 {}
 
@@ -64,7 +59,7 @@ pub fn deals_into_trays_are_refused_in_order()
 /// order of place where those of the trays before did, as in every trace they do, by a law of its
 /// runs. All other trays stay, and the names keep their order; a new one goes last.
 pub fn what_is_dealt_is_in_its_tray()
-    ensures { (e : EngineState) (kind : KindOf) (most : ℕ) (name : List ℕ) (done : Counted)
+    ensures { (e : EngineState) (kind : PieceKind) (most : ℕ) (name : List ℕ) (done : TrayDeal)
         → (deal_line_step e kind most name).1 ≡ Ok done
         → IsDealtInto e (deal_line_step e kind most name).0 kind most name done }
 {}
@@ -84,8 +79,8 @@ pub fn joins_of_trays_are_refused_in_order()
 /// Where a join of trays is accepted, the tray of the first name is a copy of the second where
 /// there was none. Else it is, of trays of two epochs, the later one; of one epoch, where the
 /// entries of both stand in order of place, it has at each place what one had alone, or the newer
-/// of what both had, in order of place. The answer is how many entries it has. All other trays stay,
-/// and the names keep their order; a new one goes last. A join never changes the heap.
+/// of what both had, in order of place. The answer is how many entries it has. All other trays
+/// stay, and the names keep their order; a new one goes last. A join never changes the heap.
 pub fn what_is_joined_is_in_the_first_tray()
     ensures joined { (e : EngineState) (into other : List ℕ) (entries : ℕ)
         → (join_line_step e into other).1 ≡ Ok entries

@@ -10,5 +10,5 @@ mod trays;
 pub use cycle_answers::{
     put_begin, put_deal, put_flip, put_give, put_join, put_shade, put_stat, put_tray,
 };
-pub use engine::{Counted, DealRefusal, Engine, GiveRefusal};
+pub use engine::{DealRefusal, Engine, GiveRefusal, TrayDeal};
 pub use trays::{JoinRefusal, Trays};

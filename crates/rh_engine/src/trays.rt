@@ -2,9 +2,7 @@
 
 ghost use Rattle.std.specs.Prelude.{◌≡◌, [], length, slice_get, OnOk, OnErr, IfOk, IsOk};
 ghost use Rattle.std.specs.Option.{option_map};
-ghost use Rattle.rh_engine.specs.Trays.{tray_named, trays_with, tray_or_empty, tray_of};
-ghost use Rattle.rh_engine.specs.Trays.{tray_with, joined_trays, joined_into};
-ghost use Rattle.rh_engine.specs.Trays.{join_step, with_join, is_beyond as is_beyond_in};
+ghost use Rattle.rh_engine.specs.Trays.{tray_named, trays_with, tray_or_empty, tray_of, tray_with, joined_trays, joined_into, join_step, with_join, is_beyond as is_beyond_in};
 
 use indexmap::IndexMap;
 use rh_layout::OutOfMemory;
@@ -103,17 +101,17 @@ impl<A: Allocator + Copy> Trays<A> {
 
     /// Folds a piece into the tray of this name, which is made where it isn't there, and must else
     /// be of the piece's epoch. Nothing has changed where a growth was refused.
-    pub(crate) fn fold_in(&mut self, name: TrayName, piece: &Piece) -> Result<(), OutOfMemory>
+    pub(crate) fn fold_piece(&mut self, name: TrayName, piece: &Piece) -> Result<(), OutOfMemory>
         requires { (tray_or_empty self.old name piece.now.epoch).epoch ≡ piece.now.epoch }
         ensures folded { OnOk result (self.new ≡ trays_with self.old name
             (tray_with (tray_or_empty self.old name piece.now.epoch) piece.now.items)) }
         ensures unchanged { OnErr result (self.new ≡ self.old) }
     {
         match self.replicas.get_mut(&name) {
-            Some(replica) => fold_into(replica, self.alloc, piece),
+            Some(replica) => fold_into_replica(replica, self.alloc, piece),
             None => {
                 let mut replica = PartialReplica::empty(self.alloc, piece.epoch());
-                fold_into(&mut replica, self.alloc, piece)?;
+                fold_into_replica(&mut replica, self.alloc, piece)?;
                 self.put(name, replica)
             }
         }
@@ -144,20 +142,24 @@ impl<A: Allocator + Copy> Trays<A> {
             return Ok(Err(JoinRefusal::TooManyTrays));
         }
         let second = copied(second)?;
-        let entries = self.join_in(into, second)?;
+        let entries = self.join_replica(into, second)?;
         Ok(Ok(entries))
     }
 
     /// Joins a replica into the tray of this name, which becomes it where it isn't there. Nothing
     /// has changed where a growth was refused.
-    fn join_in(&mut self, into: TrayName, second: PartialReplica<A>) -> Result<u64, OutOfMemory>
+    fn join_replica(
+        &mut self,
+        into: TrayName,
+        second: PartialReplica<A>,
+    ) -> Result<u64, OutOfMemory>
         ensures state { OnOk result (self.new ≡ (with_join self.old into (tray_of second)).0) }
         ensures answer { IfOk result (λ entries. entries
             ≡ length (joined_into (tray_named self.old into) (tray_of second)).entries) }
         ensures unchanged { OnErr result (self.new ≡ self.old) }
     {
         match self.replicas.get_mut(&into) {
-            Some(first) => join_into(first, self.alloc, second),
+            Some(first) => join_into_replica(first, self.alloc, second),
             None => {
                 let entries = second.len() as u64;
                 self.put(into, second)?;
@@ -169,7 +171,7 @@ impl<A: Allocator + Copy> Trays<A> {
 
 /// Folds a piece into a replica of its epoch. Its entries are what they were where a growth was
 /// refused.
-fn fold_into<A: Allocator + Copy>(
+fn fold_into_replica<A: Allocator + Copy>(
     replica: &mut PartialReplica<A>,
     alloc: A,
     piece: &Piece,
@@ -198,7 +200,7 @@ fn fold_into<A: Allocator + Copy>(
 
 /// Joins a second replica into a first. Answers how many entries that has then. They are what they
 /// were where a growth was refused.
-fn join_into<A: Allocator + Copy>(
+fn join_into_replica<A: Allocator + Copy>(
     first: &mut PartialReplica<A>,
     alloc: A,
     second: PartialReplica<A>,

@@ -38,8 +38,7 @@ ghost use Rattle.rh_model.specs.Effects.{
   StoresField,
   TellsSame,
 };
-ghost use Rattle.rh_model.specs.Graph.{Graph, root_value, value_fields, refusal_of, reply_to};
-ghost use Rattle.rh_model.specs.Graph.{same_value};
+ghost use Rattle.rh_model.specs.Graph.{Graph, root_value, value_fields, refusal_of, reply_to, same_value};
 ghost use Rattle.rh_model.specs.Plain.{PlainHeap, empty_plain, graph_of, step};
 ghost use Rattle.rh_model.specs.SameGraph.{SameGraph, IsPairing};
 ghost use Rattle.rh_model.specs.Reach.{Reached};

@@ -2,8 +2,7 @@
 
 ghost use Rattle.std.specs.Prelude.{◌≡◌};
 ghost use Rattle.rh_text.specs.Parts.{parts_left};
-ghost use Rattle.rh_replay.specs.Reading.{bare_answer, sameness_of, refusal_named};
-ghost use Rattle.rh_replay.specs.Reading.{answer_with, answer_of};
+ghost use Rattle.rh_replay.specs.Reading.{bare_answer, sameness_of, refusal_named, answer_with, answer_of};
 
 use rh_layout::{Refusal, Reply};
 use rh_text::{one_part, read_integer, read_number, two_parts};

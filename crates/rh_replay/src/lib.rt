@@ -19,4 +19,4 @@ pub use fault::{HistoryError, HistoryFault, HistoryKind};
 pub use history::History;
 pub use history_text::read_history;
 pub use recorder::{Recorder, RecorderError, TraceFull};
-pub use writing::{report, report_told, write_history, write_history_told};
+pub use writing::{report, report_logged, write_history, write_history_logged};

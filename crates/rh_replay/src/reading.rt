@@ -4,10 +4,7 @@ ghost use Rattle.std.specs.Prelude.{◌≡◌, ◌≤◌, List, ℕ, ◌∷◌, 
 ghost use Rattle.rh_text.specs.Parts.{parts_left, parts_of};
 ghost use Rattle.rh_text.specs.Steps.{with_fault};
 ghost use Rattle.rh_replay.specs.declared.fault.HistoryKind.TheVariants as history_kinds;
-ghost use Rattle.rh_replay.specs.Reading.{before_equals, after_equals, command_before};
-ghost use Rattle.rh_replay.specs.Reading.{call_of_parts, end_of_parts, line_of_parts, line_or_kind};
-ghost use Rattle.rh_replay.specs.Reading.{size_up_to, sizes_of, header_of_parts, header_of_line};
-ghost use Rattle.rh_replay.specs.Reading.{fault_at, kind_after_end, line_or_fault, header_or_fault};
+ghost use Rattle.rh_replay.specs.Reading.{before_equals, after_equals, command_before, call_of_parts, end_of_parts, line_of_parts, line_or_kind, size_up_to, sizes_of, header_of_parts, header_of_line, fault_at, kind_after_end, line_or_fault, header_or_fault};
 
 use crate::answers::answer_of;
 use crate::call::Call;

@@ -2,7 +2,7 @@
 
 ghost use Rattle.std.specs.Prelude.{◌≡◌, false, OnOk, OnErr};
 ghost use Rattle.std.specs.Io.KnownBytes.{Appends};
-ghost use Rattle.rh_text.specs.Calls.{AreSpent};
+ghost use Rattle.rh_text.specs.IoLog.{AreSpent};
 ghost use Rattle.rh_text.specs.Output.{AppendsLess};
 ghost use Rattle.rh_replay.specs.Report.{count_of, owner_line, verdict_line, report_text};
 ghost use Rattle.rh_replay.specs.Spelling.{header_line, call_line, end_line, spelling};
@@ -12,7 +12,7 @@ use crate::checking::Verdict;
 use crate::history::History;
 use rh_layout::{Refusal, Reply};
 use rh_syntax::{put_answer_text, put_command_text};
-use rh_text::{Calls, LineText, Write, send};
+use rh_text::{IoLog, LineText, Write, send};
 use std::alloc::Allocator;
 use std::io;
 
@@ -55,7 +55,7 @@ fn put_end(text: &mut LineText, count: u32)
 /// # Errors
 ///
 /// `Write` where a write failed, or 33,554,432 writes of one line didn't come to its end
-/// (`write_history_told` says that it comes nowhere else). A prefix of the text was written then.
+/// (`write_history_logged` says that it comes nowhere else). A prefix of the text was written then.
 pub fn write_history<A: Allocator, W: io::Write>(
     history: &History<A>,
     writer: &mut W,
@@ -65,7 +65,7 @@ pub fn write_history<A: Allocator, W: io::Write>(
     ensures err { OnErr result (AppendsLess (W.contents writer.old) (W.contents writer.new)
         (spelling history.now.contents)) }
 {
-    write_history_told(history, writer, &mut Calls::new())
+    write_history_logged(history, writer, &mut IoLog::new())
 }
 
 /// Writes the text of a history as `write_history` does, and tells in `writes` whether a write
@@ -74,10 +74,10 @@ pub fn write_history<A: Allocator, W: io::Write>(
 /// # Errors
 ///
 /// As `write_history`.
-pub fn write_history_told<A: Allocator, W: io::Write>(
+pub fn write_history_logged<A: Allocator, W: io::Write>(
     history: &History<A>,
     writer: &mut W,
-    writes: &mut Calls,
+    writes: &mut IoLog,
 ) -> Result<(), Write>
     requires { writes.old.failed ≡ false }
     ensures ok { OnOk result (Appends (W.contents writer.old) (W.contents writer.new)
@@ -148,13 +148,13 @@ fn put_verdict(text: &mut LineText, verdict: &Verdict)
 }
 
 /// Writes the report on a history that has this verdict: a line for each owner that has calls, in
-/// order, and the line of the verdict, one line in each write that the writer takes whole. Calls of
+/// order, and the line of the verdict, one line in each write that the writer takes whole. IoLog of
 /// owners that the history hasn't got have no line. It takes no memory.
 ///
 /// # Errors
 ///
 /// `Write` where a write failed, or 33,554,432 writes of one line didn't come to its end
-/// (`report_told` says that it comes nowhere else). A prefix of the report was written then.
+/// (`report_logged` says that it comes nowhere else). A prefix of the report was written then.
 pub fn report<A: Allocator, W: io::Write>(
     history: &History<A>,
     verdict: &Verdict,
@@ -165,7 +165,7 @@ pub fn report<A: Allocator, W: io::Write>(
     ensures err { OnErr result (AppendsLess (W.contents writer.old) (W.contents writer.new)
         (report_text history.now.contents verdict.now)) }
 {
-    report_told(history, verdict, writer, &mut Calls::new())
+    report_logged(history, verdict, writer, &mut IoLog::new())
 }
 
 /// Writes the report as `report` does, and tells in `writes` whether a write failed.
@@ -173,11 +173,11 @@ pub fn report<A: Allocator, W: io::Write>(
 /// # Errors
 ///
 /// As `report`.
-pub fn report_told<A: Allocator, W: io::Write>(
+pub fn report_logged<A: Allocator, W: io::Write>(
     history: &History<A>,
     verdict: &Verdict,
     writer: &mut W,
-    writes: &mut Calls,
+    writes: &mut IoLog,
 ) -> Result<(), Write>
     requires { writes.old.failed ≡ false }
     ensures ok { OnOk result (Appends (W.contents writer.old) (W.contents writer.new)

@@ -16,7 +16,7 @@ use Rattle.rh_syntax.specs.declared.request.Request.TheVariants.{Command, Begin,
 use Rattle.rh_syntax.specs.Spelling.{Script}
 use Rattle.rh_layout.specs.declared.command.RootId.{RootId}
 use Rattle.rh_layout.specs.declared.command.Operand.TheVariants as operands
-use Rattle.rh_syntax.specs.Reading.{operand_or_fault, alloc_of, load_of, store_of, copy_of, same_of, drop_of, command_or_fault, kind_or_fault, shade_of, deal_of, give_of, join_of, keyword_request, request_of_parts, sizes_of, header_of_parts, checked_parts, request_or_kind, header_or_kind, requests_from, script_or_fault, trace_of}
+use Rattle.rh_syntax.specs.Reading.{operand_or_fault, read_alloc, read_load, read_store, read_copy, read_same, read_drop, command_or_fault, kind_or_fault, read_shade, read_deal, read_give, read_join, keyword_request, request_of_parts, sizes_of, header_of_parts, checked_parts, request_or_kind, header_or_kind, requests_from, script_or_fault, trace_of}
 use Rattle.rh_syntax.specs.TrayName.{is_tray_name}
 
 -- so many lines, each ended
@@ -47,11 +47,11 @@ unfolding digits script_or_fault header_or_kind checked_parts fault
 cut_before_form = refl
 
 form_before_number : trace_of (text (header ∷ codes "1x drop" ∷ [])) ≡ fault 2 Form
-unfolding digits script_or_fault header_or_kind request_or_kind requests_from checked_parts is_formed header_of_parts six_parts sizes_of number_of request_of_parts command_or_fault drop_of one_part text header fault
+unfolding digits script_or_fault header_or_kind request_or_kind requests_from checked_parts is_formed header_of_parts six_parts sizes_of number_of request_of_parts command_or_fault read_drop one_part text header fault
 form_before_number = refl
 
 dotted_operand : trace_of (text (header ∷ codes "1 store 1.0 0 -1.0" ∷ [])) ≡ fault 2 Root
-unfolding digits script_or_fault header_or_kind request_or_kind requests_from checked_parts is_formed header_of_parts six_parts sizes_of number_of request_of_parts command_or_fault store_of three_parts root_of operand_or_fault text header fault
+unfolding digits script_or_fault header_or_kind request_or_kind requests_from checked_parts is_formed header_of_parts six_parts sizes_of number_of request_of_parts command_or_fault read_store three_parts root_of operand_or_fault text header fault
 dotted_operand = refl
 
 -- lines, each with the kind of its fault after a header
@@ -81,7 +81,7 @@ found : List ℕ → Result Script TraceFault
 found line = trace_of (text (header ∷ line ∷ []))
 
 faults : map (λ (row : List ℕ × Kind). found row.0) faulty ≡ map (λ (row : List ℕ × Kind). fault 2 row.1) faulty
-unfolding digits script_or_fault header_or_kind request_or_kind requests_from checked_parts is_formed header_of_parts six_parts sizes_of number_of request_of_parts command_or_fault keyword_request shade_of deal_of give_of join_of one_part two_parts three_parts kind_or_fault root_of is_tray_name text header fault faulty found
+unfolding digits script_or_fault header_or_kind request_or_kind requests_from checked_parts is_formed header_of_parts six_parts sizes_of number_of request_of_parts command_or_fault keyword_request read_shade read_deal read_give read_join one_part two_parts three_parts kind_or_fault root_of is_tray_name text header fault faulty found
 faults = refl
 
 -- each line of a cycle, with the greatest number and the longest name
@@ -92,7 +92,7 @@ cycle_requests : List Request
 cycle_requests = Begin ∷ Shade (record { owner = 1; slot = 0 }) ∷ Deal Copies 4294967295 (codes "a") ∷ Deal Entries 0 (codes "b_9") ∷ Give (codes "abcdefghijklmnop") ∷ Join (codes "a") (codes "b_9") ∷ Flip ∷ Trays ∷ Stat ∷ Dump ∷ []
 
 read : trace_of (text (header ∷ cycle)) ≡ Ok (record { header = record { words = 16; ratio = 8; log = 4; owners = 2; slots = 2 }; requests = cycle_requests })
-unfolding digits script_or_fault header_or_kind request_or_kind requests_from checked_parts is_formed header_of_parts six_parts sizes_of number_of request_of_parts keyword_request shade_of deal_of give_of join_of one_part two_parts three_parts kind_or_fault root_of is_tray_name text header cycle cycle_requests
+unfolding digits script_or_fault header_or_kind request_or_kind requests_from checked_parts is_formed header_of_parts six_parts sizes_of number_of request_of_parts keyword_request read_shade read_deal read_give read_join one_part two_parts three_parts kind_or_fault root_of is_tray_name text header cycle cycle_requests
 read = refl
 
 -- a root of an owner and a slot
@@ -107,5 +107,5 @@ command_requests : List Request
 command_requests = Command 3 (Alloc (root 1 0) 2) ∷ Command 3 (Load (root 1 1) (root 1 0) 4) ∷ Command 3 (Store (root 1 0) 4 operands.Nil) ∷ Command 3 (Copy (root 0 1) (root 1 0)) ∷ Command 3 (Same (root 1 0) (root 1 1)) ∷ Command 3 (Drop (root 1 0)) ∷ []
 
 read_commands : trace_of (text (header ∷ commands)) ≡ Ok (record { header = record { words = 16; ratio = 8; log = 4; owners = 2; slots = 2 }; requests = command_requests })
-unfolding digits script_or_fault header_or_kind request_or_kind requests_from checked_parts is_formed header_of_parts six_parts sizes_of number_of integer_of request_of_parts command_or_fault alloc_of load_of store_of copy_of same_of drop_of one_part two_parts three_parts root_of operand_or_fault text header commands command_requests root
+unfolding digits script_or_fault header_or_kind request_or_kind requests_from checked_parts is_formed header_of_parts six_parts sizes_of number_of integer_of request_of_parts command_or_fault read_alloc read_load read_store read_copy read_same read_drop one_part two_parts three_parts root_of operand_or_fault text header commands command_requests root
 read_commands = refl

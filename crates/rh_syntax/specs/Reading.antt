@@ -65,8 +65,8 @@ operand_or_fault part =
     else (integer_or_fault part >>= λ n. Ok (operands.Int n))
 
 -- OWNER alloc ROOT FIELDS
-unfoldable pub alloc_of : List ℕ → List (List ℕ) → Result (ℕ × Command) Kind
-alloc_of owner args = do
+unfoldable pub read_alloc : List ℕ → List (List ℕ) → Result (ℕ × Command) Kind
+read_alloc owner args = do
   parts ← or_fault (two_parts args) Form
   owner ← number_or_fault owner
   dst ← root_or_fault parts.0
@@ -74,8 +74,8 @@ alloc_of owner args = do
   Ok (owner, Alloc dst fields)
 
 -- OWNER load DST SRC FIELD
-unfoldable pub load_of : List ℕ → List (List ℕ) → Result (ℕ × Command) Kind
-load_of owner args = do
+unfoldable pub read_load : List ℕ → List (List ℕ) → Result (ℕ × Command) Kind
+read_load owner args = do
   parts ← or_fault (three_parts args) Form
   owner ← number_or_fault owner
   dst ← root_or_fault parts.0
@@ -84,8 +84,8 @@ load_of owner args = do
   Ok (owner, Load dst src field)
 
 -- OWNER store OBJ FIELD OPERAND
-unfoldable pub store_of : List ℕ → List (List ℕ) → Result (ℕ × Command) Kind
-store_of owner args = do
+unfoldable pub read_store : List ℕ → List (List ℕ) → Result (ℕ × Command) Kind
+read_store owner args = do
   parts ← or_fault (three_parts args) Form
   owner ← number_or_fault owner
   obj ← root_or_fault parts.0
@@ -94,8 +94,8 @@ store_of owner args = do
   Ok (owner, Store obj field operand)
 
 -- OWNER copy DST SRC
-unfoldable pub copy_of : List ℕ → List (List ℕ) → Result (ℕ × Command) Kind
-copy_of owner args = do
+unfoldable pub read_copy : List ℕ → List (List ℕ) → Result (ℕ × Command) Kind
+read_copy owner args = do
   parts ← or_fault (two_parts args) Form
   owner ← number_or_fault owner
   dst ← root_or_fault parts.0
@@ -103,8 +103,8 @@ copy_of owner args = do
   Ok (owner, Copy dst src)
 
 -- OWNER same A B
-unfoldable pub same_of : List ℕ → List (List ℕ) → Result (ℕ × Command) Kind
-same_of owner args = do
+unfoldable pub read_same : List ℕ → List (List ℕ) → Result (ℕ × Command) Kind
+read_same owner args = do
   parts ← or_fault (two_parts args) Form
   owner ← number_or_fault owner
   a ← root_or_fault parts.0
@@ -112,8 +112,8 @@ same_of owner args = do
   Ok (owner, Same a b)
 
 -- OWNER drop ROOT
-unfoldable pub drop_of : List ℕ → List (List ℕ) → Result (ℕ × Command) Kind
-drop_of owner args = do
+unfoldable pub read_drop : List ℕ → List (List ℕ) → Result (ℕ × Command) Kind
+read_drop owner args = do
   part ← or_fault (one_part args) Form
   owner ← number_or_fault owner
   root ← root_or_fault part
@@ -123,12 +123,12 @@ drop_of owner args = do
 unfoldable pub command_or_fault : List ℕ → List (List ℕ) → Result (ℕ × Command) Kind
 command_or_fault owner [] = Err Form
 command_or_fault owner (keyword ∷ args) =
-    if bytes_eq keyword (codes "alloc") then alloc_of owner args
-    else if bytes_eq keyword (codes "load") then load_of owner args
-    else if bytes_eq keyword (codes "store") then store_of owner args
-    else if bytes_eq keyword (codes "copy") then copy_of owner args
-    else if bytes_eq keyword (codes "same") then same_of owner args
-    else if bytes_eq keyword (codes "drop") then drop_of owner args
+    if bytes_eq keyword (codes "alloc") then read_alloc owner args
+    else if bytes_eq keyword (codes "load") then read_load owner args
+    else if bytes_eq keyword (codes "store") then read_store owner args
+    else if bytes_eq keyword (codes "copy") then read_copy owner args
+    else if bytes_eq keyword (codes "same") then read_same owner args
+    else if bytes_eq keyword (codes "drop") then read_drop owner args
     else Err Word
 
 -- the command of a line after the first
@@ -147,15 +147,15 @@ alone [] request = Ok request
 alone (arg ∷ args) request = Err Form
 
 -- shade ROOT
-unfoldable pub shade_of : List (List ℕ) → Result Request Kind
-shade_of args = do
+unfoldable pub read_shade : List (List ℕ) → Result Request Kind
+read_shade args = do
   part ← or_fault (one_part args) Form
   root ← root_or_fault part
   Ok (requests.Shade root)
 
 -- deal copies MOST TRAY, or deal entries MOST TRAY
-unfoldable pub deal_of : List (List ℕ) → Result Request Kind
-deal_of args = do
+unfoldable pub read_deal : List (List ℕ) → Result Request Kind
+read_deal args = do
   parts ← or_fault (three_parts args) Form
   kind ← kind_or_fault parts.0
   most ← number_or_fault parts.1
@@ -163,15 +163,15 @@ deal_of args = do
   Ok (requests.Deal kind most tray)
 
 -- give TRAY
-unfoldable pub give_of : List (List ℕ) → Result Request Kind
-give_of args = do
+unfoldable pub read_give : List (List ℕ) → Result Request Kind
+read_give args = do
   part ← or_fault (one_part args) Form
   tray ← tray_or_fault part
   Ok (requests.Give tray)
 
 -- join TRAY TRAY
-unfoldable pub join_of : List (List ℕ) → Result Request Kind
-join_of args = do
+unfoldable pub read_join : List (List ℕ) → Result Request Kind
+read_join args = do
   parts ← or_fault (two_parts args) Form
   into ← tray_or_fault parts.0
   other ← tray_or_fault parts.1
@@ -181,10 +181,10 @@ join_of args = do
 unfoldable pub keyword_request : List ℕ → List (List ℕ) → Result Request Kind
 keyword_request keyword args =
     if bytes_eq keyword (codes "begin") then alone args requests.Begin
-    else if bytes_eq keyword (codes "shade") then shade_of args
-    else if bytes_eq keyword (codes "deal") then deal_of args
-    else if bytes_eq keyword (codes "give") then give_of args
-    else if bytes_eq keyword (codes "join") then join_of args
+    else if bytes_eq keyword (codes "shade") then read_shade args
+    else if bytes_eq keyword (codes "deal") then read_deal args
+    else if bytes_eq keyword (codes "give") then read_give args
+    else if bytes_eq keyword (codes "join") then read_join args
     else if bytes_eq keyword (codes "flip") then alone args requests.Flip
     else if bytes_eq keyword (codes "trays") then alone args requests.Trays
     else if bytes_eq keyword (codes "stat") then alone args requests.Stat

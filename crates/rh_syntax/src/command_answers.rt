@@ -1,8 +1,7 @@
 //! The texts of the answers to commands.
 
 ghost use Rattle.std.specs.Prelude.{◌≡◌, ◌≤◌, length};
-ghost use Rattle.rh_syntax.specs.CommandAnswers.{reply_text, refusal_name};
-ghost use Rattle.rh_syntax.specs.CommandAnswers.{refused_text, answer_text};
+ghost use Rattle.rh_syntax.specs.CommandAnswers.{reply_text, refusal_name, refused_text, answer_text};
 
 use rh_layout::{Refusal, Reply};
 use rh_text::LineText;

@@ -1,11 +1,9 @@
 //! Command lines, each keyword's reading and spelling side by side.
 
 ghost use Rattle.std.specs.Prelude.{◌≡◌, ◌≤◌, length};
-ghost use Rattle.rh_layout.specs.declared.command.Command.TheVariants.{Alloc, Load, Store};
-ghost use Rattle.rh_layout.specs.declared.command.Command.TheVariants.{Copy, Same, Drop};
+ghost use Rattle.rh_layout.specs.declared.command.Command.TheVariants.{Alloc, Load, Store, Copy, Same, Drop};
 ghost use Rattle.rh_text.specs.Parts.{parts_left};
-ghost use Rattle.rh_syntax.specs.Reading.{alloc_of, load_of, store_of, copy_of, same_of, drop_of};
-ghost use Rattle.rh_syntax.specs.Reading.{command_or_fault, owned_command};
+ghost use Rattle.rh_syntax.specs.Reading.{read_alloc, read_load, read_store, read_copy, read_same, read_drop, command_or_fault, owned_command};
 ghost use Rattle.rh_syntax.specs.Spelling.{command_text, spell_command};
 
 use crate::fault::Kind;
@@ -14,9 +12,9 @@ use rh_layout::{Command, Operand, RootId};
 use rh_text::{LineText, begins_with_digit, next_part, one_part, three_parts, two_parts};
 
 /// `OWNER alloc ROOT FIELDS`, from the owner and what stands after the keyword.
-#[tactic(auto, unfolding(crate::specs::Reading::alloc_of))]
-fn alloc_of(owner: &[u8], rest: Option<&[u8]>) -> Result<(u32, Command), Kind>
-    ensures { result ≡ alloc_of owner.now (parts_left rest.entry) }
+#[tactic(auto, unfolding(crate::specs::Reading::read_alloc))]
+fn read_alloc(owner: &[u8], rest: Option<&[u8]>) -> Result<(u32, Command), Kind>
+    ensures { result ≡ read_alloc owner.now (parts_left rest.entry) }
 {
     let (dst, fields) = two_parts(rest).ok_or(Kind::Form)?;
     let owner = number_or_fault(owner)?;
@@ -39,9 +37,9 @@ fn put_alloc(text: &mut LineText, owner: u32, dst: RootId, fields: u32)
 }
 
 /// `OWNER load DST SRC FIELD`, from the owner and what stands after the keyword.
-#[tactic(auto, unfolding(crate::specs::Reading::load_of))]
-fn load_of(owner: &[u8], rest: Option<&[u8]>) -> Result<(u32, Command), Kind>
-    ensures { result ≡ load_of owner.now (parts_left rest.entry) }
+#[tactic(auto, unfolding(crate::specs::Reading::read_load))]
+fn read_load(owner: &[u8], rest: Option<&[u8]>) -> Result<(u32, Command), Kind>
+    ensures { result ≡ read_load owner.now (parts_left rest.entry) }
 {
     let (dst, src, field) = three_parts(rest).ok_or(Kind::Form)?;
     let owner = number_or_fault(owner)?;
@@ -67,9 +65,9 @@ fn put_load(text: &mut LineText, owner: u32, dst: RootId, src: RootId, field: u3
 }
 
 /// `OWNER store OBJ FIELD OPERAND`, from the owner and what stands after the keyword.
-#[tactic(auto, unfolding(crate::specs::Reading::store_of))]
-fn store_of(owner: &[u8], rest: Option<&[u8]>) -> Result<(u32, Command), Kind>
-    ensures { result ≡ store_of owner.now (parts_left rest.entry) }
+#[tactic(auto, unfolding(crate::specs::Reading::read_store))]
+fn read_store(owner: &[u8], rest: Option<&[u8]>) -> Result<(u32, Command), Kind>
+    ensures { result ≡ read_store owner.now (parts_left rest.entry) }
 {
     let (obj, field, operand) = three_parts(rest).ok_or(Kind::Form)?;
     let owner = number_or_fault(owner)?;
@@ -100,9 +98,9 @@ fn put_store(text: &mut LineText, owner: u32, obj: RootId, field: u32, operand: 
 }
 
 /// `OWNER copy DST SRC`, from the owner and what stands after the keyword.
-#[tactic(auto, unfolding(crate::specs::Reading::copy_of))]
-fn copy_of(owner: &[u8], rest: Option<&[u8]>) -> Result<(u32, Command), Kind>
-    ensures { result ≡ copy_of owner.now (parts_left rest.entry) }
+#[tactic(auto, unfolding(crate::specs::Reading::read_copy))]
+fn read_copy(owner: &[u8], rest: Option<&[u8]>) -> Result<(u32, Command), Kind>
+    ensures { result ≡ read_copy owner.now (parts_left rest.entry) }
 {
     let (dst, src) = two_parts(rest).ok_or(Kind::Form)?;
     let owner = number_or_fault(owner)?;
@@ -125,9 +123,9 @@ fn put_copy(text: &mut LineText, owner: u32, dst: RootId, src: RootId)
 }
 
 /// `OWNER same A B`, from the owner and what stands after the keyword.
-#[tactic(auto, unfolding(crate::specs::Reading::same_of))]
-fn same_of(owner: &[u8], rest: Option<&[u8]>) -> Result<(u32, Command), Kind>
-    ensures { result ≡ same_of owner.now (parts_left rest.entry) }
+#[tactic(auto, unfolding(crate::specs::Reading::read_same))]
+fn read_same(owner: &[u8], rest: Option<&[u8]>) -> Result<(u32, Command), Kind>
+    ensures { result ≡ read_same owner.now (parts_left rest.entry) }
 {
     let (a, b) = two_parts(rest).ok_or(Kind::Form)?;
     let owner = number_or_fault(owner)?;
@@ -150,9 +148,9 @@ fn put_same(text: &mut LineText, owner: u32, a: RootId, b: RootId)
 }
 
 /// `OWNER drop ROOT`, from the owner and what stands after the keyword.
-#[tactic(auto, unfolding(crate::specs::Reading::drop_of))]
-fn drop_of(owner: &[u8], rest: Option<&[u8]>) -> Result<(u32, Command), Kind>
-    ensures { result ≡ drop_of owner.now (parts_left rest.entry) }
+#[tactic(auto, unfolding(crate::specs::Reading::read_drop))]
+fn read_drop(owner: &[u8], rest: Option<&[u8]>) -> Result<(u32, Command), Kind>
+    ensures { result ≡ read_drop owner.now (parts_left rest.entry) }
 {
     let root = one_part(rest).ok_or(Kind::Form)?;
     let owner = number_or_fault(owner)?;
@@ -178,22 +176,22 @@ pub(crate) fn command_or_fault(owner: &[u8], rest: Option<&[u8]>) -> Result<(u32
 {
     let (keyword, rest) = next_part(rest).ok_or(Kind::Form)?;
     if keyword == b"alloc".as_slice() {
-        return alloc_of(owner, rest);
+        return read_alloc(owner, rest);
     }
     if keyword == b"load".as_slice() {
-        return load_of(owner, rest);
+        return read_load(owner, rest);
     }
     if keyword == b"store".as_slice() {
-        return store_of(owner, rest);
+        return read_store(owner, rest);
     }
     if keyword == b"copy".as_slice() {
-        return copy_of(owner, rest);
+        return read_copy(owner, rest);
     }
     if keyword == b"same".as_slice() {
-        return same_of(owner, rest);
+        return read_same(owner, rest);
     }
     if keyword == b"drop".as_slice() {
-        return drop_of(owner, rest);
+        return read_drop(owner, rest);
     }
     Err(Kind::Word)
 }

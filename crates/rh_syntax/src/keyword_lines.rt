@@ -2,8 +2,7 @@
 
 ghost use Rattle.std.specs.Prelude.{◌≡◌, ◌+◌, ◌≤◌, [], ◌∷◌, ◌++◌, length};
 ghost use Rattle.rh_text.specs.Parts.{parts_left, spell_parts};
-ghost use Rattle.rh_syntax.specs.Reading.{tray_or_fault, kind_or_fault, alone};
-ghost use Rattle.rh_syntax.specs.Reading.{shade_of, deal_of, give_of, join_of, keyword_request};
+ghost use Rattle.rh_syntax.specs.Reading.{tray_or_fault, kind_or_fault, alone, read_shade, read_deal, read_give, read_join, keyword_request};
 ghost use Rattle.rh_syntax.specs.Spelling.{kind_text, spell_request};
 ghost use Rattle.rh_syntax.specs.declared.request.Request.TheVariants as requests;
 
@@ -78,9 +77,9 @@ pub fn put_alone(text: &mut LineText, keyword: &[u8])
 }
 
 /// `shade ROOT`, from what stands after the keyword.
-#[tactic(auto, unfolding(crate::specs::Reading::shade_of))]
-fn shade_of(rest: Option<&[u8]>) -> Result<Request, Kind>
-    ensures { result ≡ shade_of (parts_left rest.entry) }
+#[tactic(auto, unfolding(crate::specs::Reading::read_shade))]
+fn read_shade(rest: Option<&[u8]>) -> Result<Request, Kind>
+    ensures { result ≡ read_shade (parts_left rest.entry) }
 {
     let root = one_part(rest).ok_or(Kind::Form)?;
     let root = root_or_fault(root)?;
@@ -98,9 +97,9 @@ pub fn put_shade_line(text: &mut LineText, root: RootId)
 }
 
 /// `deal copies MOST TRAY` or `deal entries MOST TRAY`, from what stands after the keyword.
-#[tactic(auto, unfolding(crate::specs::Reading::deal_of))]
-fn deal_of(rest: Option<&[u8]>) -> Result<Request, Kind>
-    ensures { result ≡ deal_of (parts_left rest.entry) }
+#[tactic(auto, unfolding(crate::specs::Reading::read_deal))]
+fn read_deal(rest: Option<&[u8]>) -> Result<Request, Kind>
+    ensures { result ≡ read_deal (parts_left rest.entry) }
 {
     let (kind, most, tray) = three_parts(rest).ok_or(Kind::Form)?;
     let kind = kind_or_fault(kind)?;
@@ -122,9 +121,9 @@ pub fn put_deal_line(text: &mut LineText, kind: PieceKind, most: u32, tray: Tray
 }
 
 /// `give TRAY`, from what stands after the keyword.
-#[tactic(auto, unfolding(crate::specs::Reading::give_of))]
-fn give_of(rest: Option<&[u8]>) -> Result<Request, Kind>
-    ensures { result ≡ give_of (parts_left rest.entry) }
+#[tactic(auto, unfolding(crate::specs::Reading::read_give))]
+fn read_give(rest: Option<&[u8]>) -> Result<Request, Kind>
+    ensures { result ≡ read_give (parts_left rest.entry) }
 {
     let tray = one_part(rest).ok_or(Kind::Form)?;
     let tray = tray_or_fault(tray)?;
@@ -142,9 +141,9 @@ pub fn put_give_line(text: &mut LineText, tray: TrayName)
 }
 
 /// `join TRAY TRAY`, from what stands after the keyword.
-#[tactic(auto, unfolding(crate::specs::Reading::join_of))]
-fn join_of(rest: Option<&[u8]>) -> Result<Request, Kind>
-    ensures { result ≡ join_of (parts_left rest.entry) }
+#[tactic(auto, unfolding(crate::specs::Reading::read_join))]
+fn read_join(rest: Option<&[u8]>) -> Result<Request, Kind>
+    ensures { result ≡ read_join (parts_left rest.entry) }
 {
     let (into, other) = two_parts(rest).ok_or(Kind::Form)?;
     let into = tray_or_fault(into)?;
@@ -172,16 +171,16 @@ pub fn keyword_request(keyword: &[u8], rest: Option<&[u8]>) -> Result<Request, K
         return alone(rest, Request::Begin);
     }
     if keyword == b"shade".as_slice() {
-        return shade_of(rest);
+        return read_shade(rest);
     }
     if keyword == b"deal".as_slice() {
-        return deal_of(rest);
+        return read_deal(rest);
     }
     if keyword == b"give".as_slice() {
-        return give_of(rest);
+        return read_give(rest);
     }
     if keyword == b"join".as_slice() {
-        return join_of(rest);
+        return read_join(rest);
     }
     if keyword == b"flip".as_slice() {
         return alone(rest, Request::Flip);

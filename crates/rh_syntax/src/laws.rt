@@ -7,11 +7,9 @@ ghost use Rattle.rh_layout.specs.declared.command.Command.{Command as CommandOf}
 ghost use Rattle.rh_syntax.specs.Faults.{command_faults, header_faults, line_faults, trace_faults};
 ghost use Rattle.rh_syntax.specs.Line.{line_of};
 ghost use Rattle.rh_syntax.specs.Reading.{single_command, trace_of};
-ghost use Rattle.rh_syntax.specs.Spelling.{Script, IsScript, HeaderFits, RequestFits};
-ghost use Rattle.rh_syntax.specs.Spelling.{CommandFits, command_text};
-ghost use Rattle.rh_syntax.specs.Spelling.{spell_header, spell_request, spelling};
+ghost use Rattle.rh_syntax.specs.Spelling.{Script, IsScript, HeaderFits, RequestFits, CommandFits, command_text, spell_header, spell_request, spelling};
 ghost use Rattle.rh_syntax.specs.TrayName.{tray_name_of, IsTrayName};
-ghost use Rattle.rh_syntax.specs.declared.fault.Kind.{Kind as KindOf};
+ghost use Rattle.rh_syntax.specs.declared.fault.Kind.{Kind as FaultKind};
 ghost use Rattle.rh_syntax.specs.declared.fault.TraceFault.{TraceFault as FaultOf};
 ghost use Rattle.rh_syntax.specs.declared.line.Header.{Header as HeaderOf};
 ghost use Rattle.rh_syntax.specs.declared.line.Line.{Line as LineOf};
@@ -47,7 +45,7 @@ pub fn a_single_command_is_read_as_spelled()
     ensures read { (line : List ℕ) (owner : ℕ) (command : CommandOf)
         → single_command line ≡ Ok (owner, command)
         → CommandFits owner command × (line ≡ command_text owner command) }
-    ensures first { (line : List ℕ) (kind : KindOf) → single_command line ≡ Err kind
+    ensures first { (line : List ℕ) (kind : FaultKind) → single_command line ≡ Err kind
         → IsLeast (command_faults line) kind }
     ensures none { (line : List ℕ) (owned : ℕ × CommandOf) → single_command line ≡ Ok owned
         → IsFaultless (command_faults line) }

@@ -22,11 +22,11 @@ pub use command_answers::put_answer_text;
 pub use command_lines::{owned_command, put_command_text};
 pub use fault::{Kind, ParseError, TraceFault};
 pub use line::{Header, Line};
-pub use printing::{print, print_told};
+pub use printing::{print, print_logged};
 pub use reading::checked_parts;
 pub use request::Request;
 pub use single_lines::{
-    command_of, write_answer, write_answer_told, write_command, write_command_told,
+    command_of, write_answer, write_answer_logged, write_command, write_command_logged,
 };
 pub use trace::{Trace, parse};
 pub use tray_name::{TrayName, tray_name_of};

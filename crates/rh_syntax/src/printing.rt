@@ -2,7 +2,7 @@
 
 ghost use Rattle.std.specs.Prelude.{◌≡◌, false, OnOk, OnErr};
 ghost use Rattle.std.specs.Io.KnownBytes.{Appends};
-ghost use Rattle.rh_text.specs.Calls.{AreSpent};
+ghost use Rattle.rh_text.specs.IoLog.{AreSpent};
 ghost use Rattle.rh_text.specs.Output.{AppendsLess};
 ghost use Rattle.rh_syntax.specs.Spelling.{spell_request, spelling};
 
@@ -13,7 +13,7 @@ use crate::keyword_lines::{
 };
 use crate::request::Request;
 use crate::trace::Trace;
-use rh_text::{Calls, LineText, Write, send};
+use rh_text::{IoLog, LineText, Write, send};
 use std::alloc::Allocator;
 use std::io;
 
@@ -41,14 +41,14 @@ fn put_request(text: &mut LineText, request: &Request)
 /// # Errors
 ///
 /// `Write` where a write failed, or 33,554,432 writes of one line didn't come to its end
-/// (`print_told` says that it comes nowhere else). A prefix of the text was written then.
+/// (`print_logged` says that it comes nowhere else). A prefix of the text was written then.
 pub fn print<A: Allocator, W: io::Write>(trace: &Trace<A>, writer: &mut W) -> Result<(), Write>
     ensures ok { OnOk result (Appends (W.contents writer.old) (W.contents writer.new)
         (spelling trace.now)) }
     ensures err { OnErr result (AppendsLess (W.contents writer.old) (W.contents writer.new)
         (spelling trace.now)) }
 {
-    print_told(trace, writer, &mut Calls::new())
+    print_logged(trace, writer, &mut IoLog::new())
 }
 
 /// Writes the text of a trace as `print` does, and tells in `writes` whether a write failed.
@@ -56,10 +56,10 @@ pub fn print<A: Allocator, W: io::Write>(trace: &Trace<A>, writer: &mut W) -> Re
 /// # Errors
 ///
 /// As `print`.
-pub fn print_told<A: Allocator, W: io::Write>(
+pub fn print_logged<A: Allocator, W: io::Write>(
     trace: &Trace<A>,
     writer: &mut W,
-    writes: &mut Calls,
+    writes: &mut IoLog,
 ) -> Result<(), Write>
     requires { writes.old.failed ≡ false }
     ensures ok { OnOk result (Appends (W.contents writer.old) (W.contents writer.new)

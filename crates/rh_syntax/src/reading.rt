@@ -3,9 +3,7 @@
 ghost use Rattle.std.specs.Prelude.{◌≡◌};
 ghost use Rattle.rh_text.specs.Parts.{parts_left};
 ghost use Rattle.rh_text.specs.Steps.{Shows, with_fault};
-ghost use Rattle.rh_syntax.specs.Reading.{request_of_parts, checked_parts, fault_at};
-ghost use Rattle.rh_syntax.specs.Reading.{request_or_kind, header_or_kind};
-ghost use Rattle.rh_syntax.specs.Reading.{request_or_fault, header_or_fault};
+ghost use Rattle.rh_syntax.specs.Reading.{request_of_parts, checked_parts, fault_at, request_or_kind, header_or_kind, request_or_fault, header_or_fault};
 
 use crate::command_lines::command_or_fault;
 use crate::fault::{Kind, TraceFault};

@@ -3,7 +3,7 @@
 ghost use Rattle.std.specs.Prelude.{◌≡◌, ℕ, false, IfOk, OnOk, OnErr, Ok};
 ghost use Rattle.std.specs.Io.KnownBytes.{Appends};
 ghost use Rattle.rh_layout.specs.declared.command.Command.{Command as CommandOf};
-ghost use Rattle.rh_text.specs.Calls.{AreSpent};
+ghost use Rattle.rh_text.specs.IoLog.{AreSpent};
 ghost use Rattle.rh_text.specs.Output.{AppendsLess};
 ghost use Rattle.rh_syntax.specs.CommandAnswers.{answer_text};
 ghost use Rattle.rh_syntax.specs.Reading.{single_command};
@@ -13,7 +13,7 @@ use crate::command_answers::put_answer_text;
 use crate::command_lines::{owned_command, put_command_text};
 use crate::fault::Kind;
 use rh_layout::{Command, Refusal, Reply};
-use rh_text::{Calls, LineText, Write, is_formed, send};
+use rh_text::{IoLog, LineText, Write, is_formed, send};
 use std::io;
 
 /// The owner and the command of a single line, by its form and its parts.
@@ -53,8 +53,8 @@ pub fn command_of(line: &[u8]) -> Result<(u32, Command), Kind>
 ///
 /// # Errors
 ///
-/// `Write` where a write failed, or 33,554,432 writes didn't come to the end (`write_command_told`
-/// says that it comes nowhere else). A prefix of the text was written then.
+/// `Write` where a write failed, or 33,554,432 writes didn't come to the end
+/// (`write_command_logged` says that it comes nowhere else). A prefix of the text was written then.
 pub fn write_command<W: io::Write>(
     owner: u32,
     command: &Command,
@@ -65,7 +65,7 @@ pub fn write_command<W: io::Write>(
     ensures err { OnErr result (AppendsLess (W.contents writer.old) (W.contents writer.new)
         (command_text owner command.now)) }
 {
-    write_command_told(owner, command, writer, &mut Calls::new())
+    write_command_logged(owner, command, writer, &mut IoLog::new())
 }
 
 /// Writes a command as `write_command` does, and tells in `writes` whether a write failed.
@@ -73,11 +73,11 @@ pub fn write_command<W: io::Write>(
 /// # Errors
 ///
 /// As `write_command`.
-pub fn write_command_told<W: io::Write>(
+pub fn write_command_logged<W: io::Write>(
     owner: u32,
     command: &Command,
     writer: &mut W,
-    writes: &mut Calls,
+    writes: &mut IoLog,
 ) -> Result<(), Write>
     requires { writes.old.failed ≡ false }
     ensures ok { OnOk result (Appends (W.contents writer.old) (W.contents writer.new)
@@ -98,7 +98,7 @@ pub fn write_command_told<W: io::Write>(
 ///
 /// # Errors
 ///
-/// `Write` where a write failed, or 33,554,432 writes didn't come to the end (`write_answer_told`
+/// `Write` where a write failed, or 33,554,432 writes didn't come to the end (`write_answer_logged`
 /// says that it comes nowhere else). A prefix of the text was written then.
 pub fn write_answer<W: io::Write>(
     answer: &Result<Reply, Refusal>,
@@ -109,7 +109,7 @@ pub fn write_answer<W: io::Write>(
     ensures err { OnErr result (AppendsLess (W.contents writer.old) (W.contents writer.new)
         (answer_text answer.now)) }
 {
-    write_answer_told(answer, writer, &mut Calls::new())
+    write_answer_logged(answer, writer, &mut IoLog::new())
 }
 
 /// Writes an answer as `write_answer` does, and tells in `writes` whether a write failed.
@@ -117,10 +117,10 @@ pub fn write_answer<W: io::Write>(
 /// # Errors
 ///
 /// As `write_answer`.
-pub fn write_answer_told<W: io::Write>(
+pub fn write_answer_logged<W: io::Write>(
     answer: &Result<Reply, Refusal>,
     writer: &mut W,
-    writes: &mut Calls,
+    writes: &mut IoLog,
 ) -> Result<(), Write>
     requires { writes.old.failed ≡ false }
     ensures ok { OnOk result (Appends (W.contents writer.old) (W.contents writer.new)

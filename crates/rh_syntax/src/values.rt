@@ -1,8 +1,7 @@
 //! What a part of a trace's line says: a number, a root or an operand; and an operand's text.
 
 ghost use Rattle.std.specs.Prelude.{◌≡◌, ◌+◌, ◌≤◌, ◌++◌, length};
-ghost use Rattle.rh_syntax.specs.Reading.{number_or_fault, integer_or_fault};
-ghost use Rattle.rh_syntax.specs.Reading.{root_or_fault, operand_or_fault};
+ghost use Rattle.rh_syntax.specs.Reading.{number_or_fault, integer_or_fault, root_or_fault, operand_or_fault};
 ghost use Rattle.rh_syntax.specs.Spelling.{operand_text};
 
 use crate::fault::Kind;

@@ -1,4 +1,4 @@
-pub mod Calls
+pub mod IoLog
 pub mod Input
 pub mod Output
 pub mod RawLine

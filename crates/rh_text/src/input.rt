@@ -1,10 +1,10 @@
 //! An input read whole.
 
 ghost use Rattle.std.specs.Prelude.{◌≡◌, ◌++◌, ◌+◌, ◌<◌, ◌≤◌, length, false, IfOk, OnOk, IsErrOf};
-ghost use Rattle.rh_text.specs.Calls.{AreSpent};
+ghost use Rattle.rh_text.specs.IoLog.{AreSpent};
 ghost use Rattle.rh_text.specs.Input.{ReadsAll, ReadsPast};
 
-use crate::calls::{Calls, is_interrupted};
+use crate::io_log::{IoLog, is_interrupted};
 use rh_layout::limits::MAX_INPUT_BYTES;
 use std::alloc::Allocator;
 use std::io;
@@ -58,7 +58,7 @@ fn keep<A: Allocator>(text: &mut Vec<u8, A>, bytes: &[u8]) -> Result<(), InputFa
 pub fn read_all<A: Allocator + Copy, R: io::Read>(
     alloc: A,
     reader: &mut R,
-    reads: &mut Calls,
+    reads: &mut IoLog,
 ) -> Result<Vec<u8, A>, InputFault>
     requires { reads.old.failed ≡ false }
     ensures bytes { ReadsAll (R.remaining reader.old) (R.remaining reader.new) (λ v. v.items)
@@ -94,7 +94,7 @@ pub fn read_all<A: Allocator + Copy, R: io::Read>(
 pub fn read_past<A: Allocator + Copy, R: io::Read>(
     alloc: A,
     reader: &mut R,
-    reads: &mut Calls,
+    reads: &mut IoLog,
     limit: usize,
 ) -> Result<Vec<u8, A>, InputFault>
     requires { reads.old.failed ≡ false }

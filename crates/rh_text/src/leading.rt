@@ -5,8 +5,7 @@
 //! above 0 with which the text ends.
 
 ghost use Rattle.std.specs.Int.{IsOutOfRange};
-ghost use Rattle.std.specs.Prelude.{◌≡◌, ◌≢◌, ℕ, ◌^◌, ◌<◌, List, ◌∷◌, ◌++◌, decimal};
-ghost use Rattle.std.specs.Prelude.{IfSome, MatchOption};
+ghost use Rattle.std.specs.Prelude.{◌≡◌, ◌≢◌, ℕ, ◌^◌, ◌<◌, List, ◌∷◌, ◌++◌, decimal, IfSome, MatchOption};
 ghost use Rattle.rh_text.specs.Number.{IsU32};
 ghost use Rattle.rh_text.specs.Root.{RootFits, root_text};
 

@@ -5,8 +5,8 @@
 //! that failed.
 #![tactic(auto)]
 
-mod calls;
 mod input;
+mod io_log;
 pub mod laws;
 mod leading;
 mod line_text;
@@ -16,8 +16,8 @@ mod parts;
 mod raw_line;
 mod root;
 
-pub use calls::{Calls, is_interrupted};
 pub use input::{InputFault, read_all, read_past};
+pub use io_log::{IoLog, is_interrupted};
 pub use leading::{after_byte, after_bytes, leading_number, leading_root};
 pub use line_text::LineText;
 pub use number::{read_integer, read_number};

@@ -2,10 +2,10 @@
 
 ghost use Rattle.std.specs.Prelude.{◌≡◌, false, OnOk, OnErr};
 ghost use Rattle.std.specs.Io.KnownBytes.{Appends};
-ghost use Rattle.rh_text.specs.Calls.{AreSpent};
+ghost use Rattle.rh_text.specs.IoLog.{AreSpent};
 ghost use Rattle.rh_text.specs.Output.{AppendsLess};
 
-use crate::calls::{Calls, is_interrupted};
+use crate::io_log::{IoLog, is_interrupted};
 use std::io;
 use thiserror::Error;
 
@@ -23,7 +23,7 @@ pub struct Write;
 /// `Write` where a write failed, or 33,554,432 of them were made and some of the text is left. A
 /// prefix of the text was written then.
 #[inline(always)]
-pub fn send<W: io::Write>(writer: &mut W, writes: &mut Calls, text: &[u8]) -> Result<(), Write>
+pub fn send<W: io::Write>(writer: &mut W, writes: &mut IoLog, text: &[u8]) -> Result<(), Write>
     requires { writes.old.failed ≡ false }
     ensures ok { OnOk result (Appends (W.contents writer.old) (W.contents writer.new) text.now) }
     ensures err { OnErr result

@@ -2,9 +2,7 @@
 
 ghost use Rattle.std.specs.Prelude.{◌≡◌};
 ghost use Rattle.std.specs.Option.{option_map};
-ghost use Rattle.rh_text.specs.Parts.{cut_at, parts_left, may_follow, is_formed, has_dot};
-ghost use Rattle.rh_text.specs.Parts.{begins_with_digit, first_and_rest, end_of};
-ghost use Rattle.rh_text.specs.Parts.{one_part, two_parts, three_parts, six_parts};
+ghost use Rattle.rh_text.specs.Parts.{cut_at, parts_left, may_follow, is_formed, has_dot, begins_with_digit, first_and_rest, end_of, one_part, two_parts, three_parts, six_parts};
 
 /// What stands before the first byte `at`, and what stands after it.
 pub fn cut(bytes: &[u8], at: u8) -> Option<(&[u8], &[u8])>

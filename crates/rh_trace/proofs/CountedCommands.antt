@@ -1,5 +1,5 @@
 -- A summary counts the requests that are commands, and the commands that the heap refused.
-use Rattle.std.proofs.Common.{◌≡◌, ℕ, ◌+◌, Bool, cond, List, [], ◌∷◌, ◌++◌, Option, Some, None, refl, sym, ap, ◌∙◌, arith}
+use Rattle.std.proofs.Common.{◌≡◌, ℕ, ◌+◌, cond, List, [], ◌∷◌, ◌++◌, Option, Some, None, refl, sym, ap, ◌∙◌, arith}
 use Rattle.std.specs.Prelude.{count_by}
 use Rattle.rh_core.specs.declared.event.Event.{Event}
 use Rattle.rh_core.specs.declared.event.Event.TheVariants as events

@@ -14,7 +14,7 @@ use Rattle.rh_dump.specs.texts.Line.{dump_text}
 use Rattle.rh_syntax.specs.CommandAnswers.{answer_text}
 use Rattle.rh_engine.specs.CycleAnswers.{begin_text, shade_text, deal_text, give_text, join_text, flip_text, tray_text, stat_text}
 use Rattle.rh_engine.specs.Trays as trays
-use Rattle.rh_engine.specs.declared.engine.Counted.{Counted}
+use Rattle.rh_engine.specs.declared.engine.TrayDeal.{TrayDeal}
 use Rattle.rh_engine.specs.declared.engine.DealRefusal.{DealRefusal}
 use Rattle.rh_engine.specs.declared.engine.GiveRefusal.{GiveRefusal}
 use Rattle.rh_trace.specs.declared.summary.Summary.{Summary}
@@ -26,7 +26,7 @@ pub data Answered : Type 0 where
   Answer : (answer : Result Reply Refusal) → Answered
   Begin : (answer : Result ℕ BeginError) → Answered
   Shade : (answer : Result outcomes.Shaded.Shaded ShadeError) → Answered
-  Deal : (answer : Result Counted DealRefusal) → Answered
+  Deal : (answer : Result TrayDeal DealRefusal) → Answered
   Give : (answer : Result outcomes.Given.Given GiveRefusal) → Answered
   Join : (answer : Result ℕ JoinRefusal) → Answered
   Flip : (answer : Result outcomes.Flipped.Flipped FlipError) → Answered

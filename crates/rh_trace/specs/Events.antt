@@ -8,7 +8,7 @@ use Rattle.rh_core.specs.declared.outcomes.Dealt.{Dealt}
 use Rattle.rh_core.specs.declared.outcomes.Given.{Given}
 use Rattle.rh_core.specs.declared.errors.DealError.{DealError}
 use Rattle.rh_core.specs.declared.errors.GiveError.{GiveError}
-use Rattle.rh_engine.specs.declared.engine.Counted.{Counted}
+use Rattle.rh_engine.specs.declared.engine.TrayDeal.{TrayDeal}
 use Rattle.rh_engine.specs.declared.engine.DealRefusal.{DealRefusal}
 use Rattle.rh_engine.specs.declared.engine.DealRefusal.TheVariants as deal_refusals
 use Rattle.rh_engine.specs.declared.engine.GiveRefusal.TheVariants as give_refusals
@@ -69,7 +69,7 @@ MayChangeTrays other = ⊥
 -- entries were passed over; or the heap's refusal.
 abbrev pub TellsDealt : Result Dealt DealError → Answered → Type 0
 TellsDealt (Ok dealt) answered =
-    (counted : Counted) × (answered ≡ answers.Deal (Ok counted))
+    (counted : TrayDeal) × (answered ≡ answers.Deal (Ok counted))
     × (counted.items ≡ length dealt.piece.items) × (counted.passed ≡ dealt.passed)
 TellsDealt (Err why) answered = answered ≡ answers.Deal (Err (deal_refusals.Heap why))
 

@@ -18,7 +18,7 @@ use Rattle.rh_core.specs.Stat.{stat_of}
 use Rattle.rh_model.specs.Plain.{PlainHeap, empty_plain, step}
 use Rattle.rh_dump.specs.PlainDump.{plain_dump_of}
 use Rattle.rh_trace.specs.HeapDump.{dump_of}
-use Rattle.rh_engine.specs.declared.engine.Counted.{Counted}
+use Rattle.rh_engine.specs.declared.engine.TrayDeal.{TrayDeal}
 use Rattle.rh_engine.specs.declared.engine.DealRefusal.{DealRefusal}
 use Rattle.rh_engine.specs.declared.engine.GiveRefusal.{GiveRefusal}
 use Rattle.rh_syntax.specs.declared.fault.TraceFault.{TraceFault}
@@ -177,7 +177,7 @@ IsPlainAnswer p requests.Begin answered =
 IsPlainAnswer p (requests.Shade root) answered =
     (answer : Result outcomes.Shaded.Shaded ShadeError) × (answered ≡ answers.Shade answer)
 IsPlainAnswer p (requests.Deal kind most tray) answered =
-    (answer : Result Counted DealRefusal) × (answered ≡ answers.Deal answer)
+    (answer : Result TrayDeal DealRefusal) × (answered ≡ answers.Deal answer)
 IsPlainAnswer p (requests.Give tray) answered =
     (answer : Result outcomes.Given.Given GiveRefusal) × (answered ≡ answers.Give answer)
 IsPlainAnswer p (requests.Join into other) answered =

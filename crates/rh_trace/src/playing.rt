@@ -2,7 +2,7 @@
 
 ghost use Rattle.std.specs.Prelude.{◌≡◌, ◌<◌, ◌≤◌, ◌+◌, ◌^◌, length, false, IfOk, IsErrOf, OnOk};
 ghost use Rattle.std.specs.List.{flat_map};
-ghost use Rattle.rh_text.specs.Calls.{AreSpent};
+ghost use Rattle.rh_text.specs.IoLog.{AreSpent};
 ghost use Rattle.rh_text.specs.Output.{AppendsLess};
 ghost use Rattle.rh_core.specs.Stat.{stat_of};
 ghost use Rattle.rh_dump.specs.texts.Line.{dump_text};
@@ -12,21 +12,20 @@ ghost use Rattle.rh_trace.specs.Answers.{answered_text, with_line_end, trays_tex
 ghost use Rattle.rh_engine.specs.CycleAnswers.{flip_text, stat_text};
 ghost use Rattle.rh_engine.specs.Engine.{command_step, flip_line_step};
 ghost use Rattle.rh_trace.specs.HeapDump.{dump_of};
-ghost use Rattle.rh_trace.specs.Run.{answers_to, request_step, output_of, summary_of, summary_with};
-ghost use Rattle.rh_trace.specs.Run.{Writes};
+ghost use Rattle.rh_trace.specs.Run.{answers_to, request_step, output_of, summary_of, summary_with, Writes};
 
 use crate::answers::put_total;
 use crate::heap_dump::graph;
 use crate::stop::Stop;
 use crate::summary::Summary;
 use rh_core::Heap;
-use rh_dump::write_dump_told;
+use rh_dump::write_dump_logged;
 use rh_engine::{
     Engine, Trays, put_begin, put_deal, put_flip, put_give, put_join, put_shade, put_stat, put_tray,
 };
 use rh_layout::Command;
 use rh_syntax::{Request, put_answer_text};
-use rh_text::{Calls, LineText, send};
+use rh_text::{IoLog, LineText, send};
 use std::alloc::Allocator;
 use std::io;
 
@@ -35,7 +34,7 @@ fn write_heap_dump<A: Allocator + Copy, W: io::Write>(
     alloc: A,
     heap: &Heap<A>,
     writer: &mut W,
-    writes: &mut Calls,
+    writes: &mut IoLog,
 ) -> Result<(), Stop>
     requires { writes.old.failed ≡ false }
     ensures written { Writes (dump_text (dump_of heap.now)) result (W.contents writer.old)
@@ -44,7 +43,7 @@ fn write_heap_dump<A: Allocator + Copy, W: io::Write>(
     ensures none_failed { ¬ IsErrOf result Stop.Write → writes.new.failed ≡ false }
 {
     let graph = graph(alloc, heap)?;
-    write_dump_told(&graph, writer, writes)?;
+    write_dump_logged(&graph, writer, writes)?;
     Ok(())
 }
 
@@ -53,7 +52,7 @@ fn write_heap_dump<A: Allocator + Copy, W: io::Write>(
 fn write_line<W: io::Write>(
     text: &mut LineText,
     writer: &mut W,
-    writes: &mut Calls,
+    writes: &mut IoLog,
 ) -> Result<(), Stop>
     requires room { length text.old ≤ 255 }
     requires none_failed { writes.old.failed ≡ false }
@@ -72,7 +71,7 @@ fn write_trays<A: Allocator + Copy, W: io::Write>(
     trays: &Trays<A>,
     text: &mut LineText,
     writer: &mut W,
-    writes: &mut Calls,
+    writes: &mut IoLog,
 ) -> Result<(), Stop>
     requires { writes.old.failed ≡ false }
     ensures written { Writes (trays_text trays.now) result (W.contents writer.old)
@@ -155,7 +154,7 @@ fn play_request<A: Allocator + Copy, W: io::Write>(
     text: &mut LineText,
     summary: &mut Summary,
     writer: &mut W,
-    writes: &mut Calls,
+    writes: &mut IoLog,
 ) -> Result<(), Stop>
     requires none_failed { writes.old.failed ≡ false }
     requires few_commands { summary.old.commands < 2 ^ 63 }
@@ -194,7 +193,7 @@ pub(crate) fn play<A: Allocator + Copy, W: io::Write>(
     engine: &mut Engine<A>,
     requests: &[Request],
     writer: &mut W,
-    writes: &mut Calls,
+    writes: &mut IoLog,
 ) -> Result<Summary, Stop>
     requires { writes.old.failed ≡ false }
     ensures summary { IfOk result (λ s. s ≡ summary_of (answers_to engine.old requests.now)) }

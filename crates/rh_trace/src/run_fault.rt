@@ -6,8 +6,8 @@ use thiserror::Error;
 
 /// Why a run of a trace ended early. `Long`, `Trace` and `New` are faults of the input, in this
 /// order; nothing was written then, and nothing after `Read`. After `Write` a prefix of the text
-/// may be written, and not all of it; after `OutOfMemory` a prefix of the answers, and nothing of the
-/// total line.
+/// may be written, and not all of it; after `OutOfMemory` a prefix of the answers, and nothing of
+/// the total line.
 #[derive(Clone, Copy, Debug, PartialEq, Eq, Error)]
 pub enum RunFault {
     /// A read failed, or 33,554,432 reads didn't come to the end.

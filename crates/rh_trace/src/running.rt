@@ -5,13 +5,12 @@ ghost use Rattle.std.specs.List.{flat_map};
 ghost use Rattle.std.specs.Io.KnownBytes.{Appends, Consumes, Keeps};
 ghost use Rattle.rh_core.specs.Config.{fault_of};
 ghost use Rattle.rh_core.specs.Heap.{new_heap, IsWellFormed};
-ghost use Rattle.rh_text.specs.Calls.{AreSpent};
+ghost use Rattle.rh_text.specs.IoLog.{AreSpent};
 ghost use Rattle.rh_text.specs.Output.{AppendsPrefix, AppendsLess};
 ghost use Rattle.rh_trace.specs.Answers.{Answered, answered_text};
 ghost use Rattle.rh_syntax.specs.Reading.{trace_of};
 ghost use Rattle.rh_syntax.specs.Spelling.{Script};
-ghost use Rattle.rh_trace.specs.Run.{config_of, summary_of, output_of, run_of_trace, run_of};
-ghost use Rattle.rh_trace.specs.Run.{Ends, IsPlainRun};
+ghost use Rattle.rh_trace.specs.Run.{config_of, summary_of, output_of, run_of_trace, run_of, Ends, IsPlainRun};
 
 use crate::laws::dumps::a_heap_has_the_dump_of_its_plain_heap;
 use crate::playing::play;
@@ -26,7 +25,7 @@ use rh_core::{Config, Heap, HeapError};
 use rh_engine::Engine;
 use rh_layout::limits::MAX_NUMBER;
 use rh_syntax::{Header, ParseError, parse};
-use rh_text::{Calls, InputFault, read_all};
+use rh_text::{InputFault, IoLog, read_all};
 use std::alloc::Allocator;
 use std::io;
 
@@ -50,7 +49,7 @@ fn run_input<A: Allocator + Copy, W: io::Write>(
     alloc: A,
     input: &[u8],
     writer: &mut W,
-    writes: &mut Calls,
+    writes: &mut IoLog,
 ) -> Result<Summary, RunFault>
     requires { writes.old.failed ≡ false }
     ensures ends { Ends (run_of_trace (trace_of input.now)) result (W.contents writer.old)
@@ -98,8 +97,8 @@ fn run_input<A: Allocator + Copy, W: io::Write>(
 /// Of the faults of an input the first is answered: `Long`, then `Trace`, then `New`. `Read` comes
 /// where a read failed or was one too many, `Write` where a write failed or 33,554,432 writes of
 /// one line didn't come to its end, `OutOfMemory` where the allocator refused memory, also at a
-/// deal, a join or a dump; what may be written then, `RunFault` says. `run_trace_told` says of Read
-/// and Write that they come nowhere else.
+/// deal, a join or a dump; what may be written then, `RunFault` says. `run_trace_logged` says of
+/// Read and Write that they come nowhere else.
 pub fn run_trace<A: Allocator + Copy, R: io::Read, W: io::Write>(
     alloc: A,
     reader: &mut R,
@@ -135,7 +134,7 @@ pub fn run_trace<A: Allocator + Copy, R: io::Read, W: io::Write>(
         × AppendsPrefix (W.contents writer.old) (W.contents writer.new)
         (flat_map answered_text answers)) }
 {
-    run_trace_told(alloc, reader, &mut Calls::new(), writer, &mut Calls::new())
+    run_trace_logged(alloc, reader, &mut IoLog::new(), writer, &mut IoLog::new())
 }
 
 /// Runs a trace as `run_trace` does, and tells in `reads` and `writes` whether a read and whether a
@@ -144,12 +143,12 @@ pub fn run_trace<A: Allocator + Copy, R: io::Read, W: io::Write>(
 /// # Errors
 ///
 /// As `run_trace`.
-pub fn run_trace_told<A: Allocator + Copy, R: io::Read, W: io::Write>(
+pub fn run_trace_logged<A: Allocator + Copy, R: io::Read, W: io::Write>(
     alloc: A,
     reader: &mut R,
-    reads: &mut Calls,
+    reads: &mut IoLog,
     writer: &mut W,
-    writes: &mut Calls,
+    writes: &mut IoLog,
 ) -> Result<Summary, RunFault>
     requires no_read_failed { reads.old.failed ≡ false }
     requires no_write_failed { writes.old.failed ≡ false }

@@ -8,7 +8,7 @@ use rh_trace::laws::trays::{
     a_tray_takes_its_name_alone, deals_into_trays_are_refused_in_order,
     joined_items_are_the_newest, the_names_of_trays_are_read,
 };
-use rh_trace::{Counted, DealRefusal, Engine, GiveRefusal, JoinRefusal, TrayName, tray_name_of};
+use rh_trace::{DealRefusal, Engine, GiveRefusal, JoinRefusal, TrayDeal, TrayName, tray_name_of};
 use std::alloc::Allocator;
 use std::process::Abort;
 
@@ -69,7 +69,7 @@ fn is_refused_a_deal<A: Allocator + Copy>(rt: &impl Abort, engine: &mut Engine<A
         return true;
     };
     let (items, passed) = (1, 0);
-    expect_equal(rt, dealt, Ok(Counted { items, passed }));
+    expect_equal(rt, dealt, Ok(TrayDeal { items, passed }));
     false
 }
 

@@ -7,8 +7,7 @@ ghost use Rattle.rh_text.specs.Steps.{Shows};
 ghost use Rattle.rh_dump.specs.Meeting.{IsBelow};
 ghost use Rattle.rh_dump.specs.texts.Part.{object_head};
 ghost use Rattle.rh_dump.specs.texts.Putting.{start_of};
-ghost use Rattle.rh_dump.specs.texts.Reading.{formed_parts, part_after, roots_of_parts};
-ghost use Rattle.rh_dump.specs.texts.Reading.{objects_of_parts, root_of_parts, own_number};
+ghost use Rattle.rh_dump.specs.texts.Reading.{formed_parts, part_after, roots_of_parts, objects_of_parts, root_of_parts, own_number};
 
 use crate::limits::{LAST_OBJECT, MAX_OBJECTS, MAX_ROOTS};
 use crate::reading::fault::DumpKind;

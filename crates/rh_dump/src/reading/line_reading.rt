@@ -8,8 +8,7 @@ ghost use Rattle.rh_dump.specs.Dump.{met_with};
 ghost use Rattle.rh_dump.specs.texts.Line.{root_due, object_due};
 ghost use Rattle.rh_dump.specs.Meeting.{IsBelow};
 ghost use Rattle.rh_dump.specs.texts.Putting.{Tells, IsDue, root_in, due_read, put_read, put_values};
-ghost use Rattle.rh_dump.specs.texts.Reading.{values_or_fault, line_due};
-ghost use Rattle.rh_dump.specs.texts.Reading.{line_or_kind};
+ghost use Rattle.rh_dump.specs.texts.Reading.{values_or_fault, line_due, line_or_kind};
 ghost use Rattle.rh_dump.specs.declared.reading.due.Due.TheVariants as dues;
 ghost use Rattle.rh_dump.specs.declared.reading.read_error.LineError.TheVariants as errors;
 

@@ -4,9 +4,7 @@ ghost use Rattle.std.specs.Prelude.{◌≡◌, ℕ, IfOk};
 ghost use Rattle.std.specs.Option.{option_map};
 ghost use Rattle.rh_dump.specs.Meeting.{IsBelow};
 ghost use Rattle.rh_dump.specs.texts.Part.{number_up_to, whole_of, small_root_of, after_at};
-ghost use Rattle.rh_dump.specs.texts.Reading.{number_or_fault, reference_or_fault, whole_or_fault};
-ghost use Rattle.rh_dump.specs.texts.Reading.{value_or_fault, is_root_before, is_root_after};
-ghost use Rattle.rh_dump.specs.texts.Reading.{root_or_fault};
+ghost use Rattle.rh_dump.specs.texts.Reading.{number_or_fault, reference_or_fault, whole_or_fault, value_or_fault, is_root_before, is_root_after, root_or_fault};
 
 use crate::limits::LAST_OBJECT;
 use crate::reading::fault::DumpKind;

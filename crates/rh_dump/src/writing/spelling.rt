@@ -1,8 +1,7 @@
 //! The texts of a dump's lines.
 
 ghost use Rattle.std.specs.Prelude.{◌≡◌, ◌+◌, ◌≤◌, ◌++◌, ◌∷◌, codes, decimal, length};
-ghost use Rattle.rh_dump.specs.texts.Line.{spell_dump_line, value_text};
-ghost use Rattle.rh_dump.specs.texts.Line.{header_line, roots_line, root_line, objects_line};
+ghost use Rattle.rh_dump.specs.texts.Line.{spell_dump_line, value_text, header_line, roots_line, root_line, objects_line};
 
 use rh_layout::{RootId, Value};
 use rh_text::LineText;

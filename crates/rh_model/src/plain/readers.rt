@@ -1,7 +1,6 @@
 //! What can be read of the plain heap: its roots, and the fields of its objects.
 
-ghost use Rattle.std.specs.Prelude.{◌≡◌, if◌then◌else◌, [], length, slice_get, unwrap_or, Some};
-ghost use Rattle.std.specs.Prelude.{None};
+ghost use Rattle.std.specs.Prelude.{◌≡◌, if◌then◌else◌, [], length, slice_get, unwrap_or, Some, None};
 ghost use Rattle.std.specs.Option.{option_map};
 ghost use Rattle.rh_layout.specs.Root.{has_root};
 ghost use Rattle.rh_model.specs.Graph.{root_value};

@@ -32,7 +32,7 @@ use Rattle.rh_syntax.specs.declared.line as declared
 use Rattle.rh_syntax.specs.declared.request.Request.{Request}
 use Rattle.rh_syntax.specs.declared.request.Request.TheVariants as requests
 use Rattle.rh_syntax.specs.Faults.{Sort, keyword, number, root, operand, copies_or_entries, tray, header_form, command_forms, keyword_forms, lookup, IsNumber, IsRoot, IsInteger, HasDot, IsDigitFirst, each_part, form_faults, BeginsWithOwner, LacksKeyword, form_of, command_part_faults, command_faults, keyword_part_faults, line_part_faults, IsFirstPart, header_part_faults, raw_line_faults, header_faults, line_faults, trace_faults}
-use Rattle.rh_syntax.specs.Reading.{number_or_fault, integer_or_fault, root_or_fault, operand_or_fault, alloc_of, load_of, store_of, copy_of, same_of, drop_of, command_or_fault, owned_command, single_command, alone, tray_or_fault, kind_or_fault, shade_of, deal_of, give_of, join_of, keyword_request, request_of_parts, sizes_of, header_of_parts, checked_parts, fault_at, request_or_kind, header_or_kind, requests_from, script_or_fault, trace_of}
+use Rattle.rh_syntax.specs.Reading.{number_or_fault, integer_or_fault, root_or_fault, operand_or_fault, read_alloc, read_load, read_store, read_copy, read_same, read_drop, command_or_fault, owned_command, single_command, alone, tray_or_fault, kind_or_fault, read_shade, read_deal, read_give, read_join, keyword_request, request_of_parts, sizes_of, header_of_parts, checked_parts, fault_at, request_or_kind, header_or_kind, requests_from, script_or_fault, trace_of}
 use Rattle.rh_syntax.specs.Spelling.{Script, spell_request, spell_header, RequestFits, HeaderFits}
 use Rattle.rh_syntax.specs.TrayName.{tray_name_of, IsTrayName}
 use Rattle.rh_syntax.specs.lemmas.ReadIsSpelled.{request_or_fault-means, header_or_fault-means}
@@ -173,33 +173,33 @@ module _ {A : Type 0} (before : List Sort) (first : List (List ℕ)) (even : len
 abbrev owner_and_keyword : List Sort
 owner_and_keyword = number ∷ keyword ∷ []
 
-judges-alloc : (owner word : List ℕ) (args : List (List ℕ)) → Judges (form_faults (Some (number ∷ keyword ∷ root ∷ number ∷ [])) (owner ∷ word ∷ args)) (alloc_of owner args)
-unfolding alloc_of
+judges-alloc : (owner word : List ℕ) (args : List (List ℕ)) → Judges (form_faults (Some (number ∷ keyword ∷ root ∷ number ∷ [])) (owner ∷ word ∷ args)) (read_alloc owner args)
+unfolding read_alloc
 judges-alloc owner word args = judges-two owner_and_keyword (owner ∷ word ∷ []) refl root number args _ (λ a b.
     judges-number owner _ _ (λ o. judges-root a _ _ (λ r. judges-number b _ _ (λ n. judges-end _))))
 
-judges-load : (owner word : List ℕ) (args : List (List ℕ)) → Judges (form_faults (Some (number ∷ keyword ∷ root ∷ root ∷ number ∷ [])) (owner ∷ word ∷ args)) (load_of owner args)
-unfolding load_of
+judges-load : (owner word : List ℕ) (args : List (List ℕ)) → Judges (form_faults (Some (number ∷ keyword ∷ root ∷ root ∷ number ∷ [])) (owner ∷ word ∷ args)) (read_load owner args)
+unfolding read_load
 judges-load owner word args = judges-three owner_and_keyword (owner ∷ word ∷ []) refl root root number args _ (λ a b c.
     judges-number owner _ _ (λ o. judges-root a _ _ (λ r. judges-root b _ _ (λ s. judges-number c _ _ (λ n. judges-end _)))))
 
-judges-store : (owner word : List ℕ) (args : List (List ℕ)) → Judges (form_faults (Some (number ∷ keyword ∷ root ∷ number ∷ operand ∷ [])) (owner ∷ word ∷ args)) (store_of owner args)
-unfolding store_of
+judges-store : (owner word : List ℕ) (args : List (List ℕ)) → Judges (form_faults (Some (number ∷ keyword ∷ root ∷ number ∷ operand ∷ [])) (owner ∷ word ∷ args)) (read_store owner args)
+unfolding read_store
 judges-store owner word args = judges-three owner_and_keyword (owner ∷ word ∷ []) refl root number operand args _ (λ a b c.
     judges-number owner _ _ (λ o. judges-root a _ _ (λ r. judges-number b _ _ (λ n. judges-operand c _ _ (λ x. judges-end _)))))
 
-judges-copy : (owner word : List ℕ) (args : List (List ℕ)) → Judges (form_faults (Some (number ∷ keyword ∷ root ∷ root ∷ [])) (owner ∷ word ∷ args)) (copy_of owner args)
-unfolding copy_of
+judges-copy : (owner word : List ℕ) (args : List (List ℕ)) → Judges (form_faults (Some (number ∷ keyword ∷ root ∷ root ∷ [])) (owner ∷ word ∷ args)) (read_copy owner args)
+unfolding read_copy
 judges-copy owner word args = judges-two owner_and_keyword (owner ∷ word ∷ []) refl root root args _ (λ a b.
     judges-number owner _ _ (λ o. judges-root a _ _ (λ r. judges-root b _ _ (λ s. judges-end _))))
 
-judges-same : (owner word : List ℕ) (args : List (List ℕ)) → Judges (form_faults (Some (number ∷ keyword ∷ root ∷ root ∷ [])) (owner ∷ word ∷ args)) (same_of owner args)
-unfolding same_of
+judges-same : (owner word : List ℕ) (args : List (List ℕ)) → Judges (form_faults (Some (number ∷ keyword ∷ root ∷ root ∷ [])) (owner ∷ word ∷ args)) (read_same owner args)
+unfolding read_same
 judges-same owner word args = judges-two owner_and_keyword (owner ∷ word ∷ []) refl root root args _ (λ a b.
     judges-number owner _ _ (λ o. judges-root a _ _ (λ r. judges-root b _ _ (λ s. judges-end _))))
 
-judges-drop : (owner word : List ℕ) (args : List (List ℕ)) → Judges (form_faults (Some (number ∷ keyword ∷ root ∷ [])) (owner ∷ word ∷ args)) (drop_of owner args)
-unfolding drop_of
+judges-drop : (owner word : List ℕ) (args : List (List ℕ)) → Judges (form_faults (Some (number ∷ keyword ∷ root ∷ [])) (owner ∷ word ∷ args)) (read_drop owner args)
+unfolding read_drop
 judges-drop owner word args = judges-one owner_and_keyword (owner ∷ word ∷ []) refl root args _ (λ a.
     judges-number owner _ _ (λ o. judges-root a _ _ (λ r. judges-end _)))
 
@@ -283,21 +283,21 @@ judges-alone : (word : List ℕ) (args : List (List ℕ)) (request : Request) �
 judges-alone word [] request = counted (keyword ∷ []) (word ∷ []) refl [] [] (Ok request) refl (judges-end request)
 judges-alone word (a ∷ args) request = miscounted (keyword ∷ []) (word ∷ []) refl [] (a ∷ args) (λ e. absurd (omega (arith, e)))
 
-judges-shade : (word : List ℕ) (args : List (List ℕ)) → Judges (form_faults (Some (keyword ∷ root ∷ [])) (word ∷ args)) (shade_of args)
-unfolding shade_of
+judges-shade : (word : List ℕ) (args : List (List ℕ)) → Judges (form_faults (Some (keyword ∷ root ∷ [])) (word ∷ args)) (read_shade args)
+unfolding read_shade
 judges-shade word args = judges-one (keyword ∷ []) (word ∷ []) refl root args _ (λ a. judges-root a _ _ (λ r. judges-end _))
 
-judges-deal : (word : List ℕ) (args : List (List ℕ)) → Judges (form_faults (Some (keyword ∷ copies_or_entries ∷ number ∷ tray ∷ [])) (word ∷ args)) (deal_of args)
-unfolding deal_of
+judges-deal : (word : List ℕ) (args : List (List ℕ)) → Judges (form_faults (Some (keyword ∷ copies_or_entries ∷ number ∷ tray ∷ [])) (word ∷ args)) (read_deal args)
+unfolding read_deal
 judges-deal word args = judges-three (keyword ∷ []) (word ∷ []) refl copies_or_entries number tray args _ (λ a b c.
     judges-kind a _ _ (λ k. judges-number b _ _ (λ n. judges-tray c _ _ (λ t. judges-end _))))
 
-judges-give : (word : List ℕ) (args : List (List ℕ)) → Judges (form_faults (Some (keyword ∷ tray ∷ [])) (word ∷ args)) (give_of args)
-unfolding give_of
+judges-give : (word : List ℕ) (args : List (List ℕ)) → Judges (form_faults (Some (keyword ∷ tray ∷ [])) (word ∷ args)) (read_give args)
+unfolding read_give
 judges-give word args = judges-one (keyword ∷ []) (word ∷ []) refl tray args _ (λ a. judges-tray a _ _ (λ t. judges-end _))
 
-judges-join : (word : List ℕ) (args : List (List ℕ)) → Judges (form_faults (Some (keyword ∷ tray ∷ tray ∷ [])) (word ∷ args)) (join_of args)
-unfolding join_of
+judges-join : (word : List ℕ) (args : List (List ℕ)) → Judges (form_faults (Some (keyword ∷ tray ∷ tray ∷ [])) (word ∷ args)) (read_join args)
+unfolding read_join
 judges-join word args = judges-two (keyword ∷ []) (word ∷ []) refl tray tray args _ (λ a b.
     judges-tray a _ _ (λ t. judges-tray b _ _ (λ u. judges-end _)))
 

@@ -35,7 +35,7 @@ use Rattle.rh_syntax.specs.declared.request.Request.{Request}
 use Rattle.rh_syntax.specs.declared.request.Request.TheVariants as requests
 use Rattle.rh_syntax.specs.TrayName.{tray_name_of, IsTrayName}
 use Rattle.rh_syntax.specs.Spelling.{Script, operand_text, kind_text, command_parts, command_text, request_parts, header_parts, spell_request, spell_header, spelling, OperandFits, CommandFits, RequestFits, HeaderFits, IsScript}
-use Rattle.rh_syntax.specs.Reading.{number_or_fault, integer_or_fault, root_or_fault, operand_or_fault, tray_or_fault, kind_or_fault, alloc_of, load_of, store_of, copy_of, same_of, drop_of, command_or_fault, owned_command, single_command, alone, shade_of, deal_of, give_of, join_of, keyword_request, request_of_parts, sizes_of, header_of_parts, checked_parts, fault_at, request_or_kind, header_or_kind, request_or_fault, header_or_fault, requests_from, script_or_fault, trace_of, Gives}
+use Rattle.rh_syntax.specs.Reading.{number_or_fault, integer_or_fault, root_or_fault, operand_or_fault, tray_or_fault, kind_or_fault, read_alloc, read_load, read_store, read_copy, read_same, read_drop, command_or_fault, owned_command, single_command, alone, read_shade, read_deal, read_give, read_join, keyword_request, request_of_parts, sizes_of, header_of_parts, checked_parts, fault_at, request_or_kind, header_or_kind, request_or_fault, header_or_fault, requests_from, script_or_fault, trace_of, Gives}
 use Rattle.rh_syntax.specs.lemmas.LinesInTurn.{number_within}
 use Rattle.rh_syntax.specs.lemmas.TrayNames.{name-from_read}
 
@@ -112,9 +112,9 @@ args_3 a b c x y z args e p q r = cc
 after_owner : (owner o word : List ℕ) (args xs : List (List ℕ)) → owner ≡ o → args ≡ xs → owner ∷ word ∷ args ≡ o ∷ word ∷ xs
 after_owner owner o word args xs e p = cc
 
-alloc_of-means : (owner : List ℕ) (args : List (List ℕ)) (owned : ℕ × Command) → alloc_of owner args ≡ Ok owned → Reads (owner ∷ codes "alloc" ∷ args) owned
-unfolding alloc_of
-alloc_of-means owner args owned e =
+read_alloc-means : (owner : List ℕ) (args : List (List ℕ)) (owned : ℕ × Command) → read_alloc owner args ≡ Ok owned → Reads (owner ∷ codes "alloc" ∷ args) owned
+unfolding read_alloc
+read_alloc-means owner args owned e =
     let a = bind_ok (or_fault (two_parts args) Form) (λ parts. number_or_fault owner >>= λ o. root_or_fault parts.0 >>= λ d. number_or_fault parts.1 >>= λ f. Ok (o, Alloc d f)) owned e in
     let b = bind_ok (number_or_fault owner) (λ o. root_or_fault a.0.0 >>= λ d. number_or_fault a.0.1 >>= λ f. Ok (o, Alloc d f)) owned a.2 in
     let c = bind_ok (root_or_fault a.0.0) (λ d. number_or_fault a.0.1 >>= λ f. Ok (b.0, Alloc d f)) owned b.2 in
@@ -126,9 +126,9 @@ alloc_of-means owner args owned e =
     let whole : owner ∷ codes "alloc" ∷ args ≡ command_parts b.0 (Alloc c.0 d.0) = after_owner owner (decimal b.0) (codes "alloc") args (root_text c.0 ∷ decimal d.0 ∷ []) owner_is.0 (args_2 a.0.0 a.0.1 (root_text c.0) (decimal d.0) args args_are dst_is.0 fields_is.0) in
     subst (Reads (owner ∷ codes "alloc" ∷ args)) (ok_is (b.0, Alloc c.0 d.0) owned d.2) (whole, (owner_is.1, dst_is.1, fields_is.1))
 
-load_of-means : (owner : List ℕ) (args : List (List ℕ)) (owned : ℕ × Command) → load_of owner args ≡ Ok owned → Reads (owner ∷ codes "load" ∷ args) owned
-unfolding load_of
-load_of-means owner args owned e =
+read_load-means : (owner : List ℕ) (args : List (List ℕ)) (owned : ℕ × Command) → read_load owner args ≡ Ok owned → Reads (owner ∷ codes "load" ∷ args) owned
+unfolding read_load
+read_load-means owner args owned e =
     let a = bind_ok (or_fault (three_parts args) Form) (λ parts. number_or_fault owner >>= λ o. root_or_fault parts.0 >>= λ d. root_or_fault parts.1 >>= λ s. number_or_fault parts.2 >>= λ f. Ok (o, Load d s f)) owned e in
     let b = bind_ok (number_or_fault owner) (λ o. root_or_fault a.0.0 >>= λ d. root_or_fault a.0.1 >>= λ s. number_or_fault a.0.2 >>= λ f. Ok (o, Load d s f)) owned a.2 in
     let c = bind_ok (root_or_fault a.0.0) (λ d. root_or_fault a.0.1 >>= λ s. number_or_fault a.0.2 >>= λ f. Ok (b.0, Load d s f)) owned b.2 in
@@ -142,9 +142,9 @@ load_of-means owner args owned e =
     let whole : owner ∷ codes "load" ∷ args ≡ command_parts b.0 (Load c.0 d.0 f.0) = after_owner owner (decimal b.0) (codes "load") args (root_text c.0 ∷ root_text d.0 ∷ decimal f.0 ∷ []) owner_is.0 (args_3 a.0.0 a.0.1 a.0.2 (root_text c.0) (root_text d.0) (decimal f.0) args args_are dst_is.0 src_is.0 field_is.0) in
     subst (Reads (owner ∷ codes "load" ∷ args)) (ok_is (b.0, Load c.0 d.0 f.0) owned f.2) (whole, (owner_is.1, dst_is.1, src_is.1, field_is.1))
 
-store_of-means : (owner : List ℕ) (args : List (List ℕ)) (owned : ℕ × Command) → store_of owner args ≡ Ok owned → Reads (owner ∷ codes "store" ∷ args) owned
-unfolding store_of
-store_of-means owner args owned e =
+read_store-means : (owner : List ℕ) (args : List (List ℕ)) (owned : ℕ × Command) → read_store owner args ≡ Ok owned → Reads (owner ∷ codes "store" ∷ args) owned
+unfolding read_store
+read_store-means owner args owned e =
     let a = bind_ok (or_fault (three_parts args) Form) (λ parts. number_or_fault owner >>= λ o. root_or_fault parts.0 >>= λ d. number_or_fault parts.1 >>= λ f. operand_or_fault parts.2 >>= λ x. Ok (o, Store d f x)) owned e in
     let b = bind_ok (number_or_fault owner) (λ o. root_or_fault a.0.0 >>= λ d. number_or_fault a.0.1 >>= λ f. operand_or_fault a.0.2 >>= λ x. Ok (o, Store d f x)) owned a.2 in
     let c = bind_ok (root_or_fault a.0.0) (λ d. number_or_fault a.0.1 >>= λ f. operand_or_fault a.0.2 >>= λ x. Ok (b.0, Store d f x)) owned b.2 in
@@ -158,9 +158,9 @@ store_of-means owner args owned e =
     let whole : owner ∷ codes "store" ∷ args ≡ command_parts b.0 (Store c.0 d.0 f.0) = after_owner owner (decimal b.0) (codes "store") args (root_text c.0 ∷ decimal d.0 ∷ operand_text f.0 ∷ []) owner_is.0 (args_3 a.0.0 a.0.1 a.0.2 (root_text c.0) (decimal d.0) (operand_text f.0) args args_are obj_is.0 field_is.0 operand_is.0) in
     subst (Reads (owner ∷ codes "store" ∷ args)) (ok_is (b.0, Store c.0 d.0 f.0) owned f.2) (whole, (owner_is.1, obj_is.1, field_is.1, operand_is.1))
 
-copy_of-means : (owner : List ℕ) (args : List (List ℕ)) (owned : ℕ × Command) → copy_of owner args ≡ Ok owned → Reads (owner ∷ codes "copy" ∷ args) owned
-unfolding copy_of
-copy_of-means owner args owned e =
+read_copy-means : (owner : List ℕ) (args : List (List ℕ)) (owned : ℕ × Command) → read_copy owner args ≡ Ok owned → Reads (owner ∷ codes "copy" ∷ args) owned
+unfolding read_copy
+read_copy-means owner args owned e =
     let a = bind_ok (or_fault (two_parts args) Form) (λ parts. number_or_fault owner >>= λ o. root_or_fault parts.0 >>= λ d. root_or_fault parts.1 >>= λ s. Ok (o, Copy d s)) owned e in
     let b = bind_ok (number_or_fault owner) (λ o. root_or_fault a.0.0 >>= λ d. root_or_fault a.0.1 >>= λ s. Ok (o, Copy d s)) owned a.2 in
     let c = bind_ok (root_or_fault a.0.0) (λ d. root_or_fault a.0.1 >>= λ s. Ok (b.0, Copy d s)) owned b.2 in
@@ -172,9 +172,9 @@ copy_of-means owner args owned e =
     let whole : owner ∷ codes "copy" ∷ args ≡ command_parts b.0 (Copy c.0 d.0) = after_owner owner (decimal b.0) (codes "copy") args (root_text c.0 ∷ root_text d.0 ∷ []) owner_is.0 (args_2 a.0.0 a.0.1 (root_text c.0) (root_text d.0) args args_are dst_is.0 src_is.0) in
     subst (Reads (owner ∷ codes "copy" ∷ args)) (ok_is (b.0, Copy c.0 d.0) owned d.2) (whole, (owner_is.1, dst_is.1, src_is.1))
 
-same_of-means : (owner : List ℕ) (args : List (List ℕ)) (owned : ℕ × Command) → same_of owner args ≡ Ok owned → Reads (owner ∷ codes "same" ∷ args) owned
-unfolding same_of
-same_of-means owner args owned e =
+read_same-means : (owner : List ℕ) (args : List (List ℕ)) (owned : ℕ × Command) → read_same owner args ≡ Ok owned → Reads (owner ∷ codes "same" ∷ args) owned
+unfolding read_same
+read_same-means owner args owned e =
     let a = bind_ok (or_fault (two_parts args) Form) (λ parts. number_or_fault owner >>= λ o. root_or_fault parts.0 >>= λ l. root_or_fault parts.1 >>= λ r. Ok (o, Same l r)) owned e in
     let b = bind_ok (number_or_fault owner) (λ o. root_or_fault a.0.0 >>= λ l. root_or_fault a.0.1 >>= λ r. Ok (o, Same l r)) owned a.2 in
     let c = bind_ok (root_or_fault a.0.0) (λ l. root_or_fault a.0.1 >>= λ r. Ok (b.0, Same l r)) owned b.2 in
@@ -186,9 +186,9 @@ same_of-means owner args owned e =
     let whole : owner ∷ codes "same" ∷ args ≡ command_parts b.0 (Same c.0 d.0) = after_owner owner (decimal b.0) (codes "same") args (root_text c.0 ∷ root_text d.0 ∷ []) owner_is.0 (args_2 a.0.0 a.0.1 (root_text c.0) (root_text d.0) args args_are one_is.0 other_is.0) in
     subst (Reads (owner ∷ codes "same" ∷ args)) (ok_is (b.0, Same c.0 d.0) owned d.2) (whole, (owner_is.1, one_is.1, other_is.1))
 
-drop_of-means : (owner : List ℕ) (args : List (List ℕ)) (owned : ℕ × Command) → drop_of owner args ≡ Ok owned → Reads (owner ∷ codes "drop" ∷ args) owned
-unfolding drop_of
-drop_of-means owner args owned e =
+read_drop-means : (owner : List ℕ) (args : List (List ℕ)) (owned : ℕ × Command) → read_drop owner args ≡ Ok owned → Reads (owner ∷ codes "drop" ∷ args) owned
+unfolding read_drop
+read_drop-means owner args owned e =
     let a = bind_ok (or_fault (one_part args) Form) (λ part. number_or_fault owner >>= λ o. root_or_fault part >>= λ r. Ok (o, Drop r)) owned e in
     let b = bind_ok (number_or_fault owner) (λ o. root_or_fault a.0 >>= λ r. Ok (o, Drop r)) owned a.2 in
     let c = bind_ok (root_or_fault a.0) (λ r. Ok (b.0, Drop r)) owned b.2 in
@@ -202,18 +202,18 @@ command_or_fault-means : (owner : List ℕ) (rest : List (List ℕ)) (owned : �
 unfolding command_or_fault
 command_or_fault-means owner [] owned e = absurd cc
 command_or_fault-means owner (keyword ∷ args) owned e =
-    let drops : Result (ℕ × Command) Kind = cond (bytes_eq keyword (codes "drop")) (drop_of owner args) (Err Word) in
-    let sames : Result (ℕ × Command) Kind = cond (bytes_eq keyword (codes "same")) (same_of owner args) drops in
-    let copies : Result (ℕ × Command) Kind = cond (bytes_eq keyword (codes "copy")) (copy_of owner args) sames in
-    let stores : Result (ℕ × Command) Kind = cond (bytes_eq keyword (codes "store")) (store_of owner args) copies in
-    let loads : Result (ℕ × Command) Kind = cond (bytes_eq keyword (codes "load")) (load_of owner args) stores in
+    let drops : Result (ℕ × Command) Kind = cond (bytes_eq keyword (codes "drop")) (read_drop owner args) (Err Word) in
+    let sames : Result (ℕ × Command) Kind = cond (bytes_eq keyword (codes "same")) (read_same owner args) drops in
+    let copies : Result (ℕ × Command) Kind = cond (bytes_eq keyword (codes "copy")) (read_copy owner args) sames in
+    let stores : Result (ℕ × Command) Kind = cond (bytes_eq keyword (codes "store")) (read_store owner args) copies in
+    let loads : Result (ℕ × Command) Kind = cond (bytes_eq keyword (codes "load")) (read_load owner args) stores in
     let says : List ℕ → ℕ × Command → Type 0 = λ w x. Reads (owner ∷ w ∷ args) x in
-    by_keyword says keyword (codes "alloc") (alloc_of owner args) loads owned (alloc_of-means owner args owned)
-    (by_keyword says keyword (codes "load") (load_of owner args) stores owned (load_of-means owner args owned)
-    (by_keyword says keyword (codes "store") (store_of owner args) copies owned (store_of-means owner args owned)
-    (by_keyword says keyword (codes "copy") (copy_of owner args) sames owned (copy_of-means owner args owned)
-    (by_keyword says keyword (codes "same") (same_of owner args) drops owned (same_of-means owner args owned)
-    (by_keyword says keyword (codes "drop") (drop_of owner args) (Err Word) owned (drop_of-means owner args owned) (λ no. absurd cc)))))) e
+    by_keyword says keyword (codes "alloc") (read_alloc owner args) loads owned (read_alloc-means owner args owned)
+    (by_keyword says keyword (codes "load") (read_load owner args) stores owned (read_load-means owner args owned)
+    (by_keyword says keyword (codes "store") (read_store owner args) copies owned (read_store-means owner args owned)
+    (by_keyword says keyword (codes "copy") (read_copy owner args) sames owned (read_copy-means owner args owned)
+    (by_keyword says keyword (codes "same") (read_same owner args) drops owned (read_same-means owner args owned)
+    (by_keyword says keyword (codes "drop") (read_drop owner args) (Err Word) owned (read_drop-means owner args owned) (λ no. absurd cc)))))) e
 
 pub owned_command-means : (parts : List (List ℕ)) (owned : ℕ × Command) → owned_command parts ≡ Ok owned → Reads parts owned
 unfolding owned_command
@@ -299,9 +299,9 @@ alone-means : (word : List ℕ) (args : List (List ℕ)) (this request : Request
 alone-means word [] this request reads e = subst (ReadsRequest (word ∷ [])) (ok_is this request e) reads
 alone-means word (a ∷ args) this request reads e = absurd cc
 
-shade_of-means : (args : List (List ℕ)) (request : Request) → shade_of args ≡ Ok request → ReadsRequest (codes "shade" ∷ args) request
-unfolding shade_of
-shade_of-means args request e =
+read_shade-means : (args : List (List ℕ)) (request : Request) → read_shade args ≡ Ok request → ReadsRequest (codes "shade" ∷ args) request
+unfolding read_shade
+read_shade-means args request e =
     let a = bind_ok (or_fault (one_part args) Form) (λ part. root_or_fault part >>= λ r. Ok (requests.Shade r)) request e in
     let b = bind_ok (root_or_fault a.0) (λ r. Ok (requests.Shade r)) request a.2 in
     let args_are = one_part-means args a.0 (or_fault_ok (one_part args) Form a.0 a.1) in
@@ -309,9 +309,9 @@ shade_of-means args request e =
     let whole : codes "shade" ∷ args ≡ request_parts (requests.Shade b.0) = ap (λ (ps : List (List ℕ)). codes "shade" ∷ ps) (args_1 a.0 (root_text b.0) args args_are root_is.0) in
     subst (ReadsRequest (codes "shade" ∷ args)) (ok_is (requests.Shade b.0) request b.2) (whole, root_is.1)
 
-deal_of-means : (args : List (List ℕ)) (request : Request) → deal_of args ≡ Ok request → ReadsRequest (codes "deal" ∷ args) request
-unfolding deal_of
-deal_of-means args request e =
+read_deal-means : (args : List (List ℕ)) (request : Request) → read_deal args ≡ Ok request → ReadsRequest (codes "deal" ∷ args) request
+unfolding read_deal
+read_deal-means args request e =
     let a = bind_ok (or_fault (three_parts args) Form) (λ parts. kind_or_fault parts.0 >>= λ k. number_or_fault parts.1 >>= λ m. tray_or_fault parts.2 >>= λ t. Ok (requests.Deal k m t)) request e in
     let b = bind_ok (kind_or_fault a.0.0) (λ k. number_or_fault a.0.1 >>= λ m. tray_or_fault a.0.2 >>= λ t. Ok (requests.Deal k m t)) request a.2 in
     let c = bind_ok (number_or_fault a.0.1) (λ m. tray_or_fault a.0.2 >>= λ t. Ok (requests.Deal b.0 m t)) request b.2 in
@@ -323,9 +323,9 @@ deal_of-means args request e =
     let whole : codes "deal" ∷ args ≡ request_parts (requests.Deal b.0 c.0 d.0) = ap (λ (ps : List (List ℕ)). codes "deal" ∷ ps) (args_3 a.0.0 a.0.1 a.0.2 (kind_text b.0) (decimal c.0) d.0 args args_are kind_is most_is.0 tray_is.0) in
     subst (ReadsRequest (codes "deal" ∷ args)) (ok_is (requests.Deal b.0 c.0 d.0) request d.2) (whole, (most_is.1, tray_is.1))
 
-give_of-means : (args : List (List ℕ)) (request : Request) → give_of args ≡ Ok request → ReadsRequest (codes "give" ∷ args) request
-unfolding give_of
-give_of-means args request e =
+read_give-means : (args : List (List ℕ)) (request : Request) → read_give args ≡ Ok request → ReadsRequest (codes "give" ∷ args) request
+unfolding read_give
+read_give-means args request e =
     let a = bind_ok (or_fault (one_part args) Form) (λ part. tray_or_fault part >>= λ t. Ok (requests.Give t)) request e in
     let b = bind_ok (tray_or_fault a.0) (λ t. Ok (requests.Give t)) request a.2 in
     let args_are = one_part-means args a.0 (or_fault_ok (one_part args) Form a.0 a.1) in
@@ -333,9 +333,9 @@ give_of-means args request e =
     let whole : codes "give" ∷ args ≡ request_parts (requests.Give b.0) = ap (λ (ps : List (List ℕ)). codes "give" ∷ ps) (args_1 a.0 b.0 args args_are tray_is.0) in
     subst (ReadsRequest (codes "give" ∷ args)) (ok_is (requests.Give b.0) request b.2) (whole, tray_is.1)
 
-join_of-means : (args : List (List ℕ)) (request : Request) → join_of args ≡ Ok request → ReadsRequest (codes "join" ∷ args) request
-unfolding join_of
-join_of-means args request e =
+read_join-means : (args : List (List ℕ)) (request : Request) → read_join args ≡ Ok request → ReadsRequest (codes "join" ∷ args) request
+unfolding read_join
+read_join-means args request e =
     let a = bind_ok (or_fault (two_parts args) Form) (λ parts. tray_or_fault parts.0 >>= λ i. tray_or_fault parts.1 >>= λ o. Ok (requests.Join i o)) request e in
     let b = bind_ok (tray_or_fault a.0.0) (λ i. tray_or_fault a.0.1 >>= λ o. Ok (requests.Join i o)) request a.2 in
     let c = bind_ok (tray_or_fault a.0.1) (λ o. Ok (requests.Join b.0 o)) request b.2 in
@@ -352,16 +352,16 @@ keyword_request-means word args request e =
     let stats : Result Request Kind = cond (bytes_eq word (codes "stat")) (alone args requests.Stat) dumps in
     let trays : Result Request Kind = cond (bytes_eq word (codes "trays")) (alone args requests.Trays) stats in
     let flips : Result Request Kind = cond (bytes_eq word (codes "flip")) (alone args requests.Flip) trays in
-    let joins : Result Request Kind = cond (bytes_eq word (codes "join")) (join_of args) flips in
-    let gives : Result Request Kind = cond (bytes_eq word (codes "give")) (give_of args) joins in
-    let deals : Result Request Kind = cond (bytes_eq word (codes "deal")) (deal_of args) gives in
-    let shades : Result Request Kind = cond (bytes_eq word (codes "shade")) (shade_of args) deals in
+    let joins : Result Request Kind = cond (bytes_eq word (codes "join")) (read_join args) flips in
+    let gives : Result Request Kind = cond (bytes_eq word (codes "give")) (read_give args) joins in
+    let deals : Result Request Kind = cond (bytes_eq word (codes "deal")) (read_deal args) gives in
+    let shades : Result Request Kind = cond (bytes_eq word (codes "shade")) (read_shade args) deals in
     let says : List ℕ → Request → Type 0 = λ w l. ReadsRequest (w ∷ args) l in
     by_keyword says word (codes "begin") (alone args requests.Begin) shades request (alone-means (codes "begin") args requests.Begin request (refl, tt))
-    (by_keyword says word (codes "shade") (shade_of args) deals request (shade_of-means args request)
-    (by_keyword says word (codes "deal") (deal_of args) gives request (deal_of-means args request)
-    (by_keyword says word (codes "give") (give_of args) joins request (give_of-means args request)
-    (by_keyword says word (codes "join") (join_of args) flips request (join_of-means args request)
+    (by_keyword says word (codes "shade") (read_shade args) deals request (read_shade-means args request)
+    (by_keyword says word (codes "deal") (read_deal args) gives request (read_deal-means args request)
+    (by_keyword says word (codes "give") (read_give args) joins request (read_give-means args request)
+    (by_keyword says word (codes "join") (read_join args) flips request (read_join-means args request)
     (by_keyword says word (codes "flip") (alone args requests.Flip) trays request (alone-means (codes "flip") args requests.Flip request (refl, tt))
     (by_keyword says word (codes "trays") (alone args requests.Trays) stats request (alone-means (codes "trays") args requests.Trays request (refl, tt))
     (by_keyword says word (codes "stat") (alone args requests.Stat) dumps request (alone-means (codes "stat") args requests.Stat request (refl, tt))

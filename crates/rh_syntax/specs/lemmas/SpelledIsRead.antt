@@ -31,7 +31,7 @@ use Rattle.rh_syntax.specs.declared.request.Request.{Request}
 use Rattle.rh_syntax.specs.declared.request.Request.TheVariants as requests
 use Rattle.rh_syntax.specs.TrayName.{IsNameByte, IsTrayName}
 use Rattle.rh_syntax.specs.Spelling.{Script, operand_text, kind_text, command_parts, command_text, request_parts, header_parts, spell_request, spelling, OperandFits, CommandFits, RequestFits, HeaderFits, IsScript}
-use Rattle.rh_syntax.specs.Reading.{number_or_fault, integer_or_fault, root_or_fault, operand_or_fault, tray_or_fault, kind_or_fault, alloc_of, load_of, store_of, copy_of, same_of, drop_of, command_or_fault, owned_command, single_command, shade_of, deal_of, give_of, join_of, keyword_request, request_of_parts, sizes_of, header_of_parts, checked_parts, fault_at, request_or_kind, header_or_kind, request_or_fault, header_or_fault, requests_from, script_or_fault, trace_of}
+use Rattle.rh_syntax.specs.Reading.{number_or_fault, integer_or_fault, root_or_fault, operand_or_fault, tray_or_fault, kind_or_fault, read_alloc, read_load, read_store, read_copy, read_same, read_drop, command_or_fault, owned_command, single_command, read_shade, read_deal, read_give, read_join, keyword_request, request_of_parts, sizes_of, header_of_parts, checked_parts, fault_at, request_or_kind, header_or_kind, request_or_fault, header_or_fault, requests_from, script_or_fault, trace_of}
 use Rattle.rh_syntax.specs.lemmas.TrayNames.{read-from_name}
 
 -- ---- what the parts of a spelled line are like
@@ -147,27 +147,27 @@ owned_command-decimal owner rest small =
     ap (λ (t : Bool). cond t (command_or_fault (decimal owner) rest) (Err Word)) (starts_with_digit (decimal owner) (filled-decimal owner small) (decimal_digits owner small))
 
 alloc-read : (owner : ℕ) (dst : RootId) (fields : ℕ) → CommandFits owner (Alloc dst fields) → command_or_fault (decimal owner) (codes "alloc" ∷ root_text dst ∷ decimal fields ∷ []) ≡ Ok (owner, Alloc dst fields)
-unfolding command_or_fault alloc_of two_parts
+unfolding command_or_fault read_alloc two_parts
 alloc-read owner dst fields fits = rw (number_or_fault-decimal owner fits.0, root_or_fault-text dst fits.1, number_or_fault-decimal fields fits.2) refl
 
 load-read : (owner : ℕ) (dst src : RootId) (field : ℕ) → CommandFits owner (Load dst src field) → command_or_fault (decimal owner) (codes "load" ∷ root_text dst ∷ root_text src ∷ decimal field ∷ []) ≡ Ok (owner, Load dst src field)
-unfolding command_or_fault load_of three_parts
+unfolding command_or_fault read_load three_parts
 load-read owner dst src field fits = rw (number_or_fault-decimal owner fits.0, root_or_fault-text dst fits.1, root_or_fault-text src fits.2, number_or_fault-decimal field fits.3) refl
 
 store-read : (owner : ℕ) (obj : RootId) (field : ℕ) (operand : Operand) → CommandFits owner (Store obj field operand) → command_or_fault (decimal owner) (codes "store" ∷ root_text obj ∷ decimal field ∷ operand_text operand ∷ []) ≡ Ok (owner, Store obj field operand)
-unfolding command_or_fault store_of three_parts
+unfolding command_or_fault read_store three_parts
 store-read owner obj field operand fits = rw (number_or_fault-decimal owner fits.0, root_or_fault-text obj fits.1, number_or_fault-decimal field fits.2, operand_or_fault-text operand fits.3) refl
 
 copy-read : (owner : ℕ) (dst src : RootId) → CommandFits owner (Copy dst src) → command_or_fault (decimal owner) (codes "copy" ∷ root_text dst ∷ root_text src ∷ []) ≡ Ok (owner, Copy dst src)
-unfolding command_or_fault copy_of two_parts
+unfolding command_or_fault read_copy two_parts
 copy-read owner dst src fits = rw (number_or_fault-decimal owner fits.0, root_or_fault-text dst fits.1, root_or_fault-text src fits.2) refl
 
 same-read : (owner : ℕ) (a b : RootId) → CommandFits owner (Same a b) → command_or_fault (decimal owner) (codes "same" ∷ root_text a ∷ root_text b ∷ []) ≡ Ok (owner, Same a b)
-unfolding command_or_fault same_of two_parts
+unfolding command_or_fault read_same two_parts
 same-read owner a b fits = rw (number_or_fault-decimal owner fits.0, root_or_fault-text a fits.1, root_or_fault-text b fits.2) refl
 
 drop-read : (owner : ℕ) (root : RootId) → CommandFits owner (Drop root) → command_or_fault (decimal owner) (codes "drop" ∷ root_text root ∷ []) ≡ Ok (owner, Drop root)
-unfolding command_or_fault drop_of one_part
+unfolding command_or_fault read_drop one_part
 drop-read owner root fits = rw (number_or_fault-decimal owner fits.0, root_or_fault-text root fits.1) refl
 
 -- the parts of a command line are parts, and the command is read from them
@@ -259,19 +259,19 @@ unfolding request_of_parts keyword_request
 begin-read = refl
 
 shade-read : (root : RootId) → RootFits root → request_of_parts (codes "shade" ∷ root_text root ∷ []) ≡ Ok (requests.Shade root)
-unfolding request_of_parts keyword_request shade_of one_part
+unfolding request_of_parts keyword_request read_shade one_part
 shade-read root fits = rw (root_or_fault-text root fits) refl
 
 deal-read : (kind : pieces.Kind) (most : ℕ) (tray : List ℕ) → IsU32 most → IsTrayName tray → request_of_parts (codes "deal" ∷ kind_text kind ∷ decimal most ∷ tray ∷ []) ≡ Ok (requests.Deal kind most tray)
-unfolding request_of_parts keyword_request deal_of three_parts
+unfolding request_of_parts keyword_request read_deal three_parts
 deal-read kind most tray small name = rw (kind_or_fault-text kind, number_or_fault-decimal most small, tray_or_fault-name tray name) refl
 
 give-read : (tray : List ℕ) → IsTrayName tray → request_of_parts (codes "give" ∷ tray ∷ []) ≡ Ok (requests.Give tray)
-unfolding request_of_parts keyword_request give_of one_part
+unfolding request_of_parts keyword_request read_give one_part
 give-read tray name = rw (tray_or_fault-name tray name) refl
 
 join-read : (into other : List ℕ) → IsTrayName into → IsTrayName other → request_of_parts (codes "join" ∷ into ∷ other ∷ []) ≡ Ok (requests.Join into other)
-unfolding request_of_parts keyword_request join_of two_parts
+unfolding request_of_parts keyword_request read_join two_parts
 join-read into other name second = rw (tray_or_fault-name into name, tray_or_fault-name other second) refl
 
 flip-read : request_of_parts (codes "flip" ∷ []) ≡ Ok requests.Flip

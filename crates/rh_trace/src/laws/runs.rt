@@ -1,7 +1,7 @@
 //! Laws of the requests of a trace, run one after the other.
 
 ghost use Rattle.std.specs.Prelude.{◌≡◌, ℕ, ◌^◌, List, [], Some};
-ghost use Rattle.rh_layout.specs.declared.kind.Kind.{Kind as KindOf};
+ghost use Rattle.rh_layout.specs.declared.kind.Kind.{Kind as PieceKind};
 ghost use Rattle.rh_core.specs.Giving.{HaveDistinctPlaces};
 ghost use Rattle.rh_core.specs.Heap.{new_heap};
 ghost use Rattle.rh_core.specs.runs.Run.{answers_of, heap_after};
@@ -19,10 +19,10 @@ ghost use Rattle.rh_syntax.specs.declared.request.Request.TheVariants as forms;
 
 use std::alloc::Allocator;
 
-/// The heap after the requests of a trace is the heap after the events that they are to it, and what
-/// is answered to such a request is what the heap answers to its event. So what is promised of every
-/// run of events holds of every trace, and a promise that asks of a replica that no two of its
-/// entries are of one place holds too: see [`the_trays_of_a_trace_stand_in_order`].
+/// The heap after the requests of a trace is the heap after the events that they are to it, and
+/// what is answered to such a request is what the heap answers to its event. So what is promised of
+/// every run of events holds of every trace, and a promise that asks of a replica that no two of
+/// its entries are of one place holds too: see [`the_trays_of_a_trace_stand_in_order`].
 pub fn the_lines_of_a_trace_are_events<A: Allocator + Copy>()
     ensures heap { (e : EngineState) (requests : List RequestOf)
         → (engine_after e requests).heap
@@ -50,7 +50,7 @@ pub fn a_trace_has_the_heap_of_its_first_line()
 /// A deal, a give and a join are the steps of the engine on the trays that they name, of which the
 /// laws of trays tell.
 pub fn lines_of_trays_are_their_steps()
-    ensures dealt { (e : EngineState) (kind : KindOf) (most : ℕ) (tray : List ℕ)
+    ensures dealt { (e : EngineState) (kind : PieceKind) (most : ℕ) (tray : List ℕ)
         → request_step e (forms.Deal kind most tray) ≡ (
           (deal_line_step e kind most tray).0,
           answers.Deal (deal_line_step e kind most tray).1,
@@ -67,9 +67,9 @@ pub fn lines_of_trays_are_their_steps()
         ) }
 {}
 
-/// A request leaves the trays as they are, unless it is a deal or a join, and a join leaves the heap.
-/// A listing is answered the trays, a `stat` the numbers of the heap and a `dump` its dump, and
-/// they change nothing.
+/// A request leaves the trays as they are, unless it is a deal or a join, and a join leaves the
+/// heap. A listing is answered the trays, a `stat` the numbers of the heap and a `dump` its dump,
+/// and they change nothing.
 pub fn lines_that_are_no_events_leave_the_heap()
     ensures trays { (e : EngineState) (request : RequestOf) → (MayChangeTrays request → ⊥)
         → (request_step e request).0.trays ≡ e.trays }

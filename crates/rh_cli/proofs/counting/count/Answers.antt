@@ -1,4 +1,3 @@
-use Rattle.std.proofs.Common.{ℕ, List}
 use Rattle.rh_cli.proofs.Counted.{known_so, fault_read, uncounted_fault, uncounted_read, uncounted_memory}
 use Rattle.rh_cli.proofs.Inputs.{any_input}
 use Rattle.rh_cli.proofs.counting.count.Goals as goal

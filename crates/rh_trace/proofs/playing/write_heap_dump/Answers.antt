@@ -12,13 +12,13 @@ returns-in_err-graph-clause-written g c =
     let p = err_from_is_err_and c.from_residual.result c.from_residual.ensures.1 in
     rw p.1 (nothing_of_dump (g.W.Write.contents c.args.writer.now) (dump_of c.args.heap.now))
 
-pub returns-in_err-write_dump_told-clause-written : goal.returns-in_err-write_dump_told-clause-written
-returns-in_err-write_dump_told-clause-written g c =
+pub returns-in_err-write_dump_logged-clause-written : goal.returns-in_err-write_dump_logged-clause-written
+returns-in_err-write_dump_logged-clause-written g c =
     let known = g.W.Write.contents in
-    let p = err_from_is_err_and c.from_residual-in_err-write_dump_told.result c.from_residual-in_err-write_dump_told.ensures.1 in
-    rw p.1 (subst (λ graph. AppendsLess (known c.args.writer.now) (known c.write_dump_told.new.writer) (dump_text graph)) c.in_ok-graph.ensures c.in_err-write_dump_told.ensures.err)
+    let p = err_from_is_err_and c.from_residual-in_err-write_dump_logged.result c.from_residual-in_err-write_dump_logged.ensures.1 in
+    rw p.1 (subst (λ graph. AppendsLess (known c.args.writer.now) (known c.write_dump_logged.new.writer) (dump_text graph)) c.in_ok-graph.ensures c.in_err-write_dump_logged.ensures.err)
 
 pub returns-clause-written : goal.returns-clause-written
 returns-clause-written g c =
     let known = g.W.Write.contents in
-    subst (λ graph. Appends (known c.args.writer.now) (known c.write_dump_told.new.writer) (dump_text graph)) c.in_ok-graph.ensures c.in_ok-write_dump_told.ensures.ok
+    subst (λ graph. Appends (known c.args.writer.now) (known c.write_dump_logged.new.writer) (dump_text graph)) c.in_ok-graph.ensures c.in_ok-write_dump_logged.ensures.ok
