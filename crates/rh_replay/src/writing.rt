@@ -148,7 +148,7 @@ fn put_verdict(text: &mut LineText, verdict: &Verdict)
 }
 
 /// Writes the report on a history that has this verdict: a line for each owner that has calls, in
-/// order, and the line of the verdict, one line in each write that the writer takes whole. IoLog of
+/// order, and the line of the verdict, one line in each write that the writer takes whole. Calls of
 /// owners that the history hasn't got have no line. It takes no memory.
 ///
 /// # Errors
