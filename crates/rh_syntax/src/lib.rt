@@ -3,30 +3,26 @@
 #![tactic(auto)]
 
 mod command_answers;
-mod command_lines;
 mod fault;
-mod header_line;
-mod keyword_lines;
 pub mod laws;
-mod leading_lines;
 mod line;
+mod lines;
 mod printing;
 mod reading;
 mod request;
-mod single_lines;
 mod trace;
 mod tray_name;
 mod values;
 
 pub use command_answers::put_answer_text;
-pub use command_lines::{owned_command, put_command_text};
 pub use fault::{Kind, ParseError, TraceFault};
 pub use line::{Header, Line};
+pub use lines::commands::{owned_command, put_command_text};
+pub use lines::single::{
+    command_of, write_answer, write_answer_logged, write_command, write_command_logged,
+};
 pub use printing::{print, print_logged};
 pub use reading::checked_parts;
 pub use request::Request;
-pub use single_lines::{
-    command_of, write_answer, write_answer_logged, write_command, write_command_logged,
-};
 pub use trace::{Trace, parse};
 pub use tray_name::{TrayName, tray_name_of};

@@ -6,9 +6,9 @@ ghost use Rattle.rh_text.specs.IoLog.{AreSpent};
 ghost use Rattle.rh_text.specs.Output.{AppendsLess};
 ghost use Rattle.rh_syntax.specs.Spelling.{spell_request, spelling};
 
-use crate::command_lines::put_command;
-use crate::header_line::put_header;
-use crate::keyword_lines::{
+use crate::lines::commands::put_command;
+use crate::lines::header::put_header;
+use crate::lines::keywords::{
     put_alone, put_deal_line, put_give_line, put_join_line, put_shade_line,
 };
 use crate::request::Request;

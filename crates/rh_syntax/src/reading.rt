@@ -5,11 +5,11 @@ ghost use Rattle.rh_text.specs.Parts.{parts_left};
 ghost use Rattle.rh_text.specs.Steps.{Shows, with_fault};
 ghost use Rattle.rh_syntax.specs.Reading.{request_of_parts, checked_parts, fault_at, request_or_kind, header_or_kind, request_or_fault, header_or_fault};
 
-use crate::command_lines::command_or_fault;
 use crate::fault::{Kind, TraceFault};
-use crate::header_line::header_of_parts;
-use crate::keyword_lines::keyword_request;
 use crate::line::Header;
+use crate::lines::commands::command_or_fault;
+use crate::lines::header::header_of_parts;
+use crate::lines::keywords::keyword_request;
 use crate::request::Request;
 use rh_layout::limits::{MAX_LINE_BYTES, MAX_LINES};
 use rh_text::{begins_with_digit, is_formed, next_part};

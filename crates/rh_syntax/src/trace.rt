@@ -7,8 +7,8 @@ ghost use Rattle.rh_syntax.specs.Reading.{Gives, requests_from, script_or_fault,
 ghost use Rattle.rh_syntax.specs.Spelling.{Script, IsScript, spelling};
 
 use crate::fault::{Kind, ParseError, TraceFault};
-use crate::leading_lines::leading_command_line;
 use crate::line::{Header, Line};
+use crate::lines::leading::leading_command_line;
 use crate::reading::{header_or_fault, request_or_fault};
 use crate::request::Request;
 use rh_layout::limits::MAX_LINES;

@@ -10,8 +10,8 @@ ghost use Rattle.rh_syntax.specs.Reading.{single_command};
 ghost use Rattle.rh_syntax.specs.Spelling.{command_text, CommandFits};
 
 use crate::command_answers::put_answer_text;
-use crate::command_lines::{owned_command, put_command_text};
 use crate::fault::Kind;
+use crate::lines::commands::{owned_command, put_command_text};
 use rh_layout::{Command, Refusal, Reply};
 use rh_text::{IoLog, LineText, Write, is_formed, send};
 use std::io;

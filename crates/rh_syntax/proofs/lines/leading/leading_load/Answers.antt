@@ -1,6 +1,6 @@
 use Rattle.std.proofs.Common.{arith}
 use Rattle.std.proofs.lemmas.Grind.{common_steps}
-use Rattle.rh_syntax.proofs.leading_lines.leading_load.Goals as goal
+use Rattle.rh_syntax.proofs.lines.leading.leading_load.Goals as goal
 
 pub returns : goal.returns
 returns c = grind (arith, common_steps)

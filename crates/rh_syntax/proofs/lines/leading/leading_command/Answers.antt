@@ -1,4 +1,4 @@
-use Rattle.rh_syntax.proofs.leading_lines.leading_command.Goals as goal
+use Rattle.rh_syntax.proofs.lines.leading.leading_command.Goals as goal
 
 pub returns-in-Some : goal.returns-in-Some
 returns-in-Some c = rw c.in-Some.ensures c.leading_alloc.ensures
