@@ -92,10 +92,13 @@ first : {A B : Type 0} → A × B → A
 first both = both.0
 
 -- what a command was answered that wasn't refused for a limit is what the plain heap answers
-plain_done : (answer plain : Result Reply Refusal) → told.Answer (Ok replies.Done) ≡ told.Answer answer → AnswersAs (is_limit_answer answer) answer plain → Ok replies.Done ≡ plain
+plain_done : (answer plain : Result Reply Refusal) → told.Answer (Ok replies.Done) ≡ told.Answer answer → AnswersAs answer plain → Ok replies.Done ≡ plain
 plain_done answer plain is judged =
     let same : answer ≡ Ok replies.Done = cc in
-    subst (λ a. AnswersAs (is_limit_answer a) a plain) same judged
+    elim (subst (λ a. AnswersAs a plain) same judged) [
+      | inl agrees ↦ agrees.1
+      | inr limited ↦ absurd (cc)
+    ]
 
 -- a load that is answered what the field holds is accepted
 read_nil : FollowsMade (Command 1 (Load (root 1) (root 0) 0)) (told.Answer (Ok replies.Nil) ∷ [])

@@ -171,7 +171,7 @@ Ends due (Err faults.OutOfMemory) old new = StopsBeforeTotal due old new
 abbrev pub IsPlainAnswer : PlainHeap → Request → Answered → Type 0
 IsPlainAnswer p (requests.Command owner command) answered =
     (answer : Result Reply Refusal) × (answered ≡ answers.Answer answer)
-    × AnswersAs (is_limit_answer answer) answer (step p owner command).1
+    × AnswersAs answer (step p owner command).1
 IsPlainAnswer p requests.Begin answered =
     (answer : Result ℕ BeginError) × (answered ≡ answers.Begin answer)
 IsPlainAnswer p (requests.Shade root) answered =
