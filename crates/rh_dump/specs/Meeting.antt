@@ -39,7 +39,7 @@ flat_after g n = record {
   values = values_after g n;
 }
 
--- the number at each place of the list stands at its name
+-- the number at each position of the list stands at its name
 abbrev pub IsIndexOf : List ℕ → List ℕ → Type 0
 IsIndexOf numbers names = (k a : ℕ) → slice_get names k ≡ Some a → slice_get numbers a ≡ Some k
 

@@ -39,7 +39,7 @@ abbrev pub with_name : List ℕ → ℕ → List ℕ
 with_name [] a = a ∷ []
 with_name (b ∷ bs) a = if a == b then b ∷ bs else b ∷ with_name bs a
 
--- the names once a value is met: what it refers to takes the next place
+-- the names once a value is met: what it refers to takes the next position
 abbrev pub with_value : List ℕ → Value → List ℕ
 with_value names Nil = names
 with_value names (Int n) = names
@@ -61,13 +61,13 @@ values_at g None = []
 values_at g (Some a) = values_in (g.fields a)
 
 -- The names of the objects met, in order of first meeting, once the roots were looked at, and then
--- so many objects in order of their numbers: the place of a name is the number of its object.
+-- so many objects in order of their numbers: the position of a name is the number of its object.
 abbrev pub names_after : Graph → ℕ → List ℕ
 names_after g zero = with_values [] (map (λ (root : RootId × Value). root.1) (roots_of g))
 names_after g (suc n) =
     with_values (names_after g n) (values_at g (slice_get (names_after g n) n))
 
--- the number of the object with this name: its place, and how many there are where it has none
+-- the number of the object with this name: its position, and how many there are where it has none
 abbrev pub number_in : List ℕ → ℕ → ℕ
 number_in [] a = 0
 number_in (b ∷ bs) a = if a == b then 0 else suc (number_in bs a)

@@ -97,7 +97,7 @@ module _ (e : EngineState) (kind : Kind) (most : ℕ) (name : List ℕ) where
   heap_by heap (Err error) is kept on few same why h =
       let equal : deal_refusals.Heap error ≡ why = cc in
       let at : (error : DealError) × (why ≡ deal_refusals.Heap error) × ((deal_step e.heap kind most).1 ≡ Err error) = (error, sym equal, is) in (
-        record { place = 3; holds = at; least = λ p k held. subst (λ w. (3 < p) ⊎ ((p ≡ 3) × (k ≡ w))) equal (none_before_3 on few same error is p k held) },
+        record { stage = 3; holds = at; least = λ p k held. subst (λ w. (3 < p) ⊎ ((p ≡ 3) × (k ≡ w))) equal (none_before_3 on few same error is p k held) },
         ap (λ (x : HeapState). record e { heap = x }) (kept error refl),
       )
 
@@ -105,13 +105,13 @@ module _ (e : EngineState) (kind : Kind) (most : ℕ) (name : List ℕ) where
       → (why : DealRefusal) → (line_unless (choice c b t) e kind most name).1 ≡ Err why → IsRefused (line_unless (choice c b t) e kind most name) why
   refused_by false b t on few same why h =
       let equal : why ≡ deal_refusals.Heap deal_errors.NoCycle = cc in
-      (record { place = 0; holds = (equal, on); least = first_at_0 why equal }, refl)
+      (record { stage = 0; holds = (equal, on); least = first_at_0 why equal }, refl)
   refused_by true true t on few same why h =
       let equal : why ≡ deal_refusals.TooManyTrays = cc in
-      (record { place = 1; holds = (equal, too_many_from e name few); least = first_at_1 why equal on }, refl)
+      (record { stage = 1; holds = (equal, too_many_from e name few); least = first_at_1 why equal on }, refl)
   refused_by true false false on few same why h =
       let equal : why ≡ deal_refusals.OtherEpoch = cc in
-      (record { place = 2; holds = (equal, other_by (tray_named e.trays name) refl same); least = first_at_2 why equal on few }, refl)
+      (record { stage = 2; holds = (equal, other_by (tray_named e.trays name) refl same); least = first_at_2 why equal on few }, refl)
   refused_by true false true on few same why h =
       heap_by (deal_step e.heap kind most).0 (deal_step e.heap kind most).1 refl (refused-heap e.heap kind most) on few (eqb-true tray_epoch e.heap.epoch same) why h
 

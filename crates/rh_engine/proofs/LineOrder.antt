@@ -37,13 +37,13 @@ module _ (e : EngineState) (into other : List ℕ) where
       → IsJoinRefused (limited b u) why
   join_by u there true is why h =
       let equal : why ≡ join_refusals.TooManyTrays = cc in
-      (record { place = 1; holds = (equal, too_many_from e into is); least = second_join why equal u there }, refl)
+      (record { stage = 1; holds = (equal, too_many_from e into is); least = second_join why equal u there }, refl)
   join_by u there false is why h = cc
 
   join_found_by : (f : Option Tray) → tray_named e.trays other ≡ f → (why : JoinRefusal) → (join_found f e.trays into).1 ≡ Err why → IsJoinRefused (join_found f e.trays into) why
   join_found_by None is why h =
       let equal : why ≡ join_refusals.NoTray = cc in
-      (record { place = 0; holds = (equal, is); least = first_join why equal }, refl)
+      (record { stage = 0; holds = (equal, is); least = first_join why equal }, refl)
   join_found_by (Some u) is why h = join_by u is (is_beyond e.trays into) refl why h
 
   pub join-refused : (why : JoinRefusal) → (join_line_step e into other).1 ≡ Err why → IsLeast JoinHolds why × ((join_line_step e into other).0 ≡ e)
@@ -91,7 +91,7 @@ module _ (e : EngineState) (name : List ℕ) where
   give_by t there (Err error) is why h =
       let equal : give_refusals.Heap error ≡ why = cc in
       record {
-        place = 1;
+        stage = 1;
         holds = (t, error, there, sym equal, is);
         least = λ p k held. subst (λ w. (1 < p) ⊎ ((p ≡ 1) × (k ≡ w))) equal (second_give t error there is p k held);
       }
@@ -99,7 +99,7 @@ module _ (e : EngineState) (name : List ℕ) where
   give_found_by : (f : Option Tray) → tray_named e.trays name ≡ f → (why : GiveRefusal) → (give_found f e).1 ≡ Err why → IsLeast GiveHolds why
   give_found_by None is why h =
       let equal : why ≡ give_refusals.NoTray = cc in
-      record { place = 0; holds = (equal, is); least = first_give why equal }
+      record { stage = 0; holds = (equal, is); least = first_give why equal }
   give_found_by (Some t) is why h = give_by t is (give_step e.heap (replica_of t)).1 refl why h
 
   pub give-refused : (why : GiveRefusal) → (give_line_step e name).1 ≡ Err why → IsLeast GiveHolds why

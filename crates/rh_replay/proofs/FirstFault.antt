@@ -43,7 +43,7 @@ none_of_line faults none p Answer h = h
 none_of_line faults none p Count h = h
 none_of_line faults none p End h = h
 
-least_of_line : (faults : ℕ → Kind → Type 0) (kind : Kind) (l : IsLeast faults kind) (p : ℕ) (k : HistoryKind) → of_line faults p k → (l.place < p) ⊎ ((p ≡ l.place) × (k ≡ Line kind))
+least_of_line : (faults : ℕ → Kind → Type 0) (kind : Kind) (l : IsLeast faults kind) (p : ℕ) (k : HistoryKind) → of_line faults p k → (l.stage < p) ⊎ ((p ≡ l.stage) × (k ≡ Line kind))
 least_of_line faults kind l p (Line k) h = elim (l.least p k h) [ inl lt ↦ inl lt | inr same ↦ inr (same.0, ap (λ (j : Kind). Line j) same.1) ]
 least_of_line faults kind l p Trailing h = absurd h
 least_of_line faults kind l p Answer h = absurd h
@@ -59,7 +59,7 @@ judges-of_line {A = A} faults (Err kind) judged =
     let l = judged.least kind refl in
     record {
       none = λ y e. absurd (ok_err {A = A} {K = HistoryKind} y (Line kind) (sym e));
-      least = λ k e. subst (IsLeast (of_line faults)) (err_is {A = A} {K = HistoryKind} (Line kind) k e) (record { place = l.place; holds = l.holds; least = least_of_line faults kind l });
+      least = λ k e. subst (IsLeast (of_line faults)) (err_is {A = A} {K = HistoryKind} (Line kind) k e) (record { stage = l.stage; holds = l.holds; least = least_of_line faults kind l });
     }
 
 -- a chain, and then another that is looked at only where none of the first holds
@@ -71,16 +71,16 @@ judges-after {A = A} {B = B} faults later (Ok x) f judged next =
       none = λ y e p k h. elim h [ inl first ↦ none p k first | inr other ↦ rest.none y e p k other.1 ];
       least = λ k e.
           let l = rest.least k e in
-          record { place = l.place; holds = inr (none, l.holds); least = λ p j h. elim h [ inl first ↦ absurd (none p j first) | inr other ↦ l.least p j other.1 ] };
+          record { stage = l.stage; holds = inr (none, l.holds); least = λ p j h. elim h [ inl first ↦ absurd (none p j first) | inr other ↦ l.least p j other.1 ] };
     }
 judges-after {A = A} {B = B} faults later (Err kind) f judged next =
     let l = judged.least kind refl in
     record {
       none = λ y e. absurd (ok_err {A = B} {K = HistoryKind} y kind (sym e));
       least = λ k e. subst (IsLeast (faults ▹ later)) (err_is {A = B} {K = HistoryKind} kind k e) (record {
-        place = l.place;
+        stage = l.stage;
         holds = inl l.holds;
-        least = λ p j h. elim h [ inl first ↦ l.least p j first | inr other ↦ absurd (other.0 l.place kind l.holds) ];
+        least = λ p j h. elim h [ inl first ↦ l.least p j first | inr other ↦ absurd (other.0 l.stage kind l.holds) ];
       });
     }
 
@@ -118,7 +118,7 @@ judges-call parts =
       least = λ kind e.
           let l = judged.least kind e in
           record {
-            place = l.place;
+            stage = l.stage;
             holds = (before_equals parts, after_equals parts, cut_is parts, l.holds);
             least = λ p k h. l.least p k (fault_of_cut parts p k h);
           };
@@ -250,7 +250,7 @@ last_line number raw r e =
 
 -- the faults of the lines after one, by whether it begins with `end`
 abbrev faults_after : Bool → ℕ → List RawLine → ℕ → ℕ → HistoryKind → Type 0
-faults_after last n lines line place kind = chosen_faults last (in_lines trailing_faults (n + 1) lines line) (later_faults (n + 1) lines line) place kind
+faults_after last n lines line stage kind = chosen_faults last (in_lines trailing_faults (n + 1) lines line) (later_faults (n + 1) lines line) stage kind
 
 after_from : (last : Bool) (n : ℕ) (lines : List RawLine) → ((m p : ℕ) (k : HistoryKind) → later_faults (n + 1) lines m p k → n + 1 ≤ m) → (m p : ℕ) (k : HistoryKind) → faults_after last n lines m p k → n + 1 ≤ m
 after_from true n lines ih m p k h = in_lines-from trailing_faults (n + 1) lines m p k h
@@ -273,7 +273,7 @@ lacks_end : (n : ℕ) → JudgesLines {A = List Call} line_at kind_at (later_fau
 lacks_end n = record {
   none = λ x e m p k h. err_ok x (fault_at n End) e;
   first = λ f e. subst (λ (g : HistoryFault). IsFirst (later_faults n []) g.line g.kind) (fault_is {A = List Call} (fault_at n End) f e)
-      (record { place = 0; holds = (refl, refl, refl); first = λ m p k h. inr (h.0, inr (h.1, h.2)) });
+      (record { stage = 0; holds = (refl, refl, refl); first = λ m p k h. inr (h.0, inr (h.1, h.2)) });
 }
 
 by_last : (last : Bool) (n : ℕ) (lines : List RawLine) (r : Option Call) → last ≡ is_last r → JudgesLines line_at kind_at (later_faults (n + 1) lines) (calls_from (n + 1) lines)
@@ -338,7 +338,7 @@ empty_text : JudgesLines {A = HistoryState} line_at kind_at (text_faults []) (Er
 empty_text = record {
   none = λ x e n p k h. err_ok x (fault_at 1 (Line Empty)) e;
   first = λ f e. subst (λ (g : HistoryFault). IsFirst (text_faults []) g.line g.kind) (fault_is {A = HistoryState} (fault_at 1 (Line Empty)) f e)
-      (record { place = 0; holds = (refl, refl, refl); first = λ n p k h. inr (h.0, inr (h.1, h.2)) });
+      (record { stage = 0; holds = (refl, refl, refl); first = λ n p k h. inr (h.0, inr (h.1, h.2)) });
 }
 
 judges-history : (lines : List RawLine) → JudgesLines line_at kind_at (text_faults lines) (history_or_fault lines)

@@ -9,36 +9,36 @@ abbrev pub ◌when◌ : {K : Type 0} → K → Type 0 → K → Type 0
 
 -- no stage, so no fault
 abbrev pub no_fault : {K : Type 0} → ℕ → K → Type 0
-no_fault place kind = ⊥
+no_fault stage kind = ⊥
 
--- one stage before the others: it is at position 0, and the others at the positions after it
+-- one stage before the others: it is stage 0, and the others are those after it
 infixr 6 ◌▸◌
 abbrev pub ◌▸◌ : {K : Type 0} → (K → Type 0) → (ℕ → K → Type 0) → ℕ → K → Type 0
 (first ▸ others) zero kind = first kind
-(first ▸ others) (suc place) kind = others place kind
+(first ▸ others) (suc stage) kind = others stage kind
 
 -- the faults of raw lines that are numbered from this number on: those of each line, by its number
 abbrev pub in_lines : {K : Type 0} → (ℕ → RawLine → ℕ → K → Type 0) → ℕ → List RawLine → ℕ → ℕ → K
     → Type 0
-in_lines faults number [] line place kind = ⊥
-in_lines faults number (l ∷ ls) line place kind =
-    ((line ≡ number) × faults number l place kind) ⊎ in_lines faults (number + 1) ls line place kind
+in_lines faults number [] line stage kind = ⊥
+in_lines faults number (l ∷ ls) line stage kind =
+    ((line ≡ number) × faults number l stage kind) ⊎ in_lines faults (number + 1) ls line stage kind
 
 -- no fault holds anywhere in a line
 abbrev pub IsFaultless : {K : Type 0} → (ℕ → K → Type 0) → Type 0
-IsFaultless {K = K} faults = (place : ℕ) (kind : K) → ¬ faults place kind
+IsFaultless {K = K} faults = (stage : ℕ) (kind : K) → ¬ faults stage kind
 
--- the kind of fault that comes first: it holds at a position, and any other that holds stands
--- at a later position, or is the same
+-- the kind of fault that comes first: it holds at a stage, and any other that holds stands at
+-- a later stage, or is the same
 pub record IsLeast {K : Type 0} (Holds : ℕ → K → Type 0) (kind : K) : Type 0 where
-  pub place : ℕ
-  pub holds : Holds place kind
-  pub least : (p : ℕ) (k : K) → Holds p k → (place < p) ⊎ ((p ≡ place) × (k ≡ kind))
+  pub stage : ℕ
+  pub holds : Holds stage kind
+  pub least : (p : ℕ) (k : K) → Holds p k → (stage < p) ⊎ ((p ≡ stage) × (k ≡ kind))
 
--- the fault of lines that comes first: it holds on this line at a position, and any other that
--- holds is on a later line, or on this line at a later position, or is the same
+-- the fault of lines that comes first: it holds on this line at a stage, and any other that
+-- holds is on a later line, or on this line at a later stage, or is the same
 pub record IsFirst {K : Type 0} (Holds : ℕ → ℕ → K → Type 0) (line : ℕ) (kind : K) : Type 0 where
-  pub place : ℕ
-  pub holds : Holds line place kind
+  pub stage : ℕ
+  pub holds : Holds line stage kind
   pub first : (n p : ℕ) (k : K) → Holds n p k → (line < n)
-      ⊎ ((n ≡ line) × ((place < p) ⊎ ((p ≡ place) × (k ≡ kind))))
+      ⊎ ((n ≡ line) × ((stage < p) ⊎ ((p ≡ stage) × (k ≡ kind))))

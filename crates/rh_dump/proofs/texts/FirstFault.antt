@@ -411,7 +411,7 @@ ended_early : (number : ℕ) → JudgesLines {A = List DumpLine} line_at kind_at
 ended_early number = record {
   none = λ x e n p k h. absurd (err_ok x (fault_at number End) e);
   first = λ f e. subst (λ (g : DumpFault). IsFirst (end_at_line number) g.line g.kind) (err_is (fault_at number End) f e)
-      (record { place = 0; holds = (refl, refl, refl); first = λ n p k h. inr (h.0, inr (h.1, h.2)) });
+      (record { stage = 0; holds = (refl, refl, refl); first = λ n p k h. inr (h.0, inr (h.1, h.2)) });
 }
 
 judges-lines_end : (due : Due) (number : ℕ) → JudgesLines line_at kind_at (end_faults due number) (end_or_fault number due)
@@ -449,7 +449,7 @@ no_fault_of_dump text g e = (judges-text text).none g e
 
 read_by : (text : List ℕ) (r : Result GraphState DumpFault) → JudgesLines line_at kind_at (dump_faults (lines_of text)) r → ((n p : ℕ) (k : DumpKind) → dump_faults (lines_of text) n p k → ⊥) → (g : GraphState) × (r ≡ Ok g)
 read_by text (Ok g) judged none = (g, refl)
-read_by text (Err f) judged none = let first = judged.first f refl in absurd (none f.line first.place f.kind first.holds)
+read_by text (Err f) judged none = let first = judged.first f refl in absurd (none f.line first.stage f.kind first.holds)
 
 pub faultless_is_dump : (text : List ℕ) → ((n p : ℕ) (k : DumpKind) → dump_faults (lines_of text) n p k → ⊥) → (g : GraphState) × IsGraph g × (text ≡ dump_text g)
 faultless_is_dump text none =

@@ -145,17 +145,17 @@ line_faults due size raw =
 
 -- no line is left, and one is due
 abbrev pub end_faults : Due → ℕ → ℕ → ℕ → DumpKind → Type 0
-end_faults dues.Nothing number line place kind = ⊥
-end_faults due number line place kind = (line ≡ number) × (place ≡ 0) × (kind ≡ End)
+end_faults dues.Nothing number line stage kind = ⊥
+end_faults due number line stage kind = (line ≡ number) × (stage ≡ 0) × (kind ≡ End)
 
 -- of the raw lines from this number on, after a text of so many bytes, each on its line and at its
--- place there
+-- stage there
 abbrev pub faults_from : Due → ℕ → ℕ → List RawLine → ℕ → ℕ → DumpKind → Type 0
-faults_from due number size [] line place kind = end_faults due number line place kind
-faults_from due number size (raw ∷ raws) line place kind =
-    ((line ≡ number) × line_faults due size raw place kind)
+faults_from due number size [] line stage kind = end_faults due number line stage kind
+faults_from due number size (raw ∷ raws) line stage kind =
+    ((line ≡ number) × line_faults due size raw stage kind)
     ⊎ faults_from (due_after_parts due (parts_of raw.bytes)) (number + 1)
-    (size + length (raw_text raw)) raws line place kind
+    (size + length (raw_text raw)) raws line stage kind
 
 -- of a text of these lines
 abbrev pub dump_faults : List RawLine → ℕ → ℕ → DumpKind → Type 0

@@ -327,7 +327,7 @@ judges-keyword_request word args =
 judges-alike : {A : Type 0} (faults others : ℕ → Kind → Type 0) (r : Result A Kind) → ((p : ℕ) (k : Kind) → faults p k → others p k) → ((p : ℕ) (k : Kind) → others p k → faults p k) → Judges faults r → Judges others r
 judges-alike faults others r to from judged = record {
   none = λ x e p k h. judged.none x e p k (from p k h);
-  least = λ kind e. let l = judged.least kind e in record { place = l.place; holds = to l.place kind l.holds; least = λ p k h. l.least p k (from p k h) };
+  least = λ kind e. let l = judged.least kind e in record { stage = l.stage; holds = to l.stage kind l.holds; least = λ p k h. l.least p k (from p k h) };
 }
 
 judges-with_owner : {A : Type 0} (parts : List (List ℕ)) (r : Result A Kind) → BeginsWithOwner parts → Judges (command_part_faults parts) r → Judges (line_part_faults parts) r
@@ -439,7 +439,7 @@ empty_text : JudgesLines {A = Script} line_at kind_at (trace_faults []) (Err (fa
 empty_text = record {
   none = λ x e n p k h. absurd (err_ok x (fault_at 1 Empty) e);
   first = λ f e. subst (λ (g : TraceFault). IsFirst (trace_faults []) g.line g.kind) (err_is (fault_at 1 Empty) f e)
-      (record { place = 0; holds = (refl, refl, refl); first = λ n p k h. inr (h.0, inr (h.1, h.2)) });
+      (record { stage = 0; holds = (refl, refl, refl); first = λ n p k h. inr (h.0, inr (h.1, h.2)) });
 }
 
 judges-script : (lines : List RawLine) → JudgesLines line_at kind_at (trace_faults lines) (script_or_fault lines)
@@ -460,7 +460,7 @@ no_fault_of_trace bytes script e = (judges-script (lines_of bytes)).none script 
 -- a line without a fault is spelled well
 pub read_of : {A : Type 0} (faults : ℕ → Kind → Type 0) (r : Result A Kind) → Judges faults r → ((p : ℕ) (k : Kind) → faults p k → ⊥) → (x : A) × (r ≡ Ok x)
 read_of faults (Ok x) judged none = (x, refl)
-read_of faults (Err k) judged none = let l = judged.least k refl in absurd (none l.place k l.holds)
+read_of faults (Err k) judged none = let l = judged.least k refl in absurd (none l.stage k l.holds)
 
 pub spelled_line : (n : ℕ) (line : RawLine) → ((p : ℕ) (k : Kind) → line_faults n line p k → ⊥) → (l : Request) × RequestFits l × (raw_text line ≡ spell_request l)
 spelled_line n line none =

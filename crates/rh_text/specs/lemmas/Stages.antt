@@ -24,14 +24,14 @@ stands_first kind P others (suc p) k h = inl (omega arith)
 pub judges-here : {K A : Type 0} (kind : K) (P : Type 0) (others : ℕ → K → Type 0) → P → Judges {A = A} (kind when P ▸ others) (Err kind)
 judges-here {K = K} {A = A} kind P others holds = record {
   none = λ x e p k h. err_ok {A = A} {K = K} x kind e;
-  least = λ found e. subst (IsLeast (kind when P ▸ others)) (err_is {A = A} kind found e) (record { place = 0; holds = (refl, holds); least = stands_first kind P others });
+  least = λ found e. subst (IsLeast (kind when P ▸ others)) (err_is {A = A} kind found e) (record { stage = 0; holds = (refl, holds); least = stands_first kind P others });
 }
 
 none_later : {K : Type 0} (kind : K) (P : Type 0) (others : ℕ → K → Type 0) → (P → ⊥) → ((p : ℕ) (k : K) → others p k → ⊥) → (p : ℕ) (k : K) → (kind when P ▸ others) p k → ⊥
 none_later kind P others fails none zero k h = fails h.1
 none_later kind P others fails none (suc p) k h = none p k h
 
-stands_later : {K : Type 0} (kind : K) (P : Type 0) (others : ℕ → K → Type 0) (found : K) → (P → ⊥) → (l : IsLeast others found) → (p : ℕ) (k : K) → (kind when P ▸ others) p k → (suc l.place < p) ⊎ ((p ≡ suc l.place) × (k ≡ found))
+stands_later : {K : Type 0} (kind : K) (P : Type 0) (others : ℕ → K → Type 0) (found : K) → (P → ⊥) → (l : IsLeast others found) → (p : ℕ) (k : K) → (kind when P ▸ others) p k → (suc l.stage < p) ⊎ ((p ≡ suc l.stage) × (k ≡ found))
 stands_later kind P others found fails l zero k h = absurd (fails h.1)
 stands_later kind P others found fails l (suc p) k h = elim (l.least p k h) [ inl lt ↦ inl (omega (arith, lt)) | inr same ↦ inr (ap suc same.0, same.1) ]
 
@@ -39,7 +39,7 @@ stands_later kind P others found fails l (suc p) k h = elim (l.least p k h) [ in
 pub judges-later : {K A : Type 0} (kind : K) (P : Type 0) (others : ℕ → K → Type 0) (r : Result A K) → (P → ⊥) → Judges others r → Judges (kind when P ▸ others) r
 judges-later kind P others r fails judged = record {
   none = λ x e. none_later kind P others fails (judged.none x e);
-  least = λ found e. let l = judged.least found e in record { place = suc l.place; holds = l.holds; least = stands_later kind P others found fails l };
+  least = λ found e. let l = judged.least found e in record { stage = suc l.stage; holds = l.holds; least = stands_later kind P others found fails l };
 }
 
 -- a test that decides the stage, and then the other steps
@@ -87,7 +87,7 @@ this_or number this others n p k = ((n ≡ number) × this p k) ⊎ others n p k
 
 first_of_line : {K : Type 0} (number : ℕ) (this : ℕ → K → Type 0) (others : ℕ → ℕ → K → Type 0) (kind : K) → ((n p : ℕ) (k : K) → others n p k → number < n) → IsLeast this kind → IsFirst (this_or number this others) number kind
 first_of_line number this others kind after l = record {
-  place = l.place;
+  stage = l.stage;
   holds = inl (refl, l.holds);
   first = λ n p k h. elim h [
     | inl here ↦ inr (here.0, l.least p k here.1)
@@ -97,7 +97,7 @@ first_of_line number this others kind after l = record {
 
 first_of_others : {K : Type 0} (number : ℕ) (this : ℕ → K → Type 0) (others : ℕ → ℕ → K → Type 0) (line : ℕ) (kind : K) → ((p : ℕ) (k : K) → this p k → ⊥) → IsFirst others line kind → IsFirst (this_or number this others) line kind
 first_of_others number this others line kind none i = record {
-  place = i.place;
+  stage = i.stage;
   holds = inr i.holds;
   first = λ n p k h. elim h [
     | inl here ↦ absurd (none p k here.1)
