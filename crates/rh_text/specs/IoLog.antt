@@ -1,18 +1,29 @@
 -- The calls of a reader or a writer, and which of them fail.
-use Rattle.std.specs.Prelude.{◌≡◌, ◌≢◌, ℕ, ◌<◌, ◌⊎◌, Bool, true, false, List, length, Result, Ok, Err}
+use Rattle.std.specs.Prelude.{◌≡◌, ◌≢◌, ℕ, ◌+◌, ◌-◌, ◌^◌, ◌<◌, ◌≤◌, min, ◌⊎◌, Bool, true, false, List, length, Result, Ok, Err}
 use Rattle.std.specs.IoError.{error_kind}
 use Rattle.std.specs.declared.io.Error.{Error}
 use Rattle.std.specs.declared.io.ErrorKind.TheVariants.{Interrupted}
 
--- What is known of the calls of one reader or one writer: whether one failed, and how many may
--- still be made.
+-- What is known of the calls of one reader or one writer: whether one failed, how many were made,
+-- counted up to 2^64 - 1, and how many may still be made.
 pub record IoLogState : Type 0 where
   pub failed : Bool
+  pub made : ℕ
   pub left : ℕ
 
 -- no call was made yet
 abbrev pub no_calls : IoLogState
-no_calls = record { failed = false; left = 33554432 }
+no_calls = record { failed = false; made = 0; left = 33554432 }
+
+-- the count of calls after one more
+abbrev pub one_more : ℕ → ℕ
+one_more made = min (made + 1) (2 ^ 64 - 1)
+
+-- Of so many calls some were made, and the others are left. The count tells how many were made,
+-- unless it is full.
+abbrev pub CountsDown : ℕ → IoLogState → IoLogState → Type 0
+CountsDown limit old new =
+    (new.left ≤ limit) × (new.made < 2 ^ 64 - 1 → new.made + new.left ≡ old.made + limit)
 
 -- a read fails where it answers an error and was not interrupted
 abbrev pub IsFailedRead : Result ℕ Error → Type 0

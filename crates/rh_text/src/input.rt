@@ -1,7 +1,7 @@
 //! An input read whole.
 
 ghost use Rattle.std.specs.Prelude.{◌≡◌, ◌++◌, ◌+◌, ◌<◌, ◌≤◌, length, false, IfOk, OnOk, IsErrOf};
-ghost use Rattle.rh_text.specs.IoLog.{AreSpent};
+ghost use Rattle.rh_text.specs.IoLog.{AreSpent, CountsDown};
 ghost use Rattle.rh_text.specs.Input.{ReadsAll, ReadsPast};
 
 use crate::io_log::{IoLog, is_interrupted};
@@ -67,6 +67,8 @@ pub fn read_all<A: Allocator + Copy, R: io::Read>(
     // isn't.
     ensures failed { IsErrOf result InputFault.Read → AreSpent reads.new }
     ensures none_failed { ¬ IsErrOf result InputFault.Read → reads.new.failed ≡ false }
+    // Each read that was made took one of those that were left.
+    ensures counted { CountsDown reads.old.left reads.old reads.new }
 {
     let mut text = Vec::new(alloc);
     let mut chunk = [0; CHUNK];
@@ -105,8 +107,9 @@ pub fn read_past<A: Allocator + Copy, R: io::Read>(
     // As of `read_all`.
     ensures failed { IsErrOf result InputFault.Read → AreSpent reads.new }
     ensures none_failed { ¬ IsErrOf result InputFault.Read → reads.new.failed ≡ false }
+    ensures counted { CountsDown reads.old.left reads.old reads.new }
 {
-    let mut text = Vec::new(alloc);
+    let mut text: Vec<u8, A> = Vec::new(alloc);
     let mut chunk = [0; CHUNK];
     while reads.left() > 0 {
         match reads.read(reader, &mut chunk) {

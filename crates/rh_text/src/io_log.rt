@@ -4,7 +4,7 @@ ghost use Rattle.std.specs.IoError.{error_kind};
 ghost use Rattle.std.specs.Prelude.{◌≡◌, ◌↔◌, ◌+◌, ◌<◌, IsTrue, true, false};
 ghost use Rattle.std.specs.Io.{ReadsAtMost, WritesAtMost};
 ghost use Rattle.std.specs.Io.KnownBytes.{ReadConsumes, WriteAppends};
-ghost use Rattle.rh_text.specs.IoLog.{IoLogState, no_calls, IsFailedRead, IsFailedWrite};
+ghost use Rattle.rh_text.specs.IoLog.{IoLogState, no_calls, one_more, IsFailedRead, IsFailedWrite};
 
 use rh_layout::limits::MAX_CALLS;
 use std::io;
@@ -18,12 +18,13 @@ pub fn is_interrupted(error: &io::Error) -> bool
     error.kind() == ErrorKind::Interrupted
 }
 
-/// A log of the calls of one reader or of one writer: whether a call failed, and how many may still
-/// be made. Only a call writes whether one failed, and after a failed call none is made; a new
-/// text to be sent renews how many are left.
+/// A log of the calls of one reader or of one writer: whether a call failed, how many were made, and
+/// how many may still be made. Only a call writes whether one failed and how many were made, and
+/// after a failed call none is made; a new text to be sent renews how many are left.
 #[derive(Drop)]
 pub struct IoLog {
     failed: bool,
+    made: u64,
     left: u32,
 }
 
@@ -32,7 +33,7 @@ impl Model for IoLog {
 
     ghost Value = { IoLogState };
 
-    ghost view = { λ c. record { failed = c.failed; left = c.left } };
+    ghost view = { λ c. record { failed = c.failed; made = c.made; left = c.left } };
 }
 
 impl IoLog {
@@ -42,6 +43,7 @@ impl IoLog {
     {
         IoLog {
             failed: false,
+            made: 0,
             left: MAX_CALLS,
         }
     }
@@ -52,6 +54,7 @@ impl IoLog {
     {
         IoLog {
             failed: false,
+            made: 0,
             left: limit,
         }
     }
@@ -61,6 +64,13 @@ impl IoLog {
         ensures { result ≡ self.now.failed }
     {
         self.failed
+    }
+
+    /// How many calls were made, counted up to 2^64 - 1.
+    pub fn made(&self) -> u64
+        ensures { result ≡ self.now.made }
+    {
+        self.made
     }
 
     /// How many calls may still be made.
@@ -86,10 +96,12 @@ impl IoLog {
         ensures bytes { ReadConsumes (R.remaining reader.old) (R.remaining reader.new) result
             buf.new }
         ensures failed { IsTrue self.new.failed ↔ IsFailedRead result }
+        ensures made { self.new.made ≡ one_more self.old.made }
         ensures left { self.new.left + 1 ≡ self.old.left }
     {
         let result = reader.read(buf);
         self.failed = is_failed_read(&result);
+        self.made = self.made.saturating_add(1);
         self.left -= 1;
         result
     }
@@ -103,10 +115,12 @@ impl IoLog {
         ensures bytes { WriteAppends (W.contents writer.old) (W.contents writer.new) result
             buf.now }
         ensures failed { IsTrue self.new.failed ↔ IsFailedWrite result buf.now }
+        ensures made { self.new.made ≡ one_more self.old.made }
         ensures left { self.new.left + 1 ≡ self.old.left }
     {
         let result = writer.write(buf);
         self.failed = is_failed_write(&result, buf);
+        self.made = self.made.saturating_add(1);
         self.left -= 1;
         result
     }

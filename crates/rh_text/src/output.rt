@@ -2,10 +2,11 @@
 
 ghost use Rattle.std.specs.Prelude.{◌≡◌, false, OnOk, OnErr};
 ghost use Rattle.std.specs.Io.KnownBytes.{Appends};
-ghost use Rattle.rh_text.specs.IoLog.{AreSpent};
+ghost use Rattle.rh_text.specs.IoLog.{AreSpent, CountsDown};
 ghost use Rattle.rh_text.specs.Output.{AppendsLess};
 
 use crate::io_log::{IoLog, is_interrupted};
+use rh_layout::limits::MAX_CALLS;
 use std::io;
 use thiserror::Error;
 
@@ -31,6 +32,8 @@ pub fn send<W: io::Write>(writer: &mut W, writes: &mut IoLog, text: &[u8]) -> Re
     // It is refused only where a write failed or none was left, and no write failed where it isn't.
     ensures failed { OnErr result (AreSpent writes.new) }
     ensures none_failed { OnOk result (writes.new.failed ≡ false) }
+    // Each write that was made took one of the 33,554,432 of this text.
+    ensures counted { CountsDown MAX_CALLS writes.old writes.new }
 {
     writes.renew();
     let mut rest = text;

@@ -1,8 +1,11 @@
-use Rattle.std.proofs.Common.{◌++◌, ℕ, Vec, take, arith}
+use Rattle.std.proofs.Common.{◌++◌, ℕ, Vec, take, arith, rules}
 use Rattle.std.proofs.lemmas.List.{length-append}
 use Rattle.std.proofs.lemmas.Result.{err_from_is_err_and}
 use Rattle.rh_text.proofs.Consumes.{Consumes-then, Consumes-keeps, ends_with}
 use Rattle.rh_text.proofs.input.read_all.Goals as goal
+
+pub loop-chunk-init : goal.loop-chunk-init
+loop-chunk-init g c = search rules
 
 pub returns-in_err-keep-in-Ok-clause-bytes : goal.returns-in_err-keep-in-Ok-clause-bytes
 returns-in_err-keep-in-Ok-clause-bytes g c =

@@ -1,4 +1,5 @@
 use Rattle.std.proofs.Common.{◌≡◌, false}
+use Rattle.rh_text.specs.IoLog.{CountsDown}
 use Rattle.rh_text.specs.lemmas.Appends.{Sent}
 use Rattle.rh_text.proofs.output.send.Given as goal
 
@@ -6,6 +7,7 @@ abbrev pub invariant-loop-rest : goal.invariant-loop-rest
 invariant-loop-rest g l = record {
   sent : Sent (g.W.Write.contents l.fn.writer) (g.W.Write.contents l.writer) l.text l.rest;
   none_failed : l.writes.failed ≡ false;
+  counted : CountsDown 33554432 l.fn.writes l.writes;
 }
 
 abbrev pub decreases-loop-rest : goal.decreases-loop-rest
