@@ -1,7 +1,7 @@
 //! A dump read from a reader.
 
 ghost use Rattle.std.specs.Prelude.{◌≡◌, [], false, IfSome, IsErrOf};
-ghost use Rattle.rh_text.specs.IoLog.{AreSpent};
+ghost use Rattle.rh_text.specs.IoLog.{AreSpent, CountsDown};
 ghost use Rattle.rh_text.specs.RawLine.{lines_of};
 ghost use Rattle.rh_dump.specs.texts.Putting.{put_lines, error_in, Gives, Reads, ReadsDump};
 ghost use Rattle.rh_dump.specs.texts.Reading.{end_or_fault, lines_from, graph_of_text};
@@ -124,10 +124,14 @@ pub fn read_dump_logged<A: Allocator + Copy, R: io::Read>(
     // isn't.
     ensures failed { IsErrOf result DumpReadError.Read → AreSpent reads.new }
     ensures none_failed { ¬ IsErrOf result DumpReadError.Read → reads.new.failed ≡ false }
+    // Each read that was made took one of those that were left.
+    ensures counted { CountsDown reads.old.left reads.old reads.new }
 {
     match read_past(alloc, reader, reads, MAX_DUMP_BYTES) {
         Ok(text) => graph_in_text(alloc, &text),
+        Err(InputFault::Read) => Err(DumpReadError::Read),
         Err(InputFault::OutOfMemory) => Err(DumpReadError::OutOfMemory),
-        Err(_) => Err(DumpReadError::Read),
+        // Not answered here.
+        Err(InputFault::Long) => Err(DumpReadError::Read),
     }
 }

@@ -1,5 +1,5 @@
 -- What several reads gave, one after the other.
-use Rattle.std.proofs.Common.{◌≡◌, ℕ, ◌<◌, List, ◌++◌, length, Option, Some, None, Result, Err, refl, sym, ap, ◌∙◌, append_assoc}
+use Rattle.std.proofs.Common.{◌≡◌, ℕ, ◌<◌, ◌≤◌, List, ◌++◌, length, Option, Some, None, Result, Err, refl, sym, ap, ◌∙◌, append_assoc}
 use Rattle.std.specs.Io.KnownBytes.{Consumes, Keeps}
 use Rattle.rh_text.specs.declared.input.InputFault.{InputFault}
 use Rattle.rh_text.specs.declared.input.InputFault.TheVariants.{Read, Long, OutOfMemory}
@@ -17,8 +17,9 @@ Consumes-keeps (Some xs) None c x p q = absurd p
 Consumes-keeps (Some xs) (Some ys) None x p q = absurd q
 Consumes-keeps (Some xs) (Some ys) (Some zs) x p q = p ∙ ap (λ (t : List ℕ). x ++ t) (sym q)
 
--- an end with a fault
-pub ends_with : {X : Type 0} (view : X → List ℕ) (fault : InputFault) (bytes : List ℕ) (left : Option (List ℕ)) → (◌≡◌ {A = Result (Unit {0}) InputFault} (Err fault) (Err Long) → 16777216 < length bytes) → ReadEnds view (Err fault) bytes left
-ends_with view Read bytes left h = tt
-ends_with view Long bytes left h = h refl
-ends_with view OutOfMemory bytes left h = tt
+-- an end with too many bytes, or where memory was refused
+pub ends_with : {X : Type 0} (view : X → List ℕ) (fault : InputFault) (bytes : List ℕ) (left : Option (List ℕ)) → (◌≡◌ {A = Result (Unit {0}) InputFault} (Err fault) (Err Long) → 16777216 < length bytes)
+    → (◌≡◌ {A = Result (Unit {0}) InputFault} (Err fault) (Err OutOfMemory) → length bytes ≤ 16777216) → ¬ (◌≡◌ {A = Result (Unit {0}) InputFault} (Err fault) (Err Read)) → ReadEnds view (Err fault) bytes left
+ends_with view Read bytes left long refused never = absurd (never refl)
+ends_with view Long bytes left long refused never = long refl
+ends_with view OutOfMemory bytes left long refused never = refused refl

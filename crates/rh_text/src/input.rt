@@ -34,6 +34,8 @@ fn keep<A: Allocator>(text: &mut Vec<u8, A>, bytes: &[u8]) -> Result<(), InputFa
     ensures few { OnOk result (length text.new.items ≤ MAX_INPUT_BYTES) }
     ensures long { IsErrOf result InputFault.Long
         → MAX_INPUT_BYTES < length text.old.items + length bytes.now }
+    ensures refused { IsErrOf result InputFault.OutOfMemory
+        → length text.old.items + length bytes.now ≤ MAX_INPUT_BYTES }
     ensures never_read { ¬ IsErrOf result InputFault.Read }
 {
     if bytes.len() > MAX_INPUT_BYTES {
@@ -53,8 +55,8 @@ fn keep<A: Allocator>(text: &mut Vec<u8, A>, bytes: &[u8]) -> Result<(), InputFa
 ///
 /// # Errors
 ///
-/// `Long` where the reader gave more bytes; `Read` where a read failed, or no more may be made and
-/// none came to the end; `OutOfMemory` where the allocator refused memory for the bytes.
+/// `Long` where the reader gave more bytes; else `Read` where a read failed, or no more may be made
+/// and none came to the end, and `OutOfMemory` where the allocator refused memory for the bytes.
 pub fn read_all<A: Allocator + Copy, R: io::Read>(
     alloc: A,
     reader: &mut R,
@@ -91,8 +93,8 @@ pub fn read_all<A: Allocator + Copy, R: io::Read>(
 ///
 /// # Errors
 ///
-/// `Read` where a read failed, or no more may be made and none came to the end; `OutOfMemory` where
-/// the allocator refused memory for the bytes. Never `Long`.
+/// `Read` where, before the limit was passed, a read failed, or no more may be made and none came to
+/// the end; `OutOfMemory` where the allocator refused memory for the bytes. Never `Long`.
 pub fn read_past<A: Allocator + Copy, R: io::Read>(
     alloc: A,
     reader: &mut R,

@@ -100,12 +100,12 @@ Reads view (Err errors.Read) input = Unit {0}
 Reads view (Err errors.OutOfMemory) input = Unit {0}
 
 -- All bytes that a reader had were taken where it gave a graph; where it gave a fault, all of them
--- or more than a dump may have.
+-- or more than a dump may have; where a read failed, no more than that.
 abbrev pub TakesAll : {Returned : Type 0} → Result Returned DumpReadError → List ℕ
     → Option (List ℕ) → Type 0
 TakesAll (Ok x) bytes left = IsAtEnd left
 TakesAll (Err (errors.Fault fault)) bytes left = (268435456 < length bytes) ⊎ IsAtEnd left
-TakesAll (Err errors.Read) bytes left = Unit {0}
+TakesAll (Err errors.Read) bytes left = length bytes ≤ 268435456
 TakesAll (Err errors.OutOfMemory) bytes left = Unit {0}
 
 -- the reader gave some bytes, and reading ends by these

@@ -15,5 +15,5 @@ returns-in-Ok-clause-bytes g c =
     let known = g.R.Read.remaining in
     reads_past (λ (v : Vec ℕ g.row.A.Denot). v.items) c.in-Ok.text (λ (made : GraphState). made) c.graph_in_text.result c.deref.result.now (known c.args.reader.now) (known c.read_past.new.reader) c.in-Ok.ensures.bytes c.deref.ensures.value c.graph_in_text.ensures
 
-pub returns-in-Err : goal.returns-in-Err
-returns-in-Err g c = search rules
+pub returns-in-Err-Read : goal.returns-in-Err-Read
+returns-in-Err-Read g c = search rules

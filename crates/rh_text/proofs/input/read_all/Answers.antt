@@ -15,7 +15,7 @@ returns-in_err-keep-in-Ok-clause-bytes g c =
     rw (p.1, p.2) (
       c.loop-chunk.text.items ++ more,
       Consumes-then (known c.args.reader.now) (known c.loop-chunk.reader) (known c.read.new.reader) c.loop-chunk.text.items more c.loop-chunk.invariant.taken c.in-Ok.ensures.bytes.0,
-      ends_with (λ (v : Vec ℕ g.row.A.Denot). v.items) c.in_err-keep-in-Ok.field-0.0 (c.loop-chunk.text.items ++ more) (known c.read.new.reader) (λ e. omega (arith, c.in_err-keep-in-Ok.ensures.long e, length-append c.loop-chunk.text.items more)),
+      ends_with (λ (v : Vec ℕ g.row.A.Denot). v.items) c.in_err-keep-in-Ok.field-0.0 (c.loop-chunk.text.items ++ more) (known c.read.new.reader) (λ e. omega (arith, c.in_err-keep-in-Ok.ensures.long e, length-append c.loop-chunk.text.items more)) (λ e. omega (arith, c.in_err-keep-in-Ok.ensures.refused e, length-append c.loop-chunk.text.items more)) c.in_err-keep-in-Ok.ensures.never_read,
     )
 
 pub returns-then-not-is_interrupted-clause-bytes : goal.returns-then-not-is_interrupted-clause-bytes
@@ -23,8 +23,8 @@ returns-then-not-is_interrupted-clause-bytes g c =
     let known = g.R.Read.remaining in (
       c.loop-chunk.text.items,
       Consumes-keeps (known c.args.reader.now) (known c.loop-chunk.reader) (known c.read.new.reader) c.loop-chunk.text.items c.loop-chunk.invariant.taken c.in-Err.ensures.bytes,
-      tt,
+      c.loop-chunk.invariant.few,
     )
 
 pub returns-clause-bytes : goal.returns-clause-bytes
-returns-clause-bytes g c = (c.loop-chunk.text.items, c.loop-chunk.invariant.taken, tt)
+returns-clause-bytes g c = (c.loop-chunk.text.items, c.loop-chunk.invariant.taken, c.loop-chunk.invariant.few)

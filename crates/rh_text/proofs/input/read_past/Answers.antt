@@ -16,8 +16,8 @@ returns-in-Err-clause-bytes g c =
     let known = g.R.Read.remaining in (
       c.loop-chunk.text.items,
       Consumes-keeps (known c.args.reader.now) (known c.loop-chunk.reader) (known c.read.new.reader) c.loop-chunk.text.items c.loop-chunk.invariant.taken c.in-Err.ensures.bytes,
-      tt,
+      c.loop-chunk.invariant.few,
     )
 
 pub returns-clause-bytes : goal.returns-clause-bytes
-returns-clause-bytes g c = (c.loop-chunk.text.items, c.loop-chunk.invariant.taken, tt)
+returns-clause-bytes g c = (c.loop-chunk.text.items, c.loop-chunk.invariant.taken, c.loop-chunk.invariant.few)
