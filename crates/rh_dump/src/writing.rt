@@ -3,7 +3,7 @@
 ghost use Rattle.std.specs.Prelude.{◌≡◌, length, false, OnOk, OnErr};
 ghost use Rattle.std.specs.Io.KnownBytes.{Appends};
 ghost use Rattle.std.specs.List.{flat_map};
-ghost use Rattle.rh_text.specs.IoLog.{AreSpent};
+ghost use Rattle.rh_text.specs.IoLog.{AreSpent, AreSpentSince, MadeSince};
 ghost use Rattle.rh_text.specs.Output.{AppendsLess};
 ghost use Rattle.rh_dump.specs.Graph.{graph_in, objects_in, total};
 ghost use Rattle.rh_dump.specs.texts.Line.{spell_dump_line, object_line, root_lines, object_lines, dump_text};
@@ -33,6 +33,8 @@ fn write_roots<W: io::Write>(
         (flat_map spell_dump_line (root_lines roots.now))) }
     ensures failed { OnErr result (AreSpent writes.new) }
     ensures none_failed { OnOk result (writes.new.failed ≡ false) }
+    ensures spent { OnErr result (AreSpentSince writes.old writes.new) }
+    ensures counted { MadeSince 0 writes.old writes.new }
 {
     for entry in roots {
         put_root_line(text, entry.0, entry.1);
@@ -56,6 +58,8 @@ fn write_object<W: io::Write>(
         (spell_dump_line (object_line number fields.now))) }
     ensures failed { OnErr result (AreSpent writes.new) }
     ensures none_failed { OnOk result (writes.new.failed ≡ false) }
+    ensures spent { OnErr result (AreSpentSince writes.old writes.new) }
+    ensures counted { MadeSince 0 writes.old writes.new }
 {
     put_object_head(text, number, fields.len());
     send(writer, writes, text.as_bytes())?;
@@ -82,6 +86,8 @@ fn write_objects<W: io::Write>(
         (flat_map spell_dump_line (object_lines 0 (objects_in counts.now values.now)))) }
     ensures failed { OnErr result (AreSpent writes.new) }
     ensures none_failed { OnOk result (writes.new.failed ≡ false) }
+    ensures spent { OnErr result (AreSpentSince writes.old writes.new) }
+    ensures counted { MadeSince 0 writes.old writes.new }
 {
     let mut rest = values;
     let mut number = 0;
@@ -118,6 +124,8 @@ fn write_flat<W: io::Write>(
         })))) }
     ensures failed { OnErr result (AreSpent writes.new) }
     ensures none_failed { OnOk result (writes.new.failed ≡ false) }
+    ensures spent { OnErr result (AreSpentSince writes.old writes.new) }
+    ensures counted { MadeSince 0 writes.old writes.new }
 {
     let mut text = LineText::new();
     put_head(&mut text, roots.len());
@@ -165,6 +173,10 @@ pub fn write_dump_logged<A: Allocator, W: io::Write>(
     // It is refused only where a write failed or none was left, and no write failed where it isn't.
     ensures failed { OnErr result (AreSpent writes.new) }
     ensures none_failed { OnOk result (writes.new.failed ≡ false) }
+    // Where no write failed, 33,554,432 of them were made.
+    ensures spent { OnErr result (AreSpentSince writes.old writes.new) }
+    // No fewer were made than before.
+    ensures counted { MadeSince 0 writes.old writes.new }
 {
     write_flat(writer, writes, &graph.roots, &graph.counts, &graph.values)
 }

@@ -25,6 +25,10 @@ abbrev pub CountsDown : ℕ → IoLogState → IoLogState → Type 0
 CountsDown limit old new =
     (new.left ≤ limit) × (new.made < 2 ^ 64 - 1 → new.made + new.left ≡ old.made + limit)
 
+-- At least so many calls were made since; the count tells it, unless it is full.
+abbrev pub MadeSince : ℕ → IoLogState → IoLogState → Type 0
+MadeSince calls old new = new.made < 2 ^ 64 - 1 → old.made + calls ≤ new.made
+
 -- a read fails where it answers an error and was not interrupted
 abbrev pub IsFailedRead : Result ℕ Error → Type 0
 IsFailedRead (Ok n) = ⊥
@@ -39,3 +43,7 @@ IsFailedWrite (Err error) bytes = error_kind error ≢ Interrupted
 -- a call failed, or none is left
 abbrev pub AreSpent : IoLogState → Type 0
 AreSpent calls = (calls.failed ≡ true) ⊎ (calls.left ≡ 0)
+
+-- a call failed, or as many were made since as one text may take
+abbrev pub AreSpentSince : IoLogState → IoLogState → Type 0
+AreSpentSince old new = new.failed ≡ false → MadeSince 33554432 old new

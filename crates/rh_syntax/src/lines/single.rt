@@ -3,7 +3,7 @@
 ghost use Rattle.std.specs.Prelude.{◌≡◌, ℕ, false, IfOk, OnOk, OnErr, Ok};
 ghost use Rattle.std.specs.Io.KnownBytes.{Appends};
 ghost use Rattle.rh_layout.specs.declared.command.Command.{Command as CommandOf};
-ghost use Rattle.rh_text.specs.IoLog.{AreSpent};
+ghost use Rattle.rh_text.specs.IoLog.{AreSpent, CountsDown};
 ghost use Rattle.rh_text.specs.Output.{AppendsLess};
 ghost use Rattle.rh_syntax.specs.CommandAnswers.{answer_text};
 ghost use Rattle.rh_syntax.specs.Reading.{single_command};
@@ -12,6 +12,7 @@ ghost use Rattle.rh_syntax.specs.Spelling.{command_text, CommandFits};
 use crate::command_answers::put_answer_text;
 use crate::fault::Kind;
 use crate::lines::commands::{owned_command, put_command_text};
+use rh_layout::limits::MAX_CALLS;
 use rh_layout::{Command, Refusal, Reply};
 use rh_text::{IoLog, LineText, Write, is_formed, send};
 use std::io;
@@ -87,6 +88,8 @@ pub fn write_command_logged<W: io::Write>(
     // It is refused only where a write failed or none was left, and no write failed where it isn't.
     ensures failed { OnErr result (AreSpent writes.new) }
     ensures none_failed { OnOk result (writes.new.failed ≡ false) }
+    // Each write that was made took one of 33,554,432.
+    ensures counted { CountsDown MAX_CALLS writes.old writes.new }
 {
     let mut text = LineText::new();
     put_command_text(&mut text, owner, command);
@@ -130,6 +133,8 @@ pub fn write_answer_logged<W: io::Write>(
     // It is refused only where a write failed or none was left, and no write failed where it isn't.
     ensures failed { OnErr result (AreSpent writes.new) }
     ensures none_failed { OnOk result (writes.new.failed ≡ false) }
+    // Each write that was made took one of 33,554,432.
+    ensures counted { CountsDown MAX_CALLS writes.old writes.new }
 {
     let mut text = LineText::new();
     put_answer_text(&mut text, *answer);

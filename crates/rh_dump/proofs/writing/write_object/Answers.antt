@@ -1,4 +1,4 @@
-use Rattle.std.proofs.Common.{◌≡◌, ◌++◌, ap, sym, ◌∙◌}
+use Rattle.std.proofs.Common.{◌≡◌, ◌++◌, ap, sym, ◌∙◌, arith}
 use Rattle.std.proofs.lemmas.Result.{err_from_is_err_and}
 use Rattle.rh_dump.specs.texts.Line.{spell_dump_line, object_line}
 use Rattle.rh_dump.proofs.texts.Sending.{Sent-begin, Sent-next, Sent-less, fields_text, fields_step, value_piece, object_line_text, loop_next, loop_less}
@@ -22,6 +22,7 @@ loop-value-init g c =
     record {
       sent = Sent-next (known c.args.writer.now) (known c.args.writer.now) (known c.send.new.writer) text text sent (fields_text c.args.fields.now) (Sent-begin (known c.args.writer.now) text) is c.in_ok-send.ensures.ok;
       none_failed = c.in_ok-send.ensures.none_failed;
+      counted = grind (arith, c.in_ok-send.ensures.counted);
     }
 
 pub returns-in_err-send-2-clause-err : goal.returns-in_err-send-2-clause-err
@@ -38,4 +39,5 @@ loop-value-preserved g c =
     record {
       sent = loop_next fields_text value_piece fields_step (known c.args.writer.now) (known c.loop-value.writer) (known c.send-in-loop-value.new.writer) text c.as_bytes-in-loop-value.result.now c.args.fields.now c.loop-value.value-index _ c.loop-value-test.true (c.as_bytes-in-loop-value.ensures ∙ c.put_next_value.ensures) c.loop-value.invariant.sent c.in_ok-send-2.ensures.ok;
       none_failed = c.in_ok-send-2.ensures.none_failed;
+      counted = grind (arith, c.in_ok-send-2.ensures.counted, c.loop-value.invariant.counted);
     }

@@ -19,4 +19,5 @@ loop-count-preserved g c =
       filled = total_more c.args.counts.now c.loop-count.count-index (length c.loop-count.rest.now) (length s.1.now) c.loop-count-test.true c.loop-count.invariant.filled c.split_at.ensures.back_len;
       number = omega (arith, c.loop-count.invariant.number);
       none_failed = c.in_ok-write_object.ensures.none_failed;
+      counted = grind (arith, c.in_ok-write_object.ensures.counted, c.loop-count.invariant.counted);
     }

@@ -1,4 +1,4 @@
-use Rattle.std.proofs.Common.{◌++◌, ap, subst, ◌∙◌}
+use Rattle.std.proofs.Common.{◌++◌, ap, subst, ◌∙◌, arith}
 use Rattle.std.specs.List.{flat_map}
 use Rattle.std.proofs.lemmas.Result.{err_from_is_err_and}
 use Rattle.rh_text.specs.Output.{AppendsLess}
@@ -27,4 +27,5 @@ loop-request-preserved g c =
     record {
       sent = sent_next spell_request (known c.args.writer.now) (known c.loop-request.writer) (known c.send-in-loop-request.new.writer) (spell_header c.args.trace.now.header) c.as_bytes-in-loop-request.result.now c.requests-requests.result.now c.loop-request.request-index _ c.loop-request-test.true (c.as_bytes-in-loop-request.ensures ∙ c.put_request.ensures ∙ ap spell_request c.request-item.is) c.loop-request.invariant.sent c.in_ok-send-2.ensures.ok;
       none_failed = c.in_ok-send-2.ensures.none_failed;
+      counted = grind (arith, c.in_ok-send-2.ensures.counted, c.loop-request.invariant.counted);
     }
