@@ -67,5 +67,6 @@ fn a_text_renews_the_writes(rt: HostRuntime) {
     let mut writer = SlowWriter::new(&rt, 1000, 0);
     let mut writes = IoLog::limited(0);
     expect_equal(&rt, send(&mut writer, &mut writes, WITHOUT_FIELDS), Ok(()));
-    expect_equal(&rt, (writes.left(), writer.writes), (33_554_431, 1));
+    let told = (writes.made(), writes.left(), writer.writes);
+    expect_equal(&rt, told, (1, 33_554_431, 1));
 }

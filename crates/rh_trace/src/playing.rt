@@ -2,7 +2,7 @@
 
 ghost use Rattle.std.specs.Prelude.{◌≡◌, ◌<◌, ◌≤◌, ◌+◌, ◌^◌, length, false, IfOk, IsErrOf, OnOk};
 ghost use Rattle.std.specs.List.{flat_map};
-ghost use Rattle.rh_text.specs.IoLog.{AreSpent};
+ghost use Rattle.rh_text.specs.IoLog.{AreSpent, AreSpentSince, CountsDown, MadeSince};
 ghost use Rattle.rh_text.specs.Output.{AppendsLess};
 ghost use Rattle.rh_core.specs.Stat.{stat_of};
 ghost use Rattle.rh_dump.specs.texts.Line.{dump_text};
@@ -24,6 +24,7 @@ use rh_engine::{
     Engine, Trays, put_begin, put_deal, put_flip, put_give, put_join, put_shade, put_stat, put_tray,
 };
 use rh_layout::Command;
+use rh_layout::limits::MAX_CALLS;
 use rh_syntax::{Request, put_answer_text};
 use rh_text::{IoLog, LineText, send};
 use std::alloc::Allocator;
@@ -41,6 +42,8 @@ fn write_heap_dump<A: Allocator + Copy, W: io::Write>(
         (W.contents writer.new) }
     ensures failed { IsErrOf result Stop.Write → AreSpent writes.new }
     ensures none_failed { ¬ IsErrOf result Stop.Write → writes.new.failed ≡ false }
+    ensures spent { IsErrOf result Stop.Write → AreSpentSince writes.old writes.new }
+    ensures counted { MadeSince 0 writes.old writes.new }
 {
     let graph = graph(alloc, heap)?;
     write_dump_logged(&graph, writer, writes)?;
@@ -60,6 +63,7 @@ fn write_line<W: io::Write>(
         (W.contents writer.new) }
     ensures failed { IsErrOf result Stop.Write → AreSpent writes.new }
     ensures none_failed { ¬ IsErrOf result Stop.Write → writes.new.failed ≡ false }
+    ensures counted { CountsDown MAX_CALLS writes.old writes.new }
 {
     text.put(b"\n");
     send(writer, writes, text.as_bytes())?;
@@ -78,6 +82,8 @@ fn write_trays<A: Allocator + Copy, W: io::Write>(
         (W.contents writer.new) }
     ensures failed { IsErrOf result Stop.Write → AreSpent writes.new }
     ensures none_failed { ¬ IsErrOf result Stop.Write → writes.new.failed ≡ false }
+    ensures spent { IsErrOf result Stop.Write → AreSpentSince writes.old writes.new }
+    ensures counted { MadeSince 0 writes.old writes.new }
 {
     for i in 0..trays.len() {
         if let Some(tray) = trays.tray(i) {
@@ -169,6 +175,8 @@ fn play_request<A: Allocator + Copy, W: io::Write>(
         (W.contents writer.old) (W.contents writer.new) }
     ensures failed { IsErrOf result Stop.Write → AreSpent writes.new }
     ensures none_failed { ¬ IsErrOf result Stop.Write → writes.new.failed ≡ false }
+    ensures spent { IsErrOf result Stop.Write → AreSpentSince writes.old writes.new }
+    ensures counted { MadeSince 0 writes.old writes.new }
 {
     match *request {
         Request::Command { owner, ref command } => {
@@ -205,6 +213,7 @@ pub(crate) fn play<A: Allocator + Copy, W: io::Write>(
         (flat_map answered_text (answers_to engine.old requests.now)) }
     ensures failed { IsErrOf result Stop.Write → AreSpent writes.new }
     ensures none_failed { ¬ IsErrOf result Stop.Write → writes.new.failed ≡ false }
+    ensures spent { IsErrOf result Stop.Write → AreSpentSince writes.old writes.new }
 {
     let mut text = LineText::new();
     let mut summary = Summary {

@@ -1,11 +1,11 @@
 //! A trace run on a new heap.
 
-ghost use Rattle.std.specs.Prelude.{◌≡◌, ◌⊎◌, List, ℕ, false, IfOk, IsErrOf, IfSome, None, Ok};
+ghost use Rattle.std.specs.Prelude.{◌≡◌, ◌≤◌, ◌⊎◌, List, ℕ, length, false, IfOk, IsErrOf, IfSome, None, Ok};
 ghost use Rattle.std.specs.List.{flat_map};
 ghost use Rattle.std.specs.Io.KnownBytes.{Appends, Consumes, Keeps};
 ghost use Rattle.rh_core.specs.Config.{fault_of};
 ghost use Rattle.rh_core.specs.Heap.{new_heap, IsWellFormed};
-ghost use Rattle.rh_text.specs.IoLog.{AreSpent};
+ghost use Rattle.rh_text.specs.IoLog.{AreSpent, AreSpentSince, CountsDown};
 ghost use Rattle.rh_text.specs.Output.{AppendsPrefix, AppendsLess};
 ghost use Rattle.rh_trace.specs.Answers.{Answered, answered_text};
 ghost use Rattle.rh_syntax.specs.Reading.{trace_of};
@@ -23,7 +23,7 @@ use rh_core::laws::runs::{
 };
 use rh_core::{Config, Heap, HeapError};
 use rh_engine::Engine;
-use rh_layout::limits::MAX_NUMBER;
+use rh_layout::limits::{MAX_INPUT_BYTES, MAX_NUMBER};
 use rh_syntax::{Header, ParseError, parse};
 use rh_text::{InputFault, IoLog, read_all};
 use std::alloc::Allocator;
@@ -64,6 +64,7 @@ fn run_input<A: Allocator + Copy, W: io::Write>(
     ensures never_read { ¬ IsErrOf result RunFault.Read }
     ensures failed { IsErrOf result RunFault.Write → AreSpent writes.new }
     ensures none_failed { ¬ IsErrOf result RunFault.Write → writes.new.failed ≡ false }
+    ensures spent { IsErrOf result RunFault.Write → AreSpentSince writes.old writes.new }
 {
     let trace = match parse(alloc, input) {
         Ok(trace) => trace,
@@ -112,6 +113,10 @@ pub fn run_trace<A: Allocator + Copy, R: io::Read, W: io::Write>(
     ensures read { (input : List ℕ)
         × Consumes (R.remaining reader.old) (R.remaining reader.new) input
         × Ends (run_of input) result (W.contents writer.old) (W.contents writer.new) }
+    // Read is answered only before too many bytes were taken: else it is Long.
+    ensures few_read { IsErrOf result RunFault.Read → (input : List ℕ)
+        × Consumes (R.remaining reader.old) (R.remaining reader.new) input
+        × (length input ≤ MAX_INPUT_BYTES) }
     // Said of the plain heap alone, where the run succeeded: which trace was read, and which
     // answers were written.
     ensures plain { IfOk result (λ summary. (script : Script)
@@ -158,6 +163,9 @@ pub fn run_trace_logged<A: Allocator + Copy, R: io::Read, W: io::Write>(
     ensures read { (input : List ℕ)
         × Consumes (R.remaining reader.old) (R.remaining reader.new) input
         × Ends (run_of input) result (W.contents writer.old) (W.contents writer.new) }
+    ensures few_read { IsErrOf result RunFault.Read → (input : List ℕ)
+        × Consumes (R.remaining reader.old) (R.remaining reader.new) input
+        × (length input ≤ MAX_INPUT_BYTES) }
     ensures plain { IfOk result (λ summary. (script : Script)
         × (answers : List Answered)
         × IsPlainRun script answers (R.remaining reader.old) (R.remaining reader.new)
@@ -178,10 +186,14 @@ pub fn run_trace_logged<A: Allocator + Copy, R: io::Read, W: io::Write>(
     // isn't.
     ensures read_failed { IsErrOf result RunFault.Read → AreSpent reads.new }
     ensures no_read_failed { ¬ IsErrOf result RunFault.Read → reads.new.failed ≡ false }
+    // Each read that was made took one of those that were left.
+    ensures reads_counted { CountsDown reads.old.left reads.old reads.new }
     // Write is answered only where a write failed or none was left, and no write failed where it
     // isn't.
     ensures write_failed { IsErrOf result RunFault.Write → AreSpent writes.new }
     ensures no_write_failed { ¬ IsErrOf result RunFault.Write → writes.new.failed ≡ false }
+    // Where no write failed, 33,554,432 of them were made.
+    ensures writes_spent { IsErrOf result RunFault.Write → AreSpentSince writes.old writes.new }
 {
     // The laws from which the clauses on the plain heap follow.
     heaps_answer_as_plain_heaps();

@@ -34,6 +34,7 @@ loop-request-preserved g c =
       flips = omega (arith, ap (λ s. s.flips) sum, bit_le (is_flip x), c.loop-request.invariant.flips);
       root_words = omega (arith, c.in_ok-play_request.ensures.few_roots, c.loop-request.invariant.root_words);
       none_failed = c.in_ok-play_request.ensures.none_failed (ok_no_error _ _);
+      counted = grind (arith, c.in_ok-play_request.ensures.counted, c.loop-request.invariant.counted);
     }
 
 pub returns-clause-summary : goal.returns-clause-summary

@@ -1,6 +1,7 @@
 use Rattle.std.proofs.Common.{◌≡◌, ◌≤◌, ◌*◌, ◌^◌, false, take, drop}
 use Rattle.std.specs.List.{flat_map}
 use Rattle.std.specs.Io.KnownBytes.{Appends}
+use Rattle.rh_text.specs.IoLog.{MadeSince}
 use Rattle.rh_trace.specs.Answers.{answered_text}
 use Rattle.rh_trace.specs.Run.{answers_to, summary_of}
 use Rattle.rh_trace.proofs.playing.play.Given as goal
@@ -15,4 +16,5 @@ invariant-loop-request g l = record {
   flips : l.summary.flips ≤ l.request-index;
   root_words : l.summary.root_words ≤ 2 ^ 32 * l.request-index;
   none_failed : l.writes.failed ≡ false;
+  counted : MadeSince 0 l.fn.writes l.writes;
 }

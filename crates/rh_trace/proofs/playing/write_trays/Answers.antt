@@ -6,6 +6,7 @@ use Rattle.rh_trace.specs.Answers.{with_line_end, trays_text}
 use Rattle.rh_engine.specs.CycleAnswers.{tray_text}
 use Rattle.rh_engine.specs.Trays.{Tray, tray_of}
 use Rattle.rh_trace.specs.Run.{Writes}
+use Rattle.rh_text.specs.IoLog.{MadeSince}
 use Rattle.rh_text.specs.lemmas.Appends.{sent_next}
 use Rattle.rh_trace.proofs.WrittenInTurn.{stopped_at, ok_no_error}
 use Rattle.rh_trace.proofs.playing.write_trays.Goals as goal
@@ -36,10 +37,12 @@ loop-i-preserved g c = elim c.match-tray.branch [
       let there = sym w.in-Some.ensures in
       let here : with_line_end w.put_tray.new.text ≡ line_of t = ap with_line_end w.put_tray.ensures.value in
       let line : with_line_end w.put_tray.new.text ≡ line_of (get_or c.args.trays.now i t) = here ∙ ap line_of (sym (get_or_from_slice_get c.args.trays.now i t t there)) in
+      let counted : MadeSince 0 c.args.writes.now w.write_line.new.writes = grind (arith, w.in_ok-write_line.ensures.counted, c.loop-i.invariant.counted) in
       record {
         sent = subst (λ writer. Appends (known c.args.writer.now) (known writer) (trays_text (take (i + 1) c.args.trays.now))) (sym w.writer-is)
             (sent_next line_of (known c.args.writer.now) (known c.loop-i.writer) (known w.write_line.new.writer) [] (with_line_end w.put_tray.new.text) c.args.trays.now i t (slice_get_within c.args.trays.now i t there) line c.loop-i.invariant.sent w.in_ok-write_line.ensures.written);
         none_failed = ap (λ writes. writes.failed) w.writes-is ∙ w.in_ok-write_line.ensures.none_failed (ok_no_error _ _);
+        counted = subst (MadeSince 0 c.args.writes.now) (sym w.writes-is) counted;
       }
   | in_default w ↦
       let none = w.in_default.ensures ∙ slice_get-get_or c.args.trays.now c.loop-i.i ([], record { epoch = 0; entries = [] }) (omega (arith, c.loop-i-test.true, c.len-i-end.ensures)) in

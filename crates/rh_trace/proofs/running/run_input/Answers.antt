@@ -57,6 +57,9 @@ returns-in-Ok-play-clause-begun g c =
 pub returns-in-Err-Write-clause-failed : goal.returns-in-Err-Write-clause-failed
 returns-in-Err-Write-clause-failed g c = λ failed. c.play.ensures.failed (c.in-Err-Write.is ∙ ap Err c.in-Err-Write.field-0-is)
 
+pub returns-in-Err-Write-clause-spent : goal.returns-in-Err-Write-clause-spent
+returns-in-Err-Write-clause-spent g c = λ failed. c.play.ensures.spent (c.in-Err-Write.is ∙ ap Err c.in-Err-Write.field-0-is)
+
 pub returns-in-Err-Write-clause-ends : goal.returns-in-Err-Write-clause-ends
 returns-in-Err-Write-clause-ends g c =
     let script = c.in-Ok.trace in

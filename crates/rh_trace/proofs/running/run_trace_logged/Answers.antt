@@ -1,9 +1,19 @@
-use Rattle.std.proofs.Common.{sym, subst, ◌∙◌, inl}
+use Rattle.std.proofs.Common.{ℕ, ◌≡◌, ◌≤◌, List, length, Vec, Option, Err, sym, subst, ◌∙◌, inl}
 use Rattle.std.specs.Io.KnownBytes.{Consumes}
+use Rattle.rh_text.specs.Input.{ReadsAll}
+use Rattle.rh_text.specs.declared.input.InputFault.{InputFault}
+use Rattle.rh_text.specs.declared.input.InputFault.TheVariants.{Read}
 use Rattle.rh_text.specs.lemmas.Appends.{Keeps-same}
 use Rattle.rh_trace.proofs.AnswersInTurn.{nothing_written, unwritten}
 use Rattle.rh_trace.proofs.PlainAnswers.{plain, plain_prefix, plain_memory}
 use Rattle.rh_trace.proofs.running.run_trace_logged.Goals as goal
+
+-- what a reader gave before a read failed
+given_before : {X : Type 0} (view : X → List ℕ) (fault : InputFault) (old left : Option (List ℕ)) → fault ≡ Read → ReadsAll old left view (Err fault) → (input : List ℕ) × Consumes old left input × (length input ≤ 16777216)
+given_before view fault old left is given = subst (λ (f : InputFault). ReadsAll old left view (Err f)) is given
+
+pub returns-in-Err-Read-clause-few_read : goal.returns-in-Err-Read-clause-few_read
+returns-in-Err-Read-clause-few_read g c = λ read. given_before (λ (v : Vec ℕ g.row.A.Denot). v.items) c.in-Err-Read.field-0 (g.R.Read.remaining c.args.reader.now) (g.R.Read.remaining c.read_all.new.reader) c.in-Err-Read.field-0-is c.in-Err-Read.ensures.bytes
 
 pub returns-in-Err-OutOfMemory-clause-told : goal.returns-in-Err-OutOfMemory-clause-told
 returns-in-Err-OutOfMemory-clause-told g c = nothing_written (g.R.Read.remaining c.args.reader.now) (g.W.Write.contents c.args.writer.now)
