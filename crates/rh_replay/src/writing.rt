@@ -2,7 +2,7 @@
 
 ghost use Rattle.std.specs.Prelude.{◌≡◌, false, OnOk, OnErr};
 ghost use Rattle.std.specs.Io.KnownBytes.{Appends};
-ghost use Rattle.rh_text.specs.IoLog.{AreSpent};
+ghost use Rattle.rh_text.specs.IoLog.{AreSpent, AreSpentSince};
 ghost use Rattle.rh_text.specs.Output.{AppendsLess};
 ghost use Rattle.rh_replay.specs.Report.{count_of, owner_line, verdict_line, report_text};
 ghost use Rattle.rh_replay.specs.Spelling.{header_line, call_line, end_line, spelling};
@@ -87,6 +87,8 @@ pub fn write_history_logged<A: Allocator, W: io::Write>(
     // It is refused only where a write failed or none was left, and no write failed where it isn't.
     ensures failed { OnErr result (AreSpent writes.new) }
     ensures none_failed { OnOk result (writes.new.failed ≡ false) }
+    // Where no write failed, 33,554,432 of them were made.
+    ensures spent { OnErr result (AreSpentSince writes.old writes.new) }
 {
     let mut text = LineText::new();
     put_header(&mut text, history.owners(), history.slots());
@@ -187,6 +189,8 @@ pub fn report_logged<A: Allocator, W: io::Write>(
     // It is refused only where a write failed or none was left, and no write failed where it isn't.
     ensures failed { OnErr result (AreSpent writes.new) }
     ensures none_failed { OnOk result (writes.new.failed ≡ false) }
+    // Where no write failed, 33,554,432 of them were made.
+    ensures spent { OnErr result (AreSpentSince writes.old writes.new) }
 {
     let mut text = LineText::new();
     let owners = history.owners();

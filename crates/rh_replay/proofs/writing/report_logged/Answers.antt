@@ -26,6 +26,7 @@ loop-owner-preserved g c =
     record {
       sent = owner_sent (known c.args.writer.now) (known c.loop-owner.writer) (known c.send.new.writer) calls c.loop-owner.owner c.as_bytes.result.now (line ∙ ap (owner_line c.loop-owner.owner) c.count_of.ensures) c.loop-owner.invariant.sent c.in_ok-send.ensures.ok;
       none_failed = c.in_ok-send.ensures.none_failed;
+      counted = grind (arith, c.in_ok-send.ensures.counted, c.loop-owner.invariant.counted);
     }
 
 pub returns-in_err-send-2-clause-err : goal.returns-in_err-send-2-clause-err

@@ -1,4 +1,4 @@
-use Rattle.std.proofs.Common.{◌≡◌, ◌++◌, take, length, ap, subst, sym, ◌∙◌, append_assoc}
+use Rattle.std.proofs.Common.{◌≡◌, ◌++◌, take, length, ap, subst, sym, ◌∙◌, append_assoc, arith}
 use Rattle.std.proofs.lemmas.List.{append-nil}
 use Rattle.std.specs.List.{flat_map}
 use Rattle.std.specs.Io.KnownBytes.{Appends}
@@ -25,6 +25,7 @@ loop-call-init g c =
     record {
       sent = Appends-at (known c.args.writer.now) (known c.send.new.writer) c.as_bytes.result.now (header_line h.owners h.slots ++ flat_map call_line (take 0 c.calls-calls.result.now)) text c.in_ok-send.ensures.ok;
       none_failed = c.in_ok-send.ensures.none_failed;
+      counted = grind (arith, c.in_ok-send.ensures.counted);
     }
 
 pub returns-in_err-send-2-clause-err : goal.returns-in_err-send-2-clause-err
@@ -45,6 +46,7 @@ loop-call-preserved g c =
     record {
       sent = sent_next call_line (known c.args.writer.now) (known c.loop-call.writer) (known c.send-in-loop-call.new.writer) (header_line h.owners h.slots) c.as_bytes-in-loop-call.result.now c.calls-calls.result.now c.loop-call.call-index _ c.loop-call-test.true (c.as_bytes-in-loop-call.ensures ∙ c.put_call.ensures) c.loop-call.invariant.sent c.in_ok-send-2.ensures.ok;
       none_failed = c.in_ok-send-2.ensures.none_failed;
+      counted = grind (arith, c.in_ok-send-2.ensures.counted, c.loop-call.invariant.counted);
     }
 
 pub returns-in_err-send-3-clause-err : goal.returns-in_err-send-3-clause-err
