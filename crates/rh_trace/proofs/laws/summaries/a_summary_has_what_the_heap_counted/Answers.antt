@@ -14,7 +14,7 @@ returns-clause-flips c =
     let refused = c.a_flip_is_refused_exactly_where_its_cycle_is_not_closed.ensures.refused in
     flips_of-requests (record {
       command = λ h owner what. (ap (λ (g : HeapState). g.flips) (command h owner what), ap (λ (g : HeapState). g.root_words) (command h owner what));
-      begin = λ h. ((begin h).6, (begin h).7);
+      begin = λ h. (ap (λ (g : HeapState). g.flips) (begin h), ap (λ (g : HeapState). g.root_words) (begin h));
       shade = λ h root. (ap (λ (g : HeapState). g.flips) (shade h root), ap (λ (g : HeapState). g.root_words) (shade h root));
       deal = λ h kind most. (ap (λ (g : HeapState). g.flips) (deal h kind most), ap (λ (g : HeapState). g.root_words) (deal h kind most));
       give = λ h r. (ap (λ (g : HeapState). g.flips) (give h r), ap (λ (g : HeapState). g.root_words) (give h r));
@@ -32,7 +32,7 @@ returns-clause-root_words c =
     let refused = c.a_flip_is_refused_exactly_where_its_cycle_is_not_closed.ensures.refused in
     root_words_of-requests (record {
       command = λ h owner what. (ap (λ (g : HeapState). g.flips) (command h owner what), ap (λ (g : HeapState). g.root_words) (command h owner what));
-      begin = λ h. ((begin h).6, (begin h).7);
+      begin = λ h. (ap (λ (g : HeapState). g.flips) (begin h), ap (λ (g : HeapState). g.root_words) (begin h));
       shade = λ h root. (ap (λ (g : HeapState). g.flips) (shade h root), ap (λ (g : HeapState). g.root_words) (shade h root));
       deal = λ h kind most. (ap (λ (g : HeapState). g.flips) (deal h kind most), ap (λ (g : HeapState). g.root_words) (deal h kind most));
       give = λ h r. (ap (λ (g : HeapState). g.flips) (give h r), ap (λ (g : HeapState). g.root_words) (give h r));
