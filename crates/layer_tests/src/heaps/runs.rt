@@ -6,7 +6,7 @@ use refusing::refused_in_turn;
 use rh_core::laws::runs::{
     a_run_keeps_what_was_dealt_logged_and_granted, an_event_answers_as_the_plain_heap,
     an_event_keeps_what_was_dealt_logged_and_granted, an_event_moves_the_store_list,
-    every_event_keeps_a_heap_well_formed,
+    events_spend_their_units, every_event_keeps_a_heap_well_formed,
 };
 use rh_core::{Answer, Config, Event, Heap, HeapError, Kind, Shaded};
 use rh_layout::{Command, Item, Operand, OutOfMemory, Reply, Value};
@@ -181,6 +181,7 @@ fn the_laws_hold() {
     an_event_answers_as_the_plain_heap::<Global>();
     an_event_moves_the_store_list::<Global>();
     an_event_keeps_what_was_dealt_logged_and_granted::<Global>();
+    events_spend_their_units::<Global>();
     every_event_keeps_a_heap_well_formed::<Global>();
     a_run_keeps_what_was_dealt_logged_and_granted::<Global>();
 }
