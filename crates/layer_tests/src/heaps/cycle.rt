@@ -37,8 +37,10 @@ fn the_last_epoch(rt: HostRuntime) {
         let mut heap = Heap::new(rt.alloc(), sizes).expect(&rt, "a heap");
         for epoch in 1..last_epoch {
             expect_equal(&rt, heap.begin(), Ok(epoch));
+            expect_equal(&rt, (heap.epoch(), heap.is_in_cycle()), (epoch, true));
             assert!(rt; heap.flip().is_ok());
         }
+        expect_equal(&rt, heap.config(), sizes);
         expect_equal(&rt, heap.begin(), Err(BeginError::EpochsSpent));
     }
 }
@@ -98,8 +100,22 @@ fn first_placed<A: Allocator + Copy>(rt: &impl Abort, memory: A) -> Heap<A> {
     heap
 }
 
+/// The pair that stands in a field of to-space that has to be there.
+fn replica_pair<A: Allocator + Copy>(
+    rt: &impl Abort,
+    heap: &Heap<A>,
+    a: u32,
+    f: u32,
+) -> (u64, Value) {
+    let replica = heap.replica();
+    assert!(rt; replica.is_object(a));
+    assert!(rt; f < replica.fields(a));
+    replica.field(a, f)
+}
+
 /// Copies come in order of placing, then of field; of the entries only those of placed objects.
-/// Whether the entries are given or not, the same pairs stand in the fields after the flip.
+/// Whether the entries are given or not, the same pairs stand in to-space before the flip and in
+/// from-space after it.
 fn play_deals<A: Allocator + Copy>(rt: &impl Abort, memory: A, gives_entries: bool) {
     let mut heap = first_placed(rt, memory);
     let stored = item(0, 0, 1, Value::Ref(4));
@@ -112,6 +128,10 @@ fn play_deals<A: Allocator + Copy>(rt: &impl Abort, memory: A, gives_entries: bo
     let items = [stored, item(0, 1, 0, Value::Nil), item(4, 0, 2, Value::Nil)];
     let copies = deals(rt, &mut heap, Kind::Copies, &items);
     assert!(rt; heap.give(&replica_of(rt, memory, &copies)).is_ok());
+    for item in &items {
+        let pair = replica_pair(rt, &heap, item.object, item.field);
+        expect_equal(rt, pair, (item.number, item.value));
+    }
     assert!(rt; heap.flip().is_ok());
     for item in &items {
         let pair = heap.field(item.object, item.field);
