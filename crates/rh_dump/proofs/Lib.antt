@@ -1,3 +1,4 @@
 mod numbers
 mod texts
 mod graphs
+mod described

@@ -8,7 +8,7 @@ ghost use Rattle.rh_model.specs.Reach.{Reached};
 ghost use Rattle.rh_model.specs.SameGraph.{SameGraph};
 ghost use Rattle.rh_model.specs.Plain as plain;
 ghost use Rattle.rh_model.specs.Plain.{PlainHeap, IsPlain};
-ghost use Rattle.rh_dump.specs.PlainDump.{plain_dump_of};
+ghost use Rattle.rh_dump.specs.PlainDump.{plain_dump_of, plain_heap_of};
 ghost use Rattle.rh_dump.specs.Dumpable.{IsDumpable};
 ghost use Rattle.rh_dump.specs.Numbering.{names_after, dump_below, ReachesObjectsBelow};
 ghost use Rattle.rh_dump.specs.Dump.{GraphState, IsGraph};
@@ -85,6 +85,31 @@ pub fn what_is_spelled_is_read()
 /// Graphs with equal texts are equal, however long these are.
 pub fn equal_texts_are_of_equal_graphs()
     ensures { (a b : GraphState) → IsGraph a → IsGraph b → dump_text a ≡ dump_text b → a ≡ b }
+{}
+
+/// What every graph keeps is what every dump of a plain heap of at most 16,777,216 objects keeps,
+/// and no more. So each graph is a dump: that of the plain heap that it describes, which is well
+/// formed, and each text that is read is the text of this dump.
+pub fn graphs_are_the_dumps_of_plain_heaps()
+    ensures exact { (g : GraphState) → IsGraph g ↔ ((p : PlainHeap) × IsPlain p
+        × (length p.objects ≤ MAX_OBJECTS) × (plain_dump_of p ≡ g)) }
+    ensures described { (g : GraphState) → IsGraph g
+        → IsPlain (plain_heap_of g) × (plain_dump_of (plain_heap_of g) ≡ g) }
+    ensures texts { (text : List ℕ) (g : GraphState) → graph_of_text text ≡ Ok g
+        → IsPlain (plain_heap_of g) × (text ≡ dump_text (plain_dump_of (plain_heap_of g))) }
+{}
+
+/// Each graph has one spelling: two texts that are read are equal exactly where the plain heaps
+/// that they describe are the same graph, up to the names of their objects, and so are two graphs.
+/// The dump of a plain heap describes the same graph as the heap.
+pub fn each_graph_has_one_text()
+    ensures texts { (s t : List ℕ) (g h : GraphState) → graph_of_text s ≡ Ok g
+        → graph_of_text t ≡ Ok h → (s ≡ t)
+        ↔ SameGraph (plain.graph_of (plain_heap_of g)) (plain.graph_of (plain_heap_of h)) }
+    ensures graphs { (g h : GraphState) → IsGraph g → IsGraph h → (g ≡ h)
+        ↔ SameGraph (plain.graph_of (plain_heap_of g)) (plain.graph_of (plain_heap_of h)) }
+    ensures back { (p : PlainHeap) → IsPlain p → length p.objects ≤ MAX_OBJECTS
+        → SameGraph (plain.graph_of p) (plain.graph_of (plain_heap_of (plain_dump_of p))) }
 {}
 
 /// The fault that reading names is the one that comes first in the order of the format: it holds on

@@ -224,7 +224,7 @@ module _ (g : Graph) where
 
 -- Roots in order, within the limits
 
-AllByRecursion-members : {X : Type 0} (P : X → Type 0) (xs : List X) → ((x : X) → Member x xs → P x) → AllByRecursion P xs
+pub AllByRecursion-members : {X : Type 0} (P : X → Type 0) (xs : List X) → ((x : X) → Member x xs → P x) → AllByRecursion P xs
 AllByRecursion-members P [] each = tt
 AllByRecursion-members P (x ∷ xs) each = (each x (inl refl), AllByRecursion-members P xs (λ y m. each y (inr m)))
 
@@ -270,7 +270,7 @@ module _ (held : RootId → Value) where
         | inr last ↦ inr (within_slots owner slots entry last)
       ]))
 
-  rise_roots : (slots owners : ℕ) → RootsRise None (filled_roots held slots owners)
+  pub rise_roots : (slots owners : ℕ) → RootsRise None (filled_roots held slots owners)
   rise_roots slots zero = tt
   rise_roots slots (suc owners) = rise_slots slots owners slots (rise_roots slots owners)
 

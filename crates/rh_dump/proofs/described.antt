@@ -1,0 +1,4 @@
+-- The plain heap that a graph describes, whose dump it is.
+pub mod HeldRoots
+pub mod NumberedNames
+pub mod DescribedHeaps
