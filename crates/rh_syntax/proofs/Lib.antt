@@ -2,3 +2,4 @@ pub mod LeadingLines
 pub mod OneRequest
 pub mod WorkedReading
 pub mod WorkedRefusals
+pub mod OneAnswer

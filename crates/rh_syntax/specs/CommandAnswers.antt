@@ -1,10 +1,11 @@
 -- The texts of the answers to commands, without line ends.
-use Rattle.std.specs.Prelude.{ℕ, true, false, List, [], ◌++◌, Result, Ok, Err, codes, decimal}
+use Rattle.std.specs.Prelude.{ℕ, ◌<◌, ◌^◌, ⊤, true, false, List, [], ◌++◌, Result, Ok, Err, codes, decimal}
 use Rattle.std.specs.Fmt.{signed_decimal}
 use Rattle.rh_layout.specs.declared.command.Reply.{Reply}
 use Rattle.rh_layout.specs.declared.command.Reply.TheVariants.{Done, Nil, Int, Object, Same}
 use Rattle.rh_layout.specs.declared.refusal.Refusal.{Refusal}
 use Rattle.rh_layout.specs.declared.refusal.Refusal.TheVariants.{NoRoot, NotYours, NotObject, NoField, IntRange, FieldsRange, SpaceFull, LogFull, NumbersSpent}
+use Rattle.rh_text.specs.Number.{IsI64}
 
 -- what a reply is written as
 abbrev pub reply_text : Reply → List ℕ
@@ -48,3 +49,23 @@ refused_text refusal = codes "refused " ++ (refusal_name refusal ++ refusal_part
 abbrev pub answer_text : Result Reply Refusal → List ℕ
 answer_text (Ok reply) = reply_text reply
 answer_text (Err refusal) = refused_text refusal
+
+-- a number that has 128 bits, as each has that an answer tells
+abbrev pub IsU128 : ℕ → Type 0
+IsU128 n = n < 2 ^ 128
+
+-- what a reply tells fits: a whole number of 64 bits, or a number of fields
+abbrev pub IsToldReply : Reply → Type 0
+IsToldReply (Int n) = IsI64 n
+IsToldReply (Object fields) = IsU128 fields
+IsToldReply other = ⊤
+
+-- the numbers that a refusal tells fit
+abbrev pub IsToldRefusal : Refusal → Type 0
+IsToldRefusal (SpaceFull need free) = IsU128 need × IsU128 free
+IsToldRefusal other = ⊤
+
+-- what an answer tells fits
+abbrev pub IsToldAnswer : Result Reply Refusal → Type 0
+IsToldAnswer (Ok reply) = IsToldReply reply
+IsToldAnswer (Err refusal) = IsToldRefusal refusal

@@ -3,3 +3,4 @@ pub mod LinesInTurn
 pub mod ReadIsSpelled
 pub mod SpelledIsRead
 pub mod FirstFault
+pub mod TextNumbers

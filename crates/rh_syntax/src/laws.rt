@@ -1,9 +1,12 @@
 //! Laws of the definitions alone. Each function does nothing: its contract is the law.
 
-ghost use Rattle.std.specs.Prelude.{◌≡◌, ℕ, List, Some, Ok, Err};
+ghost use Rattle.std.specs.Prelude.{◌≡◌, ℕ, List, Some, Result, Ok, Err};
 ghost use Rattle.rh_text.specs.RawLine.{RawLine, lines_of, raw_text};
 ghost use Rattle.rh_text.specs.Stages.{IsFaultless, IsFirst, IsLeast};
 ghost use Rattle.rh_layout.specs.declared.command.Command.{Command as CommandOf};
+ghost use Rattle.rh_layout.specs.declared.command.Reply.{Reply};
+ghost use Rattle.rh_layout.specs.declared.refusal.Refusal.{Refusal};
+ghost use Rattle.rh_syntax.specs.CommandAnswers.{answer_text, IsToldAnswer};
 ghost use Rattle.rh_syntax.specs.Faults.{command_faults, header_faults, line_faults, trace_faults};
 ghost use Rattle.rh_syntax.specs.Line.{line_of};
 ghost use Rattle.rh_syntax.specs.Reading.{single_command, trace_of};
@@ -63,4 +66,11 @@ pub fn the_names_of_trays_are_read()
     ensures read { (part name : List ℕ) → tray_name_of part ≡ Some name
         → (name ≡ part) × IsTrayName name }
     ensures named { (name : List ℕ) → IsTrayName name → tray_name_of name ≡ Some name }
+{}
+
+/// Each text is of one answer to a command alone: two answers with the same text, whose numbers
+/// fit as those of a heap do, are the same. So a text tells all that its answer does.
+pub fn each_text_is_of_one_answer()
+    ensures { (a b : Result Reply Refusal) → IsToldAnswer a → IsToldAnswer b
+        → answer_text a ≡ answer_text b → a ≡ b }
 {}
