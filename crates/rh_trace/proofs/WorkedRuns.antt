@@ -1,5 +1,5 @@
 -- The definitions at work: what is written where a field is stored to between a deal and a give, and
--- answers that are not those of a plain heap.
+-- where what is held was stored over and is given again, and answers that are not those of a plain heap.
 use Rattle.std.proofs.Common.{◌≡◌, ℕ, List, [], ◌∷◌, ◌++◌, Result, Ok, refl, ap, subst}
 use Rattle.std.specs.Prelude.{codes}
 use Rattle.std.specs.Fmt.{digits}
@@ -57,17 +57,21 @@ rows =
     ∷ (codes "flip", codes "refused Missing 1" ∷ [])
     ∷ (codes "deal copies 9 c", codes "dealt 1 passed 0" ∷ [])
     ∷ (codes "give c", codes "given joined 1 repeated 0 stale 0 placed 0" ∷ [])
+    ∷ (codes "1 store 0.0 0 8", codes "done" ∷ [])
+    ∷ (codes "give c", codes "given joined 0 repeated 0 stale 1 placed 0" ∷ [])
+    ∷ (codes "deal entries 9 e", codes "dealt 1 passed 0" ∷ [])
+    ∷ (codes "give e", codes "given joined 1 repeated 1 stale 0 placed 0" ∷ [])
     ∷ (codes "flip", codes "flipped roots 3 live 10" ∷ [])
-    ∷ (codes "join t e", codes "joined 3" ∷ [])
-    ∷ (codes "trays", codes "tray t epoch 1 entries 3" ∷ codes "tray e epoch 1 entries 1" ∷ codes "tray c epoch 1 entries 1" ∷ [])
-    ∷ (codes "stat", codes "stat used 10 free 6 cycle off epoch 2 number 2 log 0 granted 48 spent 24 placed 0 missing 0" ∷ [])
+    ∷ (codes "join t e", codes "joined 4" ∷ [])
+    ∷ (codes "trays", codes "tray t epoch 1 entries 4" ∷ codes "tray e epoch 1 entries 2" ∷ codes "tray c epoch 1 entries 1" ∷ [])
+    ∷ (codes "stat", codes "stat used 10 free 6 cycle off epoch 2 number 3 log 0 granted 48 spent 29 placed 0 missing 0" ∷ [])
     ∷ []
 
 trace : List ℕ
 trace = text (codes "heap 16 8 4 2 2" ∷ flat_map (λ row. row.0 ∷ []) rows)
 
 answers : List ℕ
-answers = text (flat_map (λ row. row.1) rows ++ codes "total commands 5 refused 0 flips 1 rootwords 3" ∷ [])
+answers = text (flat_map (λ row. row.1) rows ++ codes "total commands 6 refused 0 flips 1 rootwords 3" ∷ [])
 
 run : text_of (run_of trace) ≡ answers
 unfolding digits script_or_fault header_or_kind request_or_kind requests_from checked_parts is_formed header_of_parts six_parts sizes_of number_of integer_of request_of_parts command_or_fault read_alloc read_store operand_or_fault keyword_request read_shade read_deal read_give read_join kind_or_fault is_tray_name one_part two_parts three_parts root_of heap_step heap_after_command limit_of mutators_after refusal_of fault_in reply_to begin_step flip_step shade_step deal_step give_step class_of text rows trace answers
