@@ -1,7 +1,7 @@
 //! Mutation logs.
 
 use crate::commands::item;
-use crate::expectations::{expect_equal, expect_text};
+use crate::expectations::{expect_equal, expect_text, expect_texts};
 use refusing::{RefusingAllocator, refused_in_turn};
 use rh_layout::{Item, Value};
 use rh_log::{Log, LogError, NumbersSpent, PushError};
@@ -73,19 +73,17 @@ fn the_greatest_log_is_filled(rt: HostRuntime) {
 
 #[test]
 fn texts_of_errors(rt: HostRuntime) {
-    for &(error, text) in &[
+    let no_log = [
         (LogError::BadLog, "BadLog"),
         (LogError::BadNumbers, "BadNumbers"),
         (LogError::OutOfMemory, "out of memory"),
-    ] {
-        expect_text(&rt, error, text);
-    }
-    for &(error, text) in &[
+    ];
+    expect_texts(&rt, &no_log);
+    let not_pushed = [
         (PushError::LogFull, "LogFull"),
         (PushError::NumbersSpent, "NumbersSpent"),
-    ] {
-        expect_text(&rt, error, text);
-    }
+    ];
+    expect_texts(&rt, &not_pushed);
     expect_text(&rt, NumbersSpent, "NumbersSpent");
 }
 
