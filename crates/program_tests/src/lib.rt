@@ -6,6 +6,8 @@ mod devices;
 #[cfg(test)]
 mod dumps;
 #[cfg(test)]
+mod errors;
+#[cfg(test)]
 mod expectations;
 #[cfg(test)]
 mod failed_calls;
