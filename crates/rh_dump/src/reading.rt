@@ -131,7 +131,7 @@ pub fn read_dump_logged<A: Allocator + Copy, R: io::Read>(
         Ok(text) => graph_in_text(alloc, &text),
         Err(InputFault::Read) => Err(DumpReadError::Read),
         Err(InputFault::OutOfMemory) => Err(DumpReadError::OutOfMemory),
-        // Not answered here.
+        // Reading past a limit never answers it.
         Err(InputFault::Long) => Err(DumpReadError::Read),
     }
 }
