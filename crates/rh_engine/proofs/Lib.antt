@@ -7,3 +7,6 @@ pub mod PutTrays
 pub mod SetTrays
 pub mod LineOrder
 pub mod TrayChanges
+pub mod OneCycleAnswer
+pub mod OneListing
+pub mod TrayLimit

@@ -1,3 +1,4 @@
 pub mod Trays
 pub mod Engine
 pub mod CycleAnswers
+pub mod ToldAnswers

@@ -1,7 +1,7 @@
 //! Laws of trays, and of the lines that deal into them. Each function does nothing: its contract is
 //! the law.
 
-ghost use Rattle.std.specs.Prelude.{◌≡◌, ◌≢◌, ◌++◌, ◌∷◌, [], ℕ, List, Some, Ok, Err, is_some, map, None, if◌then◌else◌};
+ghost use Rattle.std.specs.Prelude.{◌≡◌, ◌≢◌, ◌↔◌, ◌≤◌, ◌+◌, ◌++◌, ◌∷◌, [], ℕ, List, length, true, Some, Result, Ok, Err, is_some, map, None, if◌then◌else◌};
 ghost use Rattle.std.specs.List.Sorted.{IsStrictlySortedBy};
 ghost use Rattle.std.specs.Map.{keys_of};
 ghost use Rattle.rh_layout.specs.Item.{place_cmp, place_of};
@@ -12,9 +12,20 @@ ghost use Rattle.rh_text.specs.Stages.{IsFaultless, IsLeast};
 ghost use Rattle.rh_layout.specs.declared.kind.Kind.{Kind as PieceKind};
 ghost use Rattle.rh_engine.specs.declared.engine.TrayDeal.{TrayDeal};
 ghost use Rattle.rh_engine.specs.declared.engine.DealRefusal.{DealRefusal};
+ghost use Rattle.rh_engine.specs.declared.engine.DealRefusal.TheVariants.{TooManyTrays};
 ghost use Rattle.rh_engine.specs.declared.engine.GiveRefusal.{GiveRefusal};
 ghost use Rattle.rh_engine.specs.declared.trays.JoinRefusal.{JoinRefusal};
+ghost use Rattle.rh_engine.specs.declared.trays.JoinRefusal.TheVariants as joins;
+ghost use Rattle.rh_core.specs.declared.errors.BeginError.{BeginError};
+ghost use Rattle.rh_core.specs.declared.errors.FlipError.{FlipError};
+ghost use Rattle.rh_core.specs.declared.errors.ShadeError.{ShadeError};
+ghost use Rattle.rh_core.specs.declared.outcomes.Flipped.{Flipped};
 ghost use Rattle.rh_core.specs.declared.outcomes.Given.{Given as GivenOf};
+ghost use Rattle.rh_core.specs.declared.outcomes.Shaded.{Shaded};
+ghost use Rattle.rh_core.specs.declared.stat.Stat.{Stat};
+ghost use Rattle.rh_syntax.specs.TrayName.{IsTrayName};
+ghost use Rattle.rh_engine.specs.CycleAnswers.{begin_text, shade_text, deal_text, give_text, join_text, flip_text, tray_text, stat_text};
+ghost use Rattle.rh_engine.specs.ToldAnswers.{IsToldBegin, IsToldShade, IsToldDeal, IsToldGive, IsToldJoin, IsToldFlip, IsToldTray, IsToldStat};
 ghost use Rattle.rh_engine.specs.Trays.{Trays as TraysOf, Tray, tray_named, trays_with, entries_with_all, replica_of, tray_of, IsJoinedInto};
 ghost use Rattle.rh_engine.specs.Engine.{EngineState, deal_line_step, refusals_of_deal, join_line_step, refusals_of_join, give_line_step, refusals_of_give, IsDealtInto};
 
@@ -102,4 +113,51 @@ pub fn gives_of_trays_are_refused_in_order()
     ensures trays { (e : EngineState) (name : List ℕ)
         → (give_line_step e name).0.trays ≡ e.trays }
     ensures whole { (t : Tray) → tray_of (replica_of t) ≡ t }
+{}
+
+/// There are at most 64 trays: in a cycle a deal into a tray is refused with TooManyTrays, and
+/// changes nothing, exactly where there is none of its name and there are 64 others, and so is a
+/// join of a tray that is there into one. A name that is new makes one tray more, and one that is
+/// there none.
+pub fn a_tray_more_than_64_is_refused()
+    ensures deal { (e : EngineState) (kind : PieceKind) (most : ℕ) (name : List ℕ)
+        → e.heap.mutators.cycle ≡ true
+        → (deal_line_step e kind most name ≡ (e, Err TooManyTrays))
+        ↔ ((tray_named e.trays name ≡ None) × (64 ≤ length e.trays)) }
+    ensures join { (e : EngineState) (into other : List ℕ) (t : Tray)
+        → tray_named e.trays other ≡ Some t
+        → (join_line_step e into other ≡ (e, Err joins.TooManyTrays))
+        ↔ ((tray_named e.trays into ≡ None) × (64 ≤ length e.trays)) }
+    ensures counted { (trays : TraysOf) (name : List ℕ) (t : Tray)
+        → length (trays_with trays name t)
+        ≡ (if is_some (tray_named trays name) then length trays else length trays + 1) }
+{}
+
+/// Each text is of one answer to a line of its kind alone: two answers to lines of one kind with
+/// the same text, whose numbers have at most 128 bits, as all have that a call answers, are the
+/// same. Over lines of two kinds a refusal of one name has one text, as NoCycle has.
+pub fn each_text_is_of_one_answer_to_its_line()
+    ensures begin { (a b : Result ℕ BeginError) → IsToldBegin a → IsToldBegin b
+        → begin_text a ≡ begin_text b → a ≡ b }
+    ensures shade { (a b : Result Shaded ShadeError) → IsToldShade a → IsToldShade b
+        → shade_text a ≡ shade_text b → a ≡ b }
+    ensures deal { (a b : Result TrayDeal DealRefusal) → IsToldDeal a → IsToldDeal b
+        → deal_text a ≡ deal_text b → a ≡ b }
+    ensures give { (a b : Result GivenOf GiveRefusal) → IsToldGive a → IsToldGive b
+        → give_text a ≡ give_text b → a ≡ b }
+    ensures join { (a b : Result ℕ JoinRefusal) → IsToldJoin a → IsToldJoin b
+        → join_text a ≡ join_text b → a ≡ b }
+    ensures flip { (a b : Result Flipped FlipError) → IsToldFlip a → IsToldFlip b
+        → flip_text a ≡ flip_text b → a ≡ b }
+{}
+
+/// The line of a tray tells its name, its epoch and how many entries it has, and not which. The
+/// line of a heap's numbers tells all of them but the flips and the words of roots that they wrote,
+/// which the total line of a trace tells.
+pub fn listings_tell_what_they_list()
+    ensures tray { (name other : List ℕ) (t u : Tray) → IsTrayName name → IsTrayName other
+        → IsToldTray t → IsToldTray u → tray_text name t ≡ tray_text other u
+        → (name ≡ other) × (t.epoch ≡ u.epoch) × (length t.entries ≡ length u.entries) }
+    ensures stat { (a b : Stat) → IsToldStat a → IsToldStat b → stat_text a ≡ stat_text b
+        → a ≡ record b { flips = a.flips; root_words = a.root_words } }
 {}

@@ -1,0 +1,20 @@
+use Rattle.rh_engine.proofs.OneCycleAnswer.{begin_text-injective, shade_text-injective, deal_text-injective, give_text-injective, join_text-injective, flip_text-injective}
+use Rattle.rh_engine.proofs.laws.each_text_is_of_one_answer_to_its_line.Goals as goal
+
+pub returns-clause-begin : goal.returns-clause-begin
+returns-clause-begin c = begin_text-injective
+
+pub returns-clause-shade : goal.returns-clause-shade
+returns-clause-shade c = shade_text-injective
+
+pub returns-clause-deal : goal.returns-clause-deal
+returns-clause-deal c = deal_text-injective
+
+pub returns-clause-give : goal.returns-clause-give
+returns-clause-give c = give_text-injective
+
+pub returns-clause-join : goal.returns-clause-join
+returns-clause-join c = join_text-injective
+
+pub returns-clause-flip : goal.returns-clause-flip
+returns-clause-flip c = flip_text-injective
