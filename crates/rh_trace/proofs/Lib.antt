@@ -9,3 +9,4 @@ pub mod WorkedRuns
 pub mod LinesAreEvents
 pub mod TraysInOrder
 pub mod HeapDump
+pub mod OneTotal

@@ -11,7 +11,7 @@ use Rattle.rh_core.specs.declared.errors.ShadeError.{ShadeError}
 use Rattle.rh_core.specs.declared.stat as stats
 use Rattle.rh_dump.specs.Dump.{GraphState}
 use Rattle.rh_dump.specs.texts.Line.{dump_text}
-use Rattle.rh_syntax.specs.CommandAnswers.{answer_text}
+use Rattle.rh_syntax.specs.CommandAnswers.{answer_text, IsU128}
 use Rattle.rh_engine.specs.CycleAnswers.{begin_text, shade_text, deal_text, give_text, join_text, flip_text, tray_text, stat_text}
 use Rattle.rh_engine.specs.Trays as trays
 use Rattle.rh_engine.specs.declared.engine.TrayDeal.{TrayDeal}
@@ -94,3 +94,10 @@ total_line s =
     codes "total commands " ++ (decimal s.commands ++ (codes " refused " ++ (decimal s.refused
     ++ (codes " flips " ++ (decimal s.flips ++ (codes " rootwords " ++ (decimal s.root_words
     ++ 10 ∷ [])))))))
+
+-- a summary whose numbers fit
+pub record IsToldSummary (s : Summary) : Type 0 where
+  pub commands : IsU128 s.commands
+  pub refused : IsU128 s.refused
+  pub flips : IsU128 s.flips
+  pub root_words : IsU128 s.root_words

@@ -1,5 +1,6 @@
 //! Laws of the definitions alone. Each function does nothing: its contract is the law.
 
+pub mod answers;
 pub mod dumps;
 pub mod runs;
 pub mod summaries;

@@ -4,6 +4,8 @@ ghost use Rattle.std.specs.Prelude.{◌≡◌, ◌+◌, List, count_by};
 ghost use Rattle.rh_core.specs.runs.Run.{answers_of};
 ghost use Rattle.rh_syntax.specs.declared.request.Request.{Request as RequestOf};
 ghost use Rattle.rh_engine.specs.Engine.{EngineState};
+ghost use Rattle.rh_trace.specs.Answers.{total_line, IsToldSummary};
+ghost use Rattle.rh_trace.specs.declared.summary.Summary.{Summary as SummaryOf};
 ghost use Rattle.rh_trace.specs.Events.{events_of, is_command, is_refused_command};
 ghost use Rattle.rh_trace.specs.Run.{answers_to, engine_after, summary_of};
 
@@ -43,4 +45,11 @@ pub fn a_summary_has_the_commands_of_its_lines<A: Allocator + Copy>()
     ensures refused { (e : EngineState) (requests : List RequestOf)
         → (summary_of (answers_to e requests)).refused
         ≡ count_by is_refused_command (answers_of {A = A} e.heap (events_of {A = A} e requests)) }
+{}
+
+/// Each total line is of one summary alone: two summaries with the same line, whose numbers have at
+/// most 128 bits, as all have that a run answers, are the same.
+pub fn each_total_line_is_of_one_summary()
+    ensures { (a b : SummaryOf) → IsToldSummary a → IsToldSummary b
+        → total_line a ≡ total_line b → a ≡ b }
 {}
