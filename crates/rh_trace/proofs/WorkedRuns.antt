@@ -1,6 +1,6 @@
 -- The definitions at work: what is written where a field is stored to between a deal and a give, and
 -- where what is held was stored over and is given again, and answers that are not those of a plain heap.
-use Rattle.std.proofs.Common.{◌≡◌, ℕ, List, [], ◌∷◌, ◌++◌, Result, Ok, refl, ap, subst}
+use Rattle.std.proofs.Common.{◌≡◌, ℕ, List, [], ◌∷◌, ◌++◌, Result, Ok, refl, ap, subst, inl, inr}
 use Rattle.std.specs.Prelude.{codes}
 use Rattle.std.specs.Fmt.{digits}
 use Rattle.std.specs.List.{flat_map}
@@ -107,7 +107,7 @@ plain_done answer plain is judged =
 -- a load that is answered what the field holds is accepted
 read_nil : FollowsMade (Command 1 (Load (root 1) (root 0) 0)) (told.Answer (Ok replies.Nil) ∷ [])
 unfolding step refusal_of fault_in reply_to plain_after_command root made
-read_nil = ((Ok (replies.Object 1), refl, refl), ((Ok replies.Nil, refl, refl), tt))
+read_nil = ((Ok (replies.Object 1), refl, inl (refl, refl)), ((Ok replies.Nil, refl, inl (refl, refl)), tt))
 
 -- a load that is answered that it was done
 done_for_load : FollowsMade (Command 1 (Load (root 1) (root 0) 0)) (told.Answer (Ok replies.Done) ∷ []) → ⊥
