@@ -1,4 +1,5 @@
 pub mod Replays
+pub mod FirstCalls
 pub mod OwnerLines
 pub mod Equals
 pub mod CallsInTurn
@@ -6,3 +7,4 @@ pub mod ReadIsSpelled
 pub mod SpelledIsRead
 pub mod FirstEquals
 pub mod FirstFault
+pub mod WorkedReports

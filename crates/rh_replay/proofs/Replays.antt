@@ -18,6 +18,10 @@ use Rattle.rh_replay.specs.Legal.{heap_after, replay, answer_after, IsRightAt, I
 same_call : (a b : Call) → ◌≡◌ {A = Option Call} (Some a) (Some b) → a ≡ b
 same_call a b e = cc
 
+-- the call that stands there has its answer, and it is the only one
+pub right_where : (h : HistoryState) (i : ℕ) (call : Call) → slice_get h.calls i ≡ Some call → call.answer ≡ answer_after h i call → IsRightAt h i
+right_where h i call stands right other at = subst (λ (c : Call). c.answer ≡ answer_after h i c) (same_call call other (sym stands ∙ at)) right
+
 -- calls after others are played from the heap after these
 pub heap_after-append : (p : PlainHeap) (xs ys : List Call) → heap_after p (xs ++ ys) ≡ heap_after (heap_after p xs) ys
 heap_after-append p [] ys = refl
@@ -46,9 +50,7 @@ module _ (h : HistoryState) (calls : List Call) (i : ℕ) (d : Call) (p q : Plai
       answered ∙ ap (λ (r : PlainHeap). (step r call.owner call.command).1) (played ∙ ap (λ (cs : List Call). heap_after (empty_plain h.owners h.slots) (take i cs)) are)
 
   right_here : (get_or calls i d).answer ≡ expected → IsRightAt h i
-  right_here right call at =
-      let same : get_or calls i d ≡ call = same_call (get_or calls i d) call (sym stands ∙ at) in
-      subst (λ (c : Call). c.answer ≡ answer_after h i c) same (right ∙ expected_is)
+  right_here right = right_where h i (get_or calls i d) stands (right ∙ expected_is)
 
   pub right_more : (get_or calls i d).answer ≡ expected → ((position : ℕ) → position < i → IsRightAt h position) → (position : ℕ) → position < i + 1 → IsRightAt h position
   right_more right before = below_more (λ position. IsRightAt h position) i before (right_here right)

@@ -1,5 +1,5 @@
 -- Histories: the calls of a heap that were answered, with their answers, in order.
-use Rattle.std.specs.Prelude.{◌≡◌, ℕ, ◌≤◌, ⊤, false, List, [], ◌∷◌, ◌++◌, length, Result, Ok, Err}
+use Rattle.std.specs.Prelude.{◌≡◌, ℕ, ◌≤◌, ⊤, false, List, [], ◌∷◌, ◌++◌, length, take, Result, Ok, Err}
 use Rattle.std.specs.List.{AllByRecursion}
 use Rattle.rh_layout.specs.declared.command.Reply.{Reply}
 use Rattle.rh_layout.specs.declared.command.Reply.TheVariants.{Done, Nil, Int, Object, Same}
@@ -62,6 +62,10 @@ empty_history owners slots = record { owners = owners; slots = slots; calls = []
 -- one call more, after the others
 abbrev pub with_call : HistoryState → Call → HistoryState
 with_call h call = record h { calls = h.calls ++ call ∷ [] }
+
+-- the first calls of a history, so many of them
+abbrev pub first_calls : ℕ → HistoryState → HistoryState
+first_calls count h = record h { calls = take count h.calls }
 
 -- a recorder: its history, and the most calls that it notes
 pub record RecorderState : Type 0 where

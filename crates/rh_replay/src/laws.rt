@@ -1,6 +1,8 @@
 //! Laws of the definitions alone. Each function does nothing: its contract is the law.
 
-ghost use Rattle.std.specs.Prelude.{◌≡◌, ◌↔◌, ℕ, List, Ok, Err};
+ghost use Rattle.std.specs.Prelude.{◌≡◌, ◌≢◌, ◌↔◌, ℕ, ◌+◌, ◌<◌, List, [], slice_get, Some, Result, Ok, Err};
+ghost use Rattle.rh_layout.specs.declared.command.Reply.{Reply as ReplyOf};
+ghost use Rattle.rh_layout.specs.declared.refusal.Refusal.{Refusal as RefusalOf};
 ghost use Rattle.rh_model.specs.Plain.{step};
 ghost use Rattle.rh_text.specs.RawLine.{lines_of};
 ghost use Rattle.rh_text.specs.Stages.{IsFaultless, IsFirst};
@@ -8,9 +10,10 @@ ghost use Rattle.rh_replay.specs.declared.call.Call.{Call as CallOf};
 ghost use Rattle.rh_replay.specs.declared.checking.Verdict.{Verdict as VerdictOf};
 ghost use Rattle.rh_replay.specs.declared.fault.HistoryFault.{HistoryFault as FaultOf};
 ghost use Rattle.rh_replay.specs.Faults.{text_faults};
-ghost use Rattle.rh_replay.specs.History.{HistoryState, empty_history, with_call};
+ghost use Rattle.rh_replay.specs.History.{HistoryState, empty_history, first_calls, with_call};
 ghost use Rattle.rh_replay.specs.Legal.{IsLegal, IsVerdict, replay};
 ghost use Rattle.rh_replay.specs.Reading.{history_of};
+ghost use Rattle.rh_replay.specs.Report.{count_of};
 ghost use Rattle.rh_replay.specs.Spelling.{IsReadable, spelling};
 
 /// No history has two verdicts: where it is legal no call is the first wrong one, and there are no
@@ -27,6 +30,31 @@ pub fn a_legal_history_grows_by_the_steps_answer()
         ↔ (IsLegal h × (call.answer ≡ (step (replay h) call.owner call.command).1)) }
     ensures replayed { (h : HistoryState) (call : CallOf)
         → replay (with_call h call) ≡ (step (replay h) call.owner call.command).0 }
+{}
+
+/// A wrong call is counted from 1: a history's first calls, so many of them, are a legal history
+/// exactly where they are fewer than the number that the verdict names. The answer that it names is
+/// that of the step to the call of this number from the heap after the calls before it, and the
+/// call has another.
+pub fn a_wrong_call_is_counted_from_1()
+    ensures counted { (h : HistoryState) (at : ℕ) (expected : Result ReplyOf RefusalOf)
+        → IsVerdict h (VerdictOf.Wrong at expected)
+        → (n : ℕ) → IsLegal (first_calls n h) ↔ (n < at) }
+    ensures answered { (h : HistoryState) (before : ℕ) (expected : Result ReplyOf RefusalOf)
+        → IsVerdict h (VerdictOf.Wrong (before + 1) expected)
+        → (call : CallOf) × (slice_get h.calls before ≡ Some call)
+        × (expected ≡ (step (replay (first_calls before h)) call.owner call.command).1)
+        × (call.answer ≢ expected) }
+{}
+
+/// An owner's number in a report is that of its calls: none of no calls, and each call more adds
+/// one to its own owner's number and nothing to another's.
+pub fn each_call_is_counted_for_its_owner()
+    ensures none { (owner : ℕ) → count_of [] owner ≡ 0 }
+    ensures own { (h : HistoryState) (call : CallOf)
+        → count_of (with_call h call).calls call.owner ≡ count_of h.calls call.owner + 1 }
+    ensures other { (h : HistoryState) (call : CallOf) (owner : ℕ) → owner ≢ call.owner
+        → count_of (with_call h call).calls owner ≡ count_of h.calls owner }
 {}
 
 /// What a history is spelled as is read as that history, and nothing else is read as it.
