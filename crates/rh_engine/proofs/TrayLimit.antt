@@ -32,14 +32,14 @@ length-trays_with trays name t =
 -- a deal that is refused so is into a tray too many
 deal_beyond : (e : EngineState) (kind : Kind) (most : ℕ) (name : List ℕ) → (deal_line_step e kind most name).1 ≡ Err deal_refusals.TooManyTrays → IsOneTooMany e name
 deal_beyond e kind most name refused =
-    let least = (deal-refused e kind most name deal_refusals.TooManyTrays refused).0 in by least.place least.holds
+    let least = (deal-refused e kind most name deal_refusals.TooManyTrays refused).0 in by least.stage least.holds
   where
-    by : (place : ℕ) → refusals_of_deal e kind most name place deal_refusals.TooManyTrays → IsOneTooMany e name
+    by : (stage : ℕ) → refusals_of_deal e kind most name stage deal_refusals.TooManyTrays → IsOneTooMany e name
     by zero holds = absurd (cc (holds.0))
     by (suc zero) holds = holds.1
     by (suc (suc zero)) holds = absurd (cc (holds.0))
     by (suc (suc (suc zero))) holds = absurd (cc (holds.1))
-    by (suc (suc (suc (suc place)))) holds = absurd holds
+    by (suc (suc (suc (suc stage)))) holds = absurd holds
 
 module _ (e : EngineState) (kind : Kind) (most : ℕ) (name : List ℕ) where
   -- the engine and the answer, once it was looked at whether a cycle is on, and then at the limit
@@ -62,12 +62,12 @@ module _ (e : EngineState) (kind : Kind) (most : ℕ) (name : List ℕ) where
 -- and so is a join of a tray that is there
 join_beyond : (e : EngineState) (into other : List ℕ) → (join_line_step e into other).1 ≡ Err join_refusals.TooManyTrays → IsOneTooMany e into
 join_beyond e into other refused =
-    let least = (join-refused e into other join_refusals.TooManyTrays refused).0 in by least.place least.holds
+    let least = (join-refused e into other join_refusals.TooManyTrays refused).0 in by least.stage least.holds
   where
-    by : (place : ℕ) → refusals_of_join e into other place join_refusals.TooManyTrays → IsOneTooMany e into
+    by : (stage : ℕ) → refusals_of_join e into other stage join_refusals.TooManyTrays → IsOneTooMany e into
     by zero holds = absurd (cc (holds.0))
     by (suc zero) holds = holds.1
-    by (suc (suc place)) holds = absurd holds
+    by (suc (suc stage)) holds = absurd holds
 
 module _ (e : EngineState) (into other : List ℕ) (t : Tray) where
   -- the trays and the answer, once the limit was looked at
