@@ -62,7 +62,7 @@ const GREATEST: Config = Config {
 };
 
 #[test]
-fn three_lists_of_half_a_million_objects(rt: HostRuntime) -> Result<(), Fail> {
+fn a_list_of_a_million_and_a_half_objects(rt: HostRuntime) -> Result<(), Fail> {
     let text = repeated(&rt, EMPTY.0, LONGER, 262_143)?;
     let mut heap = Heap::new(rt.alloc(), GREATEST).expect(&rt, "a heap");
     let mut plain = Plain::new(rt.alloc(), 2, 3).expect(&rt, "a plain heap");

@@ -79,7 +79,7 @@ fn the_most_roots(rt: HostRuntime) -> Result<(), Fail> {
 /// As many fields as the greatest object has, of as many objects, with numbers of 14 digits: a
 /// dump of 251 MB.
 #[test]
-fn the_most_values(rt: HostRuntime) -> Result<(), Fail> {
+fn a_dump_of_251_megabytes(rt: HostRuntime) -> Result<(), Fail> {
     let mut fields = repeated(&rt, b" 4095", b" 20000000000000", 4_095)?;
     fields.push(b'\n')?;
     let first = b"rheap 1\nroots 1\n1.0 @0\nobjects 4096\n@0 4095".as_slice();

@@ -89,9 +89,10 @@ fn graph_in_text<A: Allocator + Copy>(alloc: A, text: &[u8]) -> Result<Graph<A>,
 /// # Errors
 ///
 /// `Fault` where the text is no dump, or has more than 268,435,456 bytes: it names the first faulty
-/// line and what is wrong with it. `Read` where a read failed, or 536,870,912 reads, those that
-/// were interrupted among them, didn't come to the end; `OutOfMemory` where the allocator refused
-/// memory. `read_dump_logged` says of `Read` that it comes nowhere else.
+/// line and what is wrong with it. `Read` where, before more bytes came, a read failed, or
+/// 536,870,912 reads, those that were interrupted among them, didn't come to the end; `OutOfMemory`
+/// where the allocator refused memory. `read_dump_logged` says of `Read` that it comes nowhere
+/// else.
 pub fn read_dump<A: Allocator + Copy, R: io::Read>(
     alloc: A,
     reader: &mut R,
@@ -106,7 +107,7 @@ pub fn read_dump<A: Allocator + Copy, R: io::Read>(
 }
 
 /// Reads a dump as `read_dump` does, by as many reads as are left, and tells in `reads` whether a
-/// read failed.
+/// read failed, and how many were made.
 ///
 /// # Errors
 ///

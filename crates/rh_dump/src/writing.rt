@@ -155,7 +155,7 @@ pub fn write_dump<A: Allocator, W: io::Write>(graph: &Graph<A>, writer: &mut W) 
 }
 
 /// Writes the dump text of a graph as `write_dump` does, and tells in `writes` whether a write
-/// failed.
+/// failed, and how many were made.
 ///
 /// # Errors
 ///
@@ -173,7 +173,8 @@ pub fn write_dump_logged<A: Allocator, W: io::Write>(
     // It is refused only where a write failed or none was left, and no write failed where it isn't.
     ensures failed { OnErr result (AreSpent writes.new) }
     ensures none_failed { OnOk result (writes.new.failed ≡ false) }
-    // Where no write failed, 33,554,432 of them were made.
+    // Where it is refused and no write failed, at least 33,554,432 were made in this call, unless
+    // the count of calls is full. That each text has its own is `send`'s to say.
     ensures spent { OnErr result (AreSpentSince writes.old writes.new) }
     // No fewer were made than before.
     ensures counted { MadeSince 0 writes.old writes.new }

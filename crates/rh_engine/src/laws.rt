@@ -135,7 +135,7 @@ pub fn a_tray_more_than_64_is_refused()
 
 /// Each text is of one answer to a line of its kind alone: two answers to lines of one kind with
 /// the same text, whose numbers have at most 128 bits, as all have that a call answers, are the
-/// same. Over lines of two kinds a refusal of one name has one text, as NoCycle has.
+/// same. Of answers to lines of two kinds nothing is said.
 pub fn each_text_is_of_one_answer_to_its_line()
     ensures begin { (a b : Result ℕ BeginError) → IsToldBegin a → IsToldBegin b
         → begin_text a ≡ begin_text b → a ≡ b }

@@ -69,7 +69,7 @@ pub fn write_history<A: Allocator, W: io::Write>(
 }
 
 /// Writes the text of a history as `write_history` does, and tells in `writes` whether a write
-/// failed.
+/// failed, and how many were made.
 ///
 /// # Errors
 ///
@@ -87,7 +87,8 @@ pub fn write_history_logged<A: Allocator, W: io::Write>(
     // It is refused only where a write failed or none was left, and no write failed where it isn't.
     ensures failed { OnErr result (AreSpent writes.new) }
     ensures none_failed { OnOk result (writes.new.failed ≡ false) }
-    // Where no write failed, 33,554,432 of them were made.
+    // Where it is refused and no write failed, at least 33,554,432 were made in this call, unless
+    // the count of calls is full. That each text has its own is `send`'s to say.
     ensures spent { OnErr result (AreSpentSince writes.old writes.new) }
 {
     let mut text = LineText::new();
@@ -170,7 +171,8 @@ pub fn report<A: Allocator, W: io::Write>(
     report_logged(history, verdict, writer, &mut IoLog::new())
 }
 
-/// Writes the report as `report` does, and tells in `writes` whether a write failed.
+/// Writes the report as `report` does, and tells in `writes` whether a write failed, and how many
+/// were made.
 ///
 /// # Errors
 ///
@@ -189,7 +191,8 @@ pub fn report_logged<A: Allocator, W: io::Write>(
     // It is refused only where a write failed or none was left, and no write failed where it isn't.
     ensures failed { OnErr result (AreSpent writes.new) }
     ensures none_failed { OnOk result (writes.new.failed ≡ false) }
-    // Where no write failed, 33,554,432 of them were made.
+    // Where it is refused and no write failed, at least 33,554,432 were made in this call, unless
+    // the count of calls is full. That each text has its own is `send`'s to say.
     ensures spent { OnErr result (AreSpentSince writes.old writes.new) }
 {
     let mut text = LineText::new();

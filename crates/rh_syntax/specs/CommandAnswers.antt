@@ -50,7 +50,7 @@ abbrev pub answer_text : Result Reply Refusal → List ℕ
 answer_text (Ok reply) = reply_text reply
 answer_text (Err refusal) = refused_text refusal
 
--- a number that has 128 bits, as each has that an answer tells
+-- a number of at most 128 bits, as each is that an answer tells
 abbrev pub IsU128 : ℕ → Type 0
 IsU128 n = n < 2 ^ 128
 

@@ -51,7 +51,8 @@ pub fn print<A: Allocator, W: io::Write>(trace: &Trace<A>, writer: &mut W) -> Re
     print_logged(trace, writer, &mut IoLog::new())
 }
 
-/// Writes the text of a trace as `print` does, and tells in `writes` whether a write failed.
+/// Writes the text of a trace as `print` does, and tells in `writes` whether a write failed, and
+/// how many were made.
 ///
 /// # Errors
 ///
@@ -69,7 +70,8 @@ pub fn print_logged<A: Allocator, W: io::Write>(
     // It is refused only where a write failed or none was left, and no write failed where it isn't.
     ensures failed { OnErr result (AreSpent writes.new) }
     ensures none_failed { OnOk result (writes.new.failed ≡ false) }
-    // Where no write failed, 33,554,432 of them were made.
+    // Where it is refused and no write failed, at least 33,554,432 were made in this call, unless
+    // the count of calls is full. That each text has its own is `send`'s to say.
     ensures spent { OnErr result (AreSpentSince writes.old writes.new) }
 {
     let mut text = LineText::new();

@@ -20,7 +20,8 @@ ReadsAll old new view result =
     (bytes : List ℕ) × Consumes old new bytes × ReadEnds view result bytes new
 
 -- How reading ends that goes on to the end or past a limit: with all bytes that the reader gave,
--- seen by view, or with a read that failed before the limit was passed.
+-- seen by view, or with a read that failed before the limit was passed. Want of memory says nothing
+-- of them, and no text is too long.
 abbrev pub EndsPast : {X : Type 0} → ℕ → (X → List ℕ) → Result X InputFault → List ℕ
     → Option (List ℕ) → Type 0
 EndsPast limit view (Ok x) bytes left =

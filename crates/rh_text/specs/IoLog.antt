@@ -44,6 +44,7 @@ IsFailedWrite (Err error) bytes = error_kind error ≢ Interrupted
 abbrev pub AreSpent : IoLogState → Type 0
 AreSpent calls = (calls.failed ≡ true) ⊎ (calls.left ≡ 0)
 
--- a call failed, or as many were made since as one text may take
+-- A call failed, or at least as many were made since as one text may take. The count tells it,
+-- unless it is full.
 abbrev pub AreSpentSince : IoLogState → IoLogState → Type 0
 AreSpentSince old new = new.failed ≡ false → MadeSince 33554432 old new

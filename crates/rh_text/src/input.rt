@@ -93,8 +93,8 @@ pub fn read_all<A: Allocator + Copy, R: io::Read>(
 ///
 /// # Errors
 ///
-/// `Read` where, before the limit was passed, a read failed, or no more may be made and none came to
-/// the end; `OutOfMemory` where the allocator refused memory for the bytes. Never `Long`.
+/// `Read` where, before the limit was passed, a read failed, or no more may be made and none came
+/// to the end; `OutOfMemory` where the allocator refused memory for the bytes. Never `Long`.
 pub fn read_past<A: Allocator + Copy, R: io::Read>(
     alloc: A,
     reader: &mut R,

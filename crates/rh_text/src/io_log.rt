@@ -18,9 +18,9 @@ pub fn is_interrupted(error: &io::Error) -> bool
     error.kind() == ErrorKind::Interrupted
 }
 
-/// A log of the calls of one reader or of one writer: whether a call failed, how many were made, and
-/// how many may still be made. Only a call writes whether one failed and how many were made, and
-/// after a failed call none is made; a new text to be sent renews how many are left.
+/// A log of the calls of one reader or of one writer: whether a call failed, how many were made,
+/// and how many may still be made. Only a call writes whether one failed and how many were made,
+/// and after a failed call none is made; a new text to be sent renews how many are left.
 #[derive(Drop)]
 pub struct IoLog {
     failed: bool,

@@ -96,9 +96,10 @@ fn run_input<A: Allocator + Copy, W: io::Write>(
 /// # Errors
 ///
 /// Of the faults of an input the first is answered: `Long`, then `Trace`, then `New`. `Read` comes
-/// where a read failed or was one too many, `Write` where a write failed or 33,554,432 writes of
-/// one line didn't come to its end, `OutOfMemory` where the allocator refused memory, also at a
-/// deal, a join or a dump; what may be written then, `RunFault` says. `run_trace_logged` says of
+/// where, before more than 16,777,216 bytes came, a read failed or was one too many, `Write` where
+/// a write failed or 33,554,432 writes of one line didn't come to its end, `OutOfMemory` where the
+/// allocator refused memory, also at a deal, a join or a dump; what may be written then, `RunFault`
+/// says. `run_trace_logged` says of
 /// Read and Write that they come nowhere else.
 pub fn run_trace<A: Allocator + Copy, R: io::Read, W: io::Write>(
     alloc: A,
@@ -143,7 +144,7 @@ pub fn run_trace<A: Allocator + Copy, R: io::Read, W: io::Write>(
 }
 
 /// Runs a trace as `run_trace` does, and tells in `reads` and `writes` whether a read and whether a
-/// write failed.
+/// write failed, and how many were made.
 ///
 /// # Errors
 ///
@@ -192,7 +193,8 @@ pub fn run_trace_logged<A: Allocator + Copy, R: io::Read, W: io::Write>(
     // isn't.
     ensures write_failed { IsErrOf result RunFault.Write → AreSpent writes.new }
     ensures no_write_failed { ¬ IsErrOf result RunFault.Write → writes.new.failed ≡ false }
-    // Where no write failed, 33,554,432 of them were made.
+    // Where it is refused and no write failed, at least 33,554,432 were made in this call, unless
+    // the count of calls is full. That each text has its own is `send`'s to say.
     ensures writes_spent { IsErrOf result RunFault.Write → AreSpentSince writes.old writes.new }
 {
     // The laws from which the clauses on the plain heap follow.

@@ -131,7 +131,7 @@ fn expect_end(rt: &(impl AllocGlobal + Abort), text: &[u8], end: &[u8]) {
 
 /// The fields of 255 objects of the greatest size, dealt into one tray: 1,044,225 entries.
 #[test]
-fn the_greatest_trays(rt: HostRuntime) -> Result<(), Fail> {
+fn trays_of_a_million_entries(rt: HostRuntime) -> Result<(), Fail> {
     let mut text = repeated(&rt, b"heap 1048576 64 1 2 256\nbegin\n", b"", 0)?;
     add_numbered(&rt, &mut text, 255, ("1 alloc 1.", " 4095\n"))?;
     add_numbered(&rt, &mut text, 255, ("shade 1.", "\n"))?;
@@ -143,9 +143,10 @@ fn the_greatest_trays(rt: HostRuntime) -> Result<(), Fail> {
     Ok(())
 }
 
-/// The most objects that a trace makes reachable, each of which refers to the one made before it.
+/// 524,286 objects, each of which refers to the one made before it: near the most for which a trace
+/// has bytes.
 #[test]
-fn the_greatest_dump(rt: HostRuntime) -> Result<(), Fail> {
+fn a_dump_of_half_a_million_objects(rt: HostRuntime) -> Result<(), Fail> {
     let two = b"1 alloc 1.0 1\n1 store 1.0 0 1.1\n1 alloc 1.1 1\n1 store 1.1 0 1.0\n";
     let mut text = repeated(&rt, b"heap 16777216 1 1 2 2\n", two, 262_143)?;
     text.extend_from_slice(b"dump\n")?;
