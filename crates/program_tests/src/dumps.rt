@@ -1,16 +1,14 @@
 //! Dumps of heaps and of plain heaps.
 
 use crate::expectations::{expect_equal, expect_refusals};
-use crate::texts::repeated;
 use refusing::refused_in_turn;
 use rh_core::{Config, Heap};
 use rh_dump::limits::MAX_OBJECTS;
-use rh_dump::{Graph, plain_graph, read_dump, same_text, write_dump};
+use rh_dump::{Graph, plain_graph, same_text, write_dump};
 use rh_model::Plain;
 use rh_trace::{Request, graph, parse};
 use std::alloc::Allocator;
 use std::process::Abort;
-use std::test::Fail;
 
 /// Sizes for two owners and three slots each.
 const SIZES: Config = Config {
@@ -49,36 +47,6 @@ fn play(rt: &(impl AllocGlobal + Abort), text: &[u8], heap: &mut Heap, plain: &m
             expect_equal(rt, plain.command(owner, &command).ok(), answer.ok());
         }
     }
-}
-
-/// A list of objects of one field, which grows by two: each refers to the one made before it.
-const LONGER: &[u8] = b"1 alloc 1.0 1\n1 store 1.0 0 1.1\n1 alloc 1.1 1\n1 store 1.1 0 1.0\n";
-
-/// The greatest heap, with two owners and three slots each.
-const GREATEST: Config = Config {
-    words: 16_777_216,
-    last_number: 100_000_000,
-    ..SIZES
-};
-
-#[test]
-fn a_list_of_a_million_and_a_half_objects(rt: HostRuntime) -> Result<(), Fail> {
-    let text = repeated(&rt, EMPTY.0, LONGER, 262_143)?;
-    let mut heap = Heap::new(rt.alloc(), GREATEST).expect(&rt, "a heap");
-    let mut plain = Plain::new(rt.alloc(), 2, 3).expect(&rt, "a plain heap");
-    for _ in 0..3 {
-        play(&rt, &text, &mut heap, &mut plain);
-    }
-    let moving = graph(rt.alloc(), &heap).ok().ok_or("a graph")?;
-    expect_equal(&rt, moving.objects(), 3 * 524_286);
-    let mut dump = Vec::new(rt.alloc());
-    expect_equal(&rt, write_dump(&moving, &mut dump), Ok(()));
-    let read = read_dump(rt.alloc(), &mut { dump.as_slice() });
-    assert!(rt; same_text(&moving, &read.ok().ok_or("a dump")?));
-    assert!(rt; plain.objects() <= MAX_OBJECTS as usize);
-    let still = plain_graph(rt.alloc(), &plain).ok().ok_or("a graph")?;
-    assert!(rt; same_text(&moving, &still));
-    Ok(())
 }
 
 /// Expects the text of a graph.

@@ -67,6 +67,5 @@ fn a_text_renews_the_writes(rt: HostRuntime) {
     let mut writer = SlowWriter::new(&rt, 1000, 0);
     let mut writes = IoLog::limited(0);
     expect_equal(&rt, send(&mut writer, &mut writes, WITHOUT_FIELDS), Ok(()));
-    let told = (writes.made(), writes.left(), writer.writes);
-    expect_equal(&rt, told, (1, 33_554_431, 1));
+    expect_equal(&rt, (writes.left(), writer.writes), (33_554_431, 1));
 }

@@ -6,8 +6,6 @@ mod devices;
 #[cfg(test)]
 mod dumps;
 #[cfg(test)]
-mod errors;
-#[cfg(test)]
 mod expectations;
 #[cfg(test)]
 mod failed_calls;

@@ -2,8 +2,7 @@
 
 use crate::devices::{SlowReader, SlowWriter};
 use crate::expectations::expect_equal;
-use crate::program::driving::{DUMP, drives_to};
-use crate::texts::{add_numbered, repeated};
+use crate::texts::repeated;
 use refusing::RefusingAllocator;
 use rh_dump::{DumpFault, DumpKind, DumpReadError, read_dump, read_dump_logged, write_dump};
 use rh_text::IoLog;
@@ -73,26 +72,6 @@ fn the_most_roots(rt: HostRuntime) -> Result<(), Fail> {
     }
     text.extend_from_slice(b"objects 0\nend\n")?;
     expect_dump(&rt, &mut { text.as_slice() }, &text);
-    Ok(())
-}
-
-/// As many fields as the greatest object has, of as many objects, with numbers of 14 digits: a
-/// dump of 251 MB.
-#[test]
-fn a_dump_of_251_megabytes(rt: HostRuntime) -> Result<(), Fail> {
-    let mut fields = repeated(&rt, b" 4095", b" 20000000000000", 4_095)?;
-    fields.push(b'\n')?;
-    let first = b"rheap 1\nroots 1\n1.0 @0\nobjects 4096\n@0 4095".as_slice();
-    let mut text = repeated(&rt, first, b"", 0)?;
-    add_numbered(&rt, &mut text, 4_095, (" @", ""))?;
-    text.push(b'\n')?;
-    for n in 1..4096u32 {
-        let object = format!(in rt.alloc(); "@{n}")?;
-        text.extend_from_slice(object.as_bytes())?;
-        text.extend_from_slice(&fields)?;
-    }
-    text.extend_from_slice(b"end\n")?;
-    drives_to(&rt, &DUMP, &text, 0, b"roots 1 objects 4096\n", b"");
     Ok(())
 }
 

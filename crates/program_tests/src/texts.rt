@@ -160,7 +160,7 @@ pub fn repeated(
     Ok(text)
 }
 
-/// Adds to a text each number from 1 on, so many of them, each between two parts.
+/// Adds so many lines to a text: of each number from 1 on, between two parts.
 pub fn add_numbered(
     rt: &(impl AllocGlobal + Abort),
     text: &mut Vec<u8>,

@@ -1,11 +1,12 @@
 //! Texts with faults, and what the program tells of them.
 
-use crate::expectations::expect_equal;
+use crate::expectations::{expect_equal, expect_text};
 use crate::program::driving::{DUMP, REPLAY, RUN, drives_to};
 use crate::texts::repeated;
 use rh_cli::Ask;
+use rh_dump::{DumpFault, DumpKind, DumpReadError};
 use rh_layout::{Command, RootId};
-use rh_trace::{Line, Request, parse};
+use rh_trace::{Kind, Line, ParseError, Request, TraceFault, Write, parse};
 use std::process::Abort;
 use std::test::Fail;
 
@@ -274,6 +275,25 @@ fn files_that_are_too_long(rt: HostRuntime) -> Result<(), Fail> {
         drives_to(&rt, ask, &text, 1, b"", b"rheap: too long\n");
     }
     Ok(())
+}
+
+#[test]
+fn texts_of_faults(rt: HostRuntime) {
+    let fault = TraceFault {
+        line: 2,
+        kind: Kind::Word,
+    };
+    let found = parse(rt.alloc(), b"heap 16 8 4 2 2\n1 fly 1.0\n").err();
+    assert!(rt; matches!(found, Some(ParseError::Fault(found)) if found == fault));
+    expect_text(&rt, ParseError::Fault(fault), "line 2: Word");
+    expect_text(&rt, ParseError::OutOfMemory, "out of memory");
+    expect_text(&rt, Write, "write failed");
+    let fault = DumpFault {
+        line: 4,
+        kind: DumpKind::Count,
+    };
+    expect_text(&rt, DumpReadError::Fault(fault), "line 4: Count");
+    expect_text(&rt, DumpReadError::Read, "read failed");
 }
 
 #[test]

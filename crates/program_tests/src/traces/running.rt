@@ -2,7 +2,6 @@
 
 use crate::devices::{InterruptedWriter, SlowReader, SlowWriter};
 use crate::expectations::{expect_equal, expect_prefix, expect_refusals};
-use crate::program::driving::{RUN, drives_to};
 use crate::texts::{
     DUMPS, DUMPS_ANSWERS, FOUR_CYCLES, FOUR_CYCLES_ANSWERS, JOINED, JOINED_ANSWERS, LARGE_TRAYS,
     LARGE_TRAYS_ANSWERS, LONG_ANSWER, LONG_HEADER, LONG_LINE, TOO_MANY, TOO_MANY_ANSWERS,
@@ -114,44 +113,22 @@ fn a_trace_has_64_trays(rt: HostRuntime) -> Result<(), Fail> {
 #[test]
 fn the_greatest_trace(rt: HostRuntime) -> Result<(), Fail> {
     let mut text = repeated(&rt, LONG_HEADER, LONG_LINE, 1_048_575)?;
+    let mut written = Vec::new(rt.alloc());
+    let outcome = run_trace(rt.alloc(), &mut { text.as_slice() }, &mut written);
+    let summary = Summary {
+        commands: 1_048_575,
+        refused: 0,
+        flips: 0,
+        root_words: 0,
+    };
+    expect_equal(&rt, outcome, Ok(summary));
     let mut answers = repeated(&rt, b"", LONG_ANSWER, 1_048_575)?;
     answers.extend_from_slice(b"total commands 1048575 refused 0 flips 0 rootwords 0\n")?;
-    drives_to(&rt, &RUN, &text, 0, &answers, b"");
+    assert!(rt; written.as_slice() == answers.as_slice());
     text.push(b'\n')?;
-    drives_to(&rt, &RUN, &text, 1, b"", b"rheap: too long\n");
-    Ok(())
-}
-
-/// Runs a trace, and expects its answers to end so.
-fn expect_end(rt: &(impl AllocGlobal + Abort), text: &[u8], end: &[u8]) {
-    let mut written = Vec::new(rt.alloc());
-    assert!(rt; run_trace(rt.alloc(), &mut { text }, &mut written).is_ok());
-    assert!(rt; written.ends_with(end));
-}
-
-/// The fields of 255 objects of the greatest size, dealt into one tray: 1,044,225 entries.
-#[test]
-fn trays_of_a_million_entries(rt: HostRuntime) -> Result<(), Fail> {
-    let mut text = repeated(&rt, b"heap 1048576 64 1 2 256\nbegin\n", b"", 0)?;
-    add_numbered(&rt, &mut text, 255, ("1 alloc 1.", " 4095\n"))?;
-    add_numbered(&rt, &mut text, 255, ("shade 1.", "\n"))?;
-    let mut text = repeated(&rt, &text, b"deal copies 64 a\n", 16_317)?;
-    text.extend_from_slice(b"join b a\njoin a b\n")?;
-    let end = b"\ndealt 1 passed 0\njoined 1044225\njoined 1044225\n\
-        total commands 255 refused 0 flips 0 rootwords 0\n";
-    expect_end(&rt, &text, end);
-    Ok(())
-}
-
-/// 524,286 objects, each of which refers to the one made before it: near the most for which a trace
-/// has bytes.
-#[test]
-fn a_dump_of_half_a_million_objects(rt: HostRuntime) -> Result<(), Fail> {
-    let two = b"1 alloc 1.0 1\n1 store 1.0 0 1.1\n1 alloc 1.1 1\n1 store 1.1 0 1.0\n";
-    let mut text = repeated(&rt, b"heap 16777216 1 1 2 2\n", two, 262_143)?;
-    text.extend_from_slice(b"dump\n")?;
-    let end = b"\n@524285 1 nil\nend\ntotal commands 1048572 refused 0 flips 0 rootwords 0\n";
-    expect_end(&rt, &text, end);
+    let outcome = run_trace(rt.alloc(), &mut { text.as_slice() }, &mut written);
+    expect_equal(&rt, outcome, Err(RunFault::Long));
+    expect_equal(&rt, written.len(), answers.len());
     Ok(())
 }
 
