@@ -1,7 +1,7 @@
 -- The line of a request.
 use Rattle.rh_layout.specs.declared.command.Command.TheVariants as commands
 use Rattle.rh_syntax.specs.declared.line.Line.{Line}
-use Rattle.rh_syntax.specs.declared.line.Line.TheVariants.{Alloc, Load, Store, Copy, Same, Drop, Begin, Shade, Deal, Give, Join, Flip, Trays, Stat, Dump}
+use Rattle.rh_syntax.specs.declared.line.Line.TheVariants.{Alloc, Load, Store, Copy, Same, Drop, Begin, Shade, Deal, Give, Join, Flip, Recall, Abandon, Idle, Trays, Stat, Dump}
 use Rattle.rh_syntax.specs.declared.request.Request.{Request}
 use Rattle.rh_syntax.specs.declared.request.Request.TheVariants as requests
 
@@ -19,6 +19,9 @@ line_of (requests.Deal kind most tray) = Deal kind most tray
 line_of (requests.Give tray) = Give tray
 line_of (requests.Join into other) = Join into other
 line_of requests.Flip = Flip
+line_of requests.Recall = Recall
+line_of requests.Abandon = Abandon
+line_of (requests.Idle words) = Idle words
 line_of requests.Trays = Trays
 line_of requests.Stat = Stat
 line_of requests.Dump = Dump

@@ -177,6 +177,13 @@ read_join args = do
   other ← tray_or_fault parts.1
   Ok (requests.Join into other)
 
+-- idle N
+unfoldable pub read_idle : List (List ℕ) → Result Request Kind
+read_idle args = do
+  part ← or_fault (one_part args) Form
+  words ← number_or_fault part
+  Ok (requests.Idle words)
+
 -- the request of a line that begins with its keyword
 unfoldable pub keyword_request : List ℕ → List (List ℕ) → Result Request Kind
 keyword_request keyword args =
@@ -186,6 +193,9 @@ keyword_request keyword args =
     else if bytes_eq keyword (codes "give") then read_give args
     else if bytes_eq keyword (codes "join") then read_join args
     else if bytes_eq keyword (codes "flip") then alone args requests.Flip
+    else if bytes_eq keyword (codes "recall") then alone args requests.Recall
+    else if bytes_eq keyword (codes "abandon") then alone args requests.Abandon
+    else if bytes_eq keyword (codes "idle") then read_idle args
     else if bytes_eq keyword (codes "trays") then alone args requests.Trays
     else if bytes_eq keyword (codes "stat") then alone args requests.Stat
     else if bytes_eq keyword (codes "dump") then alone args requests.Dump

@@ -56,6 +56,9 @@ request_parts (requests.Deal kind most tray) =
 request_parts (requests.Give tray) = codes "give" ∷ tray ∷ []
 request_parts (requests.Join into other) = codes "join" ∷ into ∷ other ∷ []
 request_parts requests.Flip = codes "flip" ∷ []
+request_parts requests.Recall = codes "recall" ∷ []
+request_parts requests.Abandon = codes "abandon" ∷ []
+request_parts (requests.Idle words) = codes "idle" ∷ decimal words ∷ []
 request_parts requests.Trays = codes "trays" ∷ []
 request_parts requests.Stat = codes "stat" ∷ []
 request_parts requests.Dump = codes "dump" ∷ []
@@ -102,8 +105,8 @@ CommandFits owner (Copy dst src) = IsU32 owner × RootFits dst × RootFits src
 CommandFits owner (Same a b) = IsU32 owner × RootFits a × RootFits b
 CommandFits owner (Drop root) = IsU32 owner × RootFits root
 
--- what a request names fits: an owner and a command that do, roots and a number of items whose
--- numbers are below 2^32, and names of trays
+-- what a request names fits: an owner and a command that do, roots and numbers of items and of
+-- words that are below 2^32, and names of trays
 abbrev pub RequestFits : Request → Type 0
 RequestFits (requests.Command owner command) = CommandFits owner command
 RequestFits requests.Begin = ⊤
@@ -112,6 +115,9 @@ RequestFits (requests.Deal kind most tray) = IsU32 most × IsTrayName tray
 RequestFits (requests.Give tray) = IsTrayName tray
 RequestFits (requests.Join into other) = IsTrayName into × IsTrayName other
 RequestFits requests.Flip = ⊤
+RequestFits requests.Recall = ⊤
+RequestFits requests.Abandon = ⊤
+RequestFits (requests.Idle words) = IsU32 words
 RequestFits requests.Trays = ⊤
 RequestFits requests.Stat = ⊤
 RequestFits requests.Dump = ⊤

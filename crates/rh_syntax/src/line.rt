@@ -115,6 +115,15 @@ pub enum Line {
     },
     /// `flip`: the roots are moved to the replica.
     Flip,
+    /// `recall`: all that was dealt is undealt again, in a new epoch of the same cycle.
+    Recall,
+    /// `abandon`: the cycle ends without a flip.
+    Abandon,
+    /// `idle N`: so many words of idle work are granted to the collector.
+    Idle {
+        /// How many words.
+        words: u32,
+    },
     /// `trays`: the trays, each with its name, its epoch and how many entries it has.
     Trays,
     /// `stat`: the numbers of the heap.
@@ -137,6 +146,9 @@ impl Line {
             Request::Give { tray } => Line::Give { tray },
             Request::Join { into, other } => Line::Join { into, other },
             Request::Flip => Line::Flip,
+            Request::Recall => Line::Recall,
+            Request::Abandon => Line::Abandon,
+            Request::Idle { words } => Line::Idle { words },
             Request::Trays => Line::Trays,
             Request::Stat => Line::Stat,
             Request::Dump => Line::Dump,

@@ -44,6 +44,15 @@ pub enum Request {
     },
     /// The roots are moved to the replica.
     Flip,
+    /// All that was dealt is undealt again, in a new epoch of the same cycle.
+    Recall,
+    /// The cycle ends without a flip.
+    Abandon,
+    /// So many words of idle work are granted to the collector.
+    Idle {
+        /// How many words.
+        words: u32,
+    },
     /// The trays, each with its name, its epoch and how many entries it has.
     Trays,
     /// The numbers of the heap.

@@ -31,7 +31,7 @@ use Rattle.rh_syntax.specs.declared.request.Request.{Request}
 use Rattle.rh_syntax.specs.declared.request.Request.TheVariants as requests
 use Rattle.rh_syntax.specs.TrayName.{IsNameByte, IsTrayName}
 use Rattle.rh_syntax.specs.Spelling.{Script, operand_text, kind_text, command_parts, command_text, request_parts, header_parts, spell_request, spelling, OperandFits, CommandFits, RequestFits, HeaderFits, IsScript}
-use Rattle.rh_syntax.specs.Reading.{number_or_fault, integer_or_fault, root_or_fault, operand_or_fault, tray_or_fault, kind_or_fault, read_alloc, read_load, read_store, read_copy, read_same, read_drop, command_or_fault, owned_command, single_command, read_shade, read_deal, read_give, read_join, keyword_request, request_of_parts, sizes_of, header_of_parts, checked_parts, fault_at, request_or_kind, header_or_kind, request_or_fault, header_or_fault, requests_from, script_or_fault, trace_of}
+use Rattle.rh_syntax.specs.Reading.{number_or_fault, integer_or_fault, root_or_fault, operand_or_fault, tray_or_fault, kind_or_fault, read_alloc, read_load, read_store, read_copy, read_same, read_drop, command_or_fault, owned_command, single_command, read_shade, read_deal, read_give, read_join, read_idle, keyword_request, request_of_parts, sizes_of, header_of_parts, checked_parts, fault_at, request_or_kind, header_or_kind, request_or_fault, header_or_fault, requests_from, script_or_fault, trace_of}
 use Rattle.rh_syntax.specs.lemmas.TrayNames.{read-from_name}
 
 -- ---- what the parts of a spelled line are like
@@ -278,6 +278,18 @@ flip-read : request_of_parts (codes "flip" ∷ []) ≡ Ok requests.Flip
 unfolding request_of_parts keyword_request
 flip-read = refl
 
+recall-read : request_of_parts (codes "recall" ∷ []) ≡ Ok requests.Recall
+unfolding request_of_parts keyword_request
+recall-read = refl
+
+abandon-read : request_of_parts (codes "abandon" ∷ []) ≡ Ok requests.Abandon
+unfolding request_of_parts keyword_request
+abandon-read = refl
+
+idle-read : (words : ℕ) → IsU32 words → request_of_parts (codes "idle" ∷ decimal words ∷ []) ≡ Ok (requests.Idle words)
+unfolding request_of_parts keyword_request read_idle one_part
+idle-read words small = rw (number_or_fault-decimal words small) refl
+
 trays-read : request_of_parts (codes "trays" ∷ []) ≡ Ok requests.Trays
 unfolding request_of_parts keyword_request
 trays-read = refl
@@ -330,6 +342,15 @@ request-read (requests.Join into other) fits = record {
   read = join-read into other fits.0 fits.1;
 }
 request-read requests.Flip fits = alone-read requests.Flip (codes "flip") (keyword_part (codes "flip") refl refl refl) refl flip-read
+request-read requests.Recall fits = alone-read requests.Recall (codes "recall") (keyword_part (codes "recall") refl refl refl) refl recall-read
+request-read requests.Abandon fits = alone-read requests.Abandon (codes "abandon") (keyword_part (codes "abandon") refl refl refl) refl abandon-read
+request-read (requests.Idle words) fits = record {
+  first = codes "idle";
+  others = decimal words ∷ [];
+  spelled = refl;
+  are = record { each = (keyword_part (codes "idle") refl refl refl, (number_part words fits, tt)); few = omega arith };
+  read = idle-read words fits;
+}
 request-read requests.Trays fits = alone-read requests.Trays (codes "trays") (keyword_part (codes "trays") refl refl refl) refl trays-read
 request-read requests.Stat fits = alone-read requests.Stat (codes "stat") (keyword_part (codes "stat") refl refl refl) refl stat-read
 request-read requests.Dump fits = alone-read requests.Dump (codes "dump") (keyword_part (codes "dump") refl refl refl) refl dump-read

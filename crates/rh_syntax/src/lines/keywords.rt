@@ -2,7 +2,7 @@
 
 ghost use Rattle.std.specs.Prelude.{◌≡◌, ◌+◌, ◌≤◌, [], ◌∷◌, ◌++◌, length};
 ghost use Rattle.rh_text.specs.Parts.{parts_left, spell_parts};
-ghost use Rattle.rh_syntax.specs.Reading.{tray_or_fault, kind_or_fault, alone, read_shade, read_deal, read_give, read_join, keyword_request};
+ghost use Rattle.rh_syntax.specs.Reading.{tray_or_fault, kind_or_fault, alone, read_shade, read_deal, read_give, read_join, read_idle, keyword_request};
 ghost use Rattle.rh_syntax.specs.Spelling.{kind_text, spell_request};
 ghost use Rattle.rh_syntax.specs.declared.request.Request.TheVariants as requests;
 
@@ -162,6 +162,26 @@ pub fn put_join_line(text: &mut LineText, into: TrayName, other: TrayName)
     text.put(b"\n");
 }
 
+/// `idle N`, from what stands after the keyword.
+#[tactic(auto, unfolding(crate::specs::Reading::read_idle))]
+fn read_idle(rest: Option<&[u8]>) -> Result<Request, Kind>
+    ensures { result ≡ read_idle (parts_left rest.entry) }
+{
+    let words = one_part(rest).ok_or(Kind::Form)?;
+    let words = number_or_fault(words)?;
+    Ok(Request::Idle { words })
+}
+
+/// The text becomes that of an `idle` line.
+pub fn put_idle_line(text: &mut LineText, words: u32)
+    ensures { text.new ≡ spell_request (requests.Idle words) }
+{
+    text.clear();
+    text.put(b"idle");
+    text.put_next_number(words);
+    text.put(b"\n");
+}
+
 /// The request of a line that begins with its keyword, from what stands after it.
 #[tactic(auto, unfolding(crate::specs::Reading::keyword_request))]
 pub fn keyword_request(keyword: &[u8], rest: Option<&[u8]>) -> Result<Request, Kind>
@@ -184,6 +204,15 @@ pub fn keyword_request(keyword: &[u8], rest: Option<&[u8]>) -> Result<Request, K
     }
     if keyword == b"flip".as_slice() {
         return alone(rest, Request::Flip);
+    }
+    if keyword == b"recall".as_slice() {
+        return alone(rest, Request::Recall);
+    }
+    if keyword == b"abandon".as_slice() {
+        return alone(rest, Request::Abandon);
+    }
+    if keyword == b"idle".as_slice() {
+        return read_idle(rest);
     }
     if keyword == b"trays".as_slice() {
         return alone(rest, Request::Trays);
