@@ -12,6 +12,11 @@ use Rattle.rh_core.specs.declared.errors.FlipError.{FlipError}
 use Rattle.rh_core.specs.declared.errors.FlipError.TheVariants as flips
 use Rattle.rh_core.specs.declared.errors.GiveError.{GiveError}
 use Rattle.rh_core.specs.declared.errors.GiveError.TheVariants as gives
+use Rattle.rh_core.specs.declared.errors.IdleError.{IdleError}
+use Rattle.rh_core.specs.declared.errors.IdleError.TheVariants as idles
+use Rattle.rh_core.specs.declared.errors.NoCycle.{NoCycle}
+use Rattle.rh_core.specs.declared.errors.RecallError.{RecallError}
+use Rattle.rh_core.specs.declared.errors.RecallError.TheVariants as recalls
 use Rattle.rh_core.specs.declared.errors.ShadeError.{ShadeError}
 use Rattle.rh_core.specs.declared.errors.ShadeError.TheVariants as shade_errors
 use Rattle.rh_syntax.specs.lemmas.TextNumbers.{numbers_in, numbers_in-one, numbers_in-two, numbers_in-two_then}
@@ -22,8 +27,8 @@ use Rattle.rh_engine.specs.declared.engine.GiveRefusal.{GiveRefusal}
 use Rattle.rh_engine.specs.declared.engine.GiveRefusal.TheVariants as give_refusals
 use Rattle.rh_engine.specs.declared.trays.JoinRefusal.{JoinRefusal}
 use Rattle.rh_engine.specs.declared.trays.JoinRefusal.TheVariants as join_refusals
-use Rattle.rh_engine.specs.CycleAnswers.{two_numbers, begin_text, shade_text, deal_text, give_error_text, given_text, give_text, join_text, flip_text}
-use Rattle.rh_engine.specs.ToldAnswers.{IsToldBegin, IsToldShade, IsToldDeal, IsToldGiveError, IsToldGiven, IsToldGive, IsToldJoin, IsToldFlip}
+use Rattle.rh_engine.specs.CycleAnswers.{two_numbers, begin_text, shade_text, deal_text, give_error_text, given_text, give_text, join_text, flip_text, recall_text, abandon_text, idle_text}
+use Rattle.rh_engine.specs.ToldAnswers.{IsToldBegin, IsToldShade, IsToldDeal, IsToldGiveError, IsToldGiven, IsToldGive, IsToldJoin, IsToldFlip, IsToldRecall, IsToldAbandon, IsToldIdle}
 
 -- the byte at a position of a text, and a number by its position among several
 abbrev byte : List ℕ → ℕ → ℕ
@@ -184,3 +189,48 @@ flip_told-text (Err flips.EpochsSpent) told = refl
 
 pub flip_text-injective : (a b : Result Flipped FlipError) → IsToldFlip a → IsToldFlip b → flip_text a ≡ flip_text b → a ≡ b
 flip_text-injective a b one other same = sym (flip_told-text a one) ∙ ap flip_told same ∙ flip_told-text b other
+
+-- recall
+
+abbrev recall_told : List ℕ → Result ℕ RecallError
+recall_told text =
+    if byte text 0 == 99 then Ok (number (numbers_in text) 0)
+    else if byte text 8 == 78 then Err recalls.NoCycle
+    else Err recalls.EpochsSpent
+
+recall_told-text : (answer : Result ℕ RecallError) → IsToldRecall answer → recall_told (recall_text answer) ≡ answer
+recall_told-text (Ok epoch) told = ap (λ ns. Ok (number ns 0)) (numbers_in-one epoch told)
+recall_told-text (Err recalls.NoCycle) told = refl
+recall_told-text (Err recalls.EpochsSpent) told = refl
+
+pub recall_text-injective : (a b : Result ℕ RecallError) → IsToldRecall a → IsToldRecall b → recall_text a ≡ recall_text b → a ≡ b
+recall_text-injective a b one other same = sym (recall_told-text a one) ∙ ap recall_told same ∙ recall_told-text b other
+
+-- abandon
+
+abbrev abandon_told : List ℕ → Result ℕ NoCycle
+abandon_told text =
+    if byte text 0 == 97 then Ok (number (numbers_in text) 0) else Err (record {})
+
+abandon_told-text : (answer : Result ℕ NoCycle) → IsToldAbandon answer → abandon_told (abandon_text answer) ≡ answer
+abandon_told-text (Ok placed) told = ap (λ ns. Ok (number ns 0)) (numbers_in-one placed told)
+abandon_told-text (Err why) told = refl
+
+pub abandon_text-injective : (a b : Result ℕ NoCycle) → IsToldAbandon a → IsToldAbandon b → abandon_text a ≡ abandon_text b → a ≡ b
+abandon_text-injective a b one other same = sym (abandon_told-text a one) ∙ ap abandon_told same ∙ abandon_told-text b other
+
+-- idle
+
+abbrev idle_told : List ℕ → Result ℕ IdleError
+idle_told text =
+    if byte text 0 == 105 then Ok (number (numbers_in text) 0)
+    else if byte text 8 == 78 then Err idles.NoCycle
+    else Err idles.IdleSpent
+
+idle_told-text : (answer : Result ℕ IdleError) → IsToldIdle answer → idle_told (idle_text answer) ≡ answer
+idle_told-text (Ok words) told = ap (λ ns. Ok (number ns 0)) (numbers_in-one words told)
+idle_told-text (Err idles.NoCycle) told = refl
+idle_told-text (Err idles.IdleSpent) told = refl
+
+pub idle_text-injective : (a b : Result ℕ IdleError) → IsToldIdle a → IsToldIdle b → idle_text a ≡ idle_text b → a ≡ b
+idle_text-injective a b one other same = sym (idle_told-text a one) ∙ ap idle_told same ∙ idle_told-text b other

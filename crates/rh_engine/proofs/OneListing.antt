@@ -7,7 +7,7 @@ use Rattle.std.proofs.lemmas.List.{append-nil}
 use Rattle.std.proofs.lemmas.List.Elements.{filter-append}
 use Rattle.rh_core.specs.declared.stat.Stat.{Stat}
 use Rattle.rh_syntax.specs.TrayName.{IsTrayName, IsNameByte}
-use Rattle.rh_syntax.specs.lemmas.TextNumbers.{is_digit, EndsNumber, numbers_in, letters_in, numbers_in-decimal, numbers_in-two, numbers_in-two_then, letters_in-decimal}
+use Rattle.rh_syntax.specs.lemmas.TextNumbers.{is_digit, EndsNumber, numbers_in, letters_in, numbers_in-decimal, numbers_in-one, numbers_in-two, numbers_in-two_then, letters_in-decimal}
 use Rattle.rh_engine.specs.Trays.{Tray}
 use Rattle.rh_engine.specs.CycleAnswers.{two_numbers, tray_text, cycle_text, stat_log, stat_work, stat_text}
 use Rattle.rh_engine.specs.ToldAnswers.{IsToldTray, IsToldStat}
@@ -86,20 +86,22 @@ cycle_ends true x = refl
 cycle_ends false x = refl
 
 -- the numbers of the ledger, and what is placed and missing
-work_numbers : (s : Stat) → IsToldStat s → numbers_in (stat_work s) ≡ s.granted ∷ s.spent ∷ s.placed ∷ s.missing ∷ []
+work_numbers : (s : Stat) → IsToldStat s → numbers_in (stat_work s) ≡ s.granted ∷ s.spent ∷ s.placed ∷ s.missing ∷ s.idle ∷ []
 work_numbers s told =
-    numbers_in-two_then s.granted s.spent (codes " spent ") told.granted told.spent (λ y. refl) (two_numbers (codes " placed ") s.placed (codes " missing ") s.missing) refl refl
-    ∙ ap (λ ns. s.granted ∷ s.spent ∷ ns) (numbers_in-two s.placed s.missing (codes " missing ") told.placed told.missing (λ y. refl) refl)
+    let idle : List ℕ = codes " idle " ++ decimal s.idle in
+    numbers_in-two_then s.granted s.spent (codes " spent ") told.granted told.spent (λ y. refl) (two_numbers (codes " placed ") s.placed (codes " missing ") s.missing ++ idle) refl refl
+    ∙ ap (λ ns. s.granted ∷ s.spent ∷ ns) (numbers_in-two_then s.placed s.missing (codes " missing ") told.placed told.missing (λ y. refl) idle refl refl
+    ∙ ap (λ ns. s.placed ∷ s.missing ∷ ns) (numbers_in-one s.idle told.idle))
 
 -- those before them
-log_numbers : (s : Stat) → IsToldStat s → numbers_in (stat_log s ++ stat_work s) ≡ s.epoch ∷ s.number ∷ s.log ∷ s.granted ∷ s.spent ∷ s.placed ∷ s.missing ∷ []
+log_numbers : (s : Stat) → IsToldStat s → numbers_in (stat_log s ++ stat_work s) ≡ s.epoch ∷ s.number ∷ s.log ∷ s.granted ∷ s.spent ∷ s.placed ∷ s.missing ∷ s.idle ∷ []
 log_numbers s told =
     ap numbers_in (append_assoc (two_numbers (codes " epoch ") s.epoch (codes " number ") s.number) (codes " log " ++ decimal s.log) (stat_work s))
     ∙ numbers_in-two_then s.epoch s.number (codes " number ") told.epoch told.number (λ y. refl) ((codes " log " ++ decimal s.log) ++ stat_work s) refl refl
     ∙ ap (λ ns. s.epoch ∷ s.number ∷ ns) (numbers_in-decimal s.log (stat_work s) told.log refl ∙ ap (λ ns. s.log ∷ ns) (work_numbers s told))
 
 -- and all
-stat_numbers : (s : Stat) → IsToldStat s → numbers_in (stat_text s) ≡ s.used ∷ s.free ∷ s.epoch ∷ s.number ∷ s.log ∷ s.granted ∷ s.spent ∷ s.placed ∷ s.missing ∷ []
+stat_numbers : (s : Stat) → IsToldStat s → numbers_in (stat_text s) ≡ s.used ∷ s.free ∷ s.epoch ∷ s.number ∷ s.log ∷ s.granted ∷ s.spent ∷ s.placed ∷ s.missing ∷ s.idle ∷ []
 stat_numbers s told =
     let rest : List ℕ = stat_log s ++ stat_work s in
     ap numbers_in (append_assoc (two_numbers (codes "stat used ") s.used (codes " free ") s.free) (cycle_text s.cycle) rest)
@@ -137,6 +139,7 @@ stat_told ns letter flips root_words = record {
   spent = number ns 6;
   placed = number ns 7;
   missing = number ns 8;
+  idle = number ns 9;
   flips = flips;
   root_words = root_words;
 }
@@ -144,7 +147,7 @@ stat_told ns letter flips root_words = record {
 stat_told-text : (s : Stat) → IsToldStat s → (flips root_words : ℕ) → stat_told (numbers_in (stat_text s)) (number (letters_in (stat_text s)) 24) flips root_words ≡ record s { flips = flips; root_words = root_words }
 stat_told-text s told flips root_words =
     ap (λ ns. stat_told ns (number (letters_in (stat_text s)) 24) flips root_words) (stat_numbers s told)
-    ∙ ap (λ letter. stat_told (s.used ∷ s.free ∷ s.epoch ∷ s.number ∷ s.log ∷ s.granted ∷ s.spent ∷ s.placed ∷ s.missing ∷ []) letter flips root_words) (cycle_letter s told)
+    ∙ ap (λ letter. stat_told (s.used ∷ s.free ∷ s.epoch ∷ s.number ∷ s.log ∷ s.granted ∷ s.spent ∷ s.placed ∷ s.missing ∷ s.idle ∷ []) letter flips root_words) (cycle_letter s told)
     ∙ ap (λ on. record s { cycle = on; flips = flips; root_words = root_words }) (by s.cycle)
   where
     by : (on : Bool) → ((if on then 110 else 102) == 110) ≡ on

@@ -8,13 +8,15 @@ use Rattle.rh_core.specs.declared.errors.BeginError.TheVariants as begins
 use Rattle.rh_core.specs.declared.errors.DealError.TheVariants as deals
 use Rattle.rh_core.specs.declared.errors.FlipError.TheVariants as flips
 use Rattle.rh_core.specs.declared.errors.GiveError.TheVariants as gives
+use Rattle.rh_core.specs.declared.errors.IdleError.TheVariants as idles
+use Rattle.rh_core.specs.declared.errors.RecallError.TheVariants as recalls
 use Rattle.rh_core.specs.declared.errors.ShadeError.TheVariants as shade_errors
 use Rattle.rh_core.specs.declared.stat.Stat.{Stat}
 use Rattle.rh_engine.specs.declared.engine.DealRefusal.TheVariants as deal_refusals
 use Rattle.rh_engine.specs.declared.engine.GiveRefusal.TheVariants as give_refusals
 use Rattle.rh_engine.specs.declared.trays.JoinRefusal.TheVariants as join_refusals
 use Rattle.rh_engine.specs.Trays.{Tray}
-use Rattle.rh_engine.specs.CycleAnswers.{begin_text, shade_text, deal_text, give_text, join_text, flip_text, tray_text, stat_text}
+use Rattle.rh_engine.specs.CycleAnswers.{begin_text, shade_text, deal_text, give_text, join_text, flip_text, recall_text, abandon_text, idle_text, tray_text, stat_text}
 
 begun : begin_text (Ok 12) ≡ codes "cycle 12"
 unfolding digits
@@ -150,6 +152,33 @@ missing = refl
 no_epoch_to_flip : flip_text (Err flips.EpochsSpent) ≡ codes "refused EpochsSpent"
 no_epoch_to_flip = refl
 
+recalled : recall_text (Ok 2) ≡ codes "cycle 2"
+unfolding digits
+recalled = refl
+
+no_cycle_to_recall : recall_text (Err recalls.NoCycle) ≡ codes "refused NoCycle"
+no_cycle_to_recall = refl
+
+no_epoch_to_recall : recall_text (Err recalls.EpochsSpent) ≡ codes "refused EpochsSpent"
+no_epoch_to_recall = refl
+
+abandoned : abandon_text (Ok 2) ≡ codes "abandoned 2"
+unfolding digits
+abandoned = refl
+
+no_cycle_to_abandon : abandon_text (Err (record {})) ≡ codes "refused NoCycle"
+no_cycle_to_abandon = refl
+
+idle : idle_text (Ok 14) ≡ codes "idle 14"
+unfolding digits
+idle = refl
+
+no_cycle_to_idle : idle_text (Err idles.NoCycle) ≡ codes "refused NoCycle"
+no_cycle_to_idle = refl
+
+idle_spent : idle_text (Err idles.IdleSpent) ≡ codes "refused IdleSpent"
+idle_spent = refl
+
 -- a tray of the second epoch, with one entry
 one_entry : Tray
 one_entry =
@@ -170,6 +199,7 @@ after_flip =
       number = 1;
       log = 0;
       granted = 24;
+      idle = 0;
       spent = 15;
       placed = 0;
       missing = 0;
@@ -180,17 +210,17 @@ after_flip =
 stat_off :
     stat_text after_flip
     ≡ codes "stat used 7 free 9 cycle off epoch 2 number 1 log 0"
-    ++ codes " granted 24 spent 15 placed 0 missing 0"
+    ++ codes " granted 24 spent 15 placed 0 missing 0 idle 0"
 unfolding digits after_flip
 stat_off = refl
 
 -- what a heap tells in a cycle
 in_cycle : Stat
-in_cycle = record after_flip { cycle = true; log = 3; placed = 4; missing = 5 }
+in_cycle = record after_flip { cycle = true; log = 3; placed = 4; missing = 5; idle = 6 }
 
 stat_on :
     stat_text in_cycle
     ≡ codes "stat used 7 free 9 cycle on epoch 2 number 1 log 3"
-    ++ codes " granted 24 spent 15 placed 4 missing 5"
+    ++ codes " granted 24 spent 15 placed 4 missing 5 idle 6"
 unfolding digits after_flip in_cycle
 stat_on = refl

@@ -13,6 +13,11 @@ use Rattle.rh_core.specs.declared.errors.FlipError.{FlipError}
 use Rattle.rh_core.specs.declared.errors.FlipError.TheVariants as flips
 use Rattle.rh_core.specs.declared.errors.GiveError.{GiveError}
 use Rattle.rh_core.specs.declared.errors.GiveError.TheVariants as gives
+use Rattle.rh_core.specs.declared.errors.IdleError.{IdleError}
+use Rattle.rh_core.specs.declared.errors.IdleError.TheVariants as idles
+use Rattle.rh_core.specs.declared.errors.NoCycle.{NoCycle}
+use Rattle.rh_core.specs.declared.errors.RecallError.{RecallError}
+use Rattle.rh_core.specs.declared.errors.RecallError.TheVariants as recalls
 use Rattle.rh_core.specs.declared.errors.ShadeError.{ShadeError}
 use Rattle.rh_core.specs.declared.errors.ShadeError.TheVariants as shade_errors
 use Rattle.rh_core.specs.declared.stat.Stat.{Stat}
@@ -101,6 +106,23 @@ flip_text (Err (flips.RootUnplaced root)) = codes "refused RootUnplaced " ++ roo
 flip_text (Err (flips.Missing count)) = codes "refused Missing " ++ decimal count
 flip_text (Err flips.EpochsSpent) = codes "refused EpochsSpent"
 
+-- cycle E
+abbrev pub recall_text : Result ℕ RecallError → List ℕ
+recall_text (Ok epoch) = codes "cycle " ++ decimal epoch
+recall_text (Err recalls.NoCycle) = codes "refused NoCycle"
+recall_text (Err recalls.EpochsSpent) = codes "refused EpochsSpent"
+
+-- abandoned OBJECTS
+abbrev pub abandon_text : Result ℕ NoCycle → List ℕ
+abandon_text (Ok placed) = codes "abandoned " ++ decimal placed
+abandon_text (Err why) = codes "refused NoCycle"
+
+-- idle WORDS
+abbrev pub idle_text : Result ℕ IdleError → List ℕ
+idle_text (Ok words) = codes "idle " ++ decimal words
+idle_text (Err idles.NoCycle) = codes "refused NoCycle"
+idle_text (Err idles.IdleSpent) = codes "refused IdleSpent"
+
 -- tray NAME epoch E entries N
 abbrev pub tray_text : List ℕ → Tray → List ℕ
 tray_text name t =
@@ -122,12 +144,13 @@ stat_log s =
     two_numbers (codes " epoch ") s.epoch (codes " number ") s.number
     ++ (codes " log " ++ decimal s.log)
 
--- granted G spent S placed P missing M
+-- granted G spent S placed P missing M idle I
 abbrev pub stat_work : Stat → List ℕ
 stat_work s =
     two_numbers (codes " granted ") s.granted (codes " spent ") s.spent
-    ++ two_numbers (codes " placed ") s.placed (codes " missing ") s.missing
+    ++ (two_numbers (codes " placed ") s.placed (codes " missing ") s.missing
+    ++ (codes " idle " ++ decimal s.idle))
 
--- stat used U free F cycle on epoch E number N log L granted G spent S placed P missing M
+-- stat used U free F cycle on epoch E number N log L granted G spent S placed P missing M idle I
 abbrev pub stat_text : Stat → List ℕ
 stat_text s = stat_start s ++ (stat_log s ++ stat_work s)

@@ -15,11 +15,16 @@ use Rattle.rh_core.specs.declared.errors.DealError.{DealError}
 use Rattle.rh_core.specs.declared.errors.DealError.TheVariants as deal_errors
 use Rattle.rh_core.specs.declared.errors.FlipError.{FlipError}
 use Rattle.rh_core.specs.declared.errors.GiveError.{GiveError}
+use Rattle.rh_core.specs.declared.errors.IdleError.{IdleError}
+use Rattle.rh_core.specs.declared.errors.NoCycle.{NoCycle}
+use Rattle.rh_core.specs.declared.errors.RecallError.{RecallError}
 use Rattle.rh_core.specs.declared.errors.ShadeError.{ShadeError}
 use Rattle.rh_text.specs.Stages.{◌when◌, ◌▸◌, no_fault}
 use Rattle.rh_core.specs.Heap.{HeapState}
 use Rattle.rh_core.specs.Commands.{heap_step}
 use Rattle.rh_core.specs.Cycle.{begin_step, flip_step}
+use Rattle.rh_core.specs.Recall.{recall_step, abandon_step}
+use Rattle.rh_core.specs.Idle.{idle_step}
 use Rattle.rh_core.specs.Shading.{shade_step}
 use Rattle.rh_core.specs.Dealing.{deal_step}
 use Rattle.rh_core.specs.Giving.{give_step}
@@ -56,6 +61,19 @@ shade_line_step e root =
 -- the roots are moved to the replica
 abbrev pub flip_line_step : EngineState → EngineState × Result Flipped FlipError
 flip_line_step e = (record e { heap = (flip_step e.heap).0 }, (flip_step e.heap).1)
+
+-- what was dealt is undealt
+abbrev pub recall_line_step : EngineState → EngineState × Result ℕ RecallError
+recall_line_step e = (record e { heap = (recall_step e.heap).0 }, (recall_step e.heap).1)
+
+-- the cycle ends without a flip
+abbrev pub abandon_line_step : EngineState → EngineState × Result ℕ NoCycle
+abandon_line_step e = (record e { heap = (abandon_step e.heap).0 }, (abandon_step e.heap).1)
+
+-- the collector has so many idle words more
+abbrev pub idle_line_step : EngineState → ℕ → EngineState × Result ℕ IdleError
+idle_line_step e words =
+    (record e { heap = (idle_step e.heap words).0 }, (idle_step e.heap words).1)
 
 -- Deal.
 

@@ -9,6 +9,9 @@ use Rattle.rh_core.specs.declared.errors.FlipError.{FlipError}
 use Rattle.rh_core.specs.declared.errors.FlipError.TheVariants as flips
 use Rattle.rh_core.specs.declared.errors.GiveError.{GiveError}
 use Rattle.rh_core.specs.declared.errors.GiveError.TheVariants as gives
+use Rattle.rh_core.specs.declared.errors.IdleError.{IdleError}
+use Rattle.rh_core.specs.declared.errors.NoCycle.{NoCycle}
+use Rattle.rh_core.specs.declared.errors.RecallError.{RecallError}
 use Rattle.rh_core.specs.declared.errors.ShadeError.{ShadeError}
 use Rattle.rh_core.specs.declared.errors.ShadeError.TheVariants as shade_errors
 use Rattle.rh_core.specs.declared.stat.Stat.{Stat}
@@ -68,6 +71,21 @@ IsToldFlip (Err (flips.RootUnplaced root)) = IsU128 root.owner × IsU128 root.sl
 IsToldFlip (Err (flips.Missing count)) = IsU128 count
 IsToldFlip other = ⊤
 
+-- to `recall`: the epoch fits
+abbrev pub IsToldRecall : Result ℕ RecallError → Type 0
+IsToldRecall (Ok epoch) = IsU128 epoch
+IsToldRecall (Err why) = ⊤
+
+-- to `abandon`: how many objects were placed does
+abbrev pub IsToldAbandon : Result ℕ NoCycle → Type 0
+IsToldAbandon (Ok placed) = IsU128 placed
+IsToldAbandon (Err why) = ⊤
+
+-- to `idle`: the words do
+abbrev pub IsToldIdle : Result ℕ IdleError → Type 0
+IsToldIdle (Ok words) = IsU128 words
+IsToldIdle (Err why) = ⊤
+
 -- to `trays`, of a tray: its epoch and how many entries it has do
 abbrev pub IsToldTray : Tray → Type 0
 IsToldTray t = IsU128 t.epoch × IsU128 (length t.entries)
@@ -80,6 +98,7 @@ pub record IsToldStat (s : Stat) : Type 0 where
   pub number : IsU128 s.number
   pub log : IsU128 s.log
   pub granted : IsU128 s.granted
+  pub idle : IsU128 s.idle
   pub spent : IsU128 s.spent
   pub placed : IsU128 s.placed
   pub missing : IsU128 s.missing

@@ -1,13 +1,14 @@
 //! The texts of the answers to the lines of a cycle, without line ends.
 
 ghost use Rattle.std.specs.Prelude.{◌≡◌, ◌+◌, ◌^◌, ◌<◌, ◌≤◌, ◌++◌, length, codes};
-ghost use Rattle.rh_engine.specs.CycleAnswers.{two_numbers, credit_text, begin_text, shade_text, deal_error_text, deal_text, give_error_text, given_text, give_text, join_text, flip_text, tray_text, stat_start, stat_log, stat_work, stat_text};
+ghost use Rattle.rh_engine.specs.CycleAnswers.{two_numbers, credit_text, begin_text, shade_text, deal_error_text, deal_text, give_error_text, given_text, give_text, join_text, flip_text, recall_text, abandon_text, idle_text, tray_text, stat_start, stat_log, stat_work, stat_text};
 ghost use Rattle.rh_engine.specs.Trays.{tray_of};
 
 use crate::engine::{DealRefusal, GiveRefusal, TrayDeal};
 use crate::trays::JoinRefusal;
 use rh_core::{
-    BeginError, DealError, FlipError, Flipped, GiveError, Given, ShadeError, Shaded, Stat,
+    BeginError, DealError, FlipError, Flipped, GiveError, Given, IdleError, NoCycle, RecallError,
+    ShadeError, Shaded, Stat,
 };
 use rh_partial::PartialReplica;
 use rh_syntax::TrayName;
@@ -203,6 +204,44 @@ pub fn put_flip(text: &mut LineText, answer: Result<Flipped, FlipError>)
     }
 }
 
+/// The text becomes that of the answer to `recall`.
+pub fn put_recall(text: &mut LineText, answer: Result<u64, RecallError>)
+    ensures value { text.new ≡ recall_text answer }
+    ensures len { length text.new ≤ 100 }
+{
+    text.clear();
+    match answer {
+        Ok(epoch) => text.put_part(b"cycle ", epoch),
+        Err(RecallError::NoCycle) => text.put(b"refused NoCycle"),
+        Err(RecallError::EpochsSpent) => text.put(b"refused EpochsSpent"),
+    }
+}
+
+/// The text becomes that of the answer to `abandon`.
+pub fn put_abandon(text: &mut LineText, answer: Result<u32, NoCycle>)
+    ensures value { text.new ≡ abandon_text answer }
+    ensures len { length text.new ≤ 100 }
+{
+    text.clear();
+    match answer {
+        Ok(placed) => text.put_part(b"abandoned ", placed),
+        Err(_) => text.put(b"refused NoCycle"),
+    }
+}
+
+/// The text becomes that of the answer to `idle`.
+pub fn put_idle(text: &mut LineText, answer: Result<u64, IdleError>)
+    ensures value { text.new ≡ idle_text answer }
+    ensures len { length text.new ≤ 100 }
+{
+    text.clear();
+    match answer {
+        Ok(words) => text.put_part(b"idle ", words),
+        Err(IdleError::NoCycle) => text.put(b"refused NoCycle"),
+        Err(IdleError::IdleSpent) => text.put(b"refused IdleSpent"),
+    }
+}
+
 /// The text becomes that of a tray in a listing.
 pub fn put_tray<A: Allocator + Copy>(
     text: &mut LineText,
@@ -226,13 +265,14 @@ pub fn put_tray<A: Allocator + Copy>(
 
 /// The text becomes the start of that of a heap's numbers.
 fn put_stat_start(text: &mut LineText, stat: &Stat)
-    requires { stat.now.used < 2 ^ 32 }
+    requires used { stat.now.used < 2 ^ 32 }
+    requires free { stat.now.free < 2 ^ 32 }
     ensures value { text.new ≡ stat_start stat.now }
-    ensures len { length text.new ≤ 56 }
+    ensures len { length text.new ≤ 46 }
 {
     text.clear();
     text.put_part(b"stat used ", stat.used as u32);
-    text.put_part(b" free ", stat.free);
+    text.put_part(b" free ", stat.free as u32);
     if stat.cycle {
         text.put(b" cycle on");
     } else {
@@ -242,29 +282,37 @@ fn put_stat_start(text: &mut LineText, stat: &Stat)
 
 /// Puts the epoch of a heap, the last store's number and the log's length at the end.
 fn put_stat_log(text: &mut LineText, stat: &Stat)
-    requires { length text.old ≤ 56 }
+    requires room { length text.old ≤ 46 }
+    requires log { stat.now.log < 2 ^ 32 }
     ensures value { text.new ≡ text.old ++ stat_log stat.now }
-    ensures len { length text.new ≤ 136 }
+    ensures len { length text.new ≤ 116 }
 {
     put_two(text, b" epoch ", stat.epoch, b" number ", stat.number);
-    text.put_part(b" log ", stat.log);
+    text.put_part(b" log ", stat.log as u32);
 }
 
-/// Puts a heap's ledger, and what is placed and missing, at the end.
+/// Puts what was granted and spent, what is placed and missing, and the idle words at the end.
 fn put_stat_work(text: &mut LineText, stat: &Stat)
-    requires { length text.old ≤ 136 }
+    requires room { length text.old ≤ 116 }
+    requires placed { stat.now.placed < 2 ^ 32 }
     ensures value { text.new ≡ text.old ++ stat_work stat.now }
-    ensures len { length text.new ≤ 249 }
+    ensures len { length text.new ≤ 245 }
 {
     put_two(text, b" granted ", stat.granted, b" spent ", stat.spent);
-    put_two(text, b" placed ", stat.placed, b" missing ", stat.missing);
+    text.put_part(b" placed ", stat.placed as u32);
+    text.put_part(b" missing ", stat.missing);
+    text.put_part(b" idle ", stat.idle);
 }
 
-/// The text becomes that of a heap's numbers.
+/// The text becomes that of a heap's numbers. Those of a heap's words, of its log's entries and of
+/// what is placed are below 2^32, as every heap's are.
 pub fn put_stat(text: &mut LineText, stat: &Stat)
-    requires { stat.now.used < 2 ^ 32 }
+    requires used { stat.now.used < 2 ^ 32 }
+    requires free { stat.now.free < 2 ^ 32 }
+    requires log { stat.now.log < 2 ^ 32 }
+    requires placed { stat.now.placed < 2 ^ 32 }
     ensures value { text.new ≡ stat_text stat.now }
-    ensures len { length text.new ≤ 249 }
+    ensures len { length text.new ≤ 245 }
 {
     put_stat_start(text, stat);
     put_stat_log(text, stat);

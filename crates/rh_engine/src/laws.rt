@@ -18,14 +18,17 @@ ghost use Rattle.rh_engine.specs.declared.trays.JoinRefusal.{JoinRefusal};
 ghost use Rattle.rh_engine.specs.declared.trays.JoinRefusal.TheVariants as joins;
 ghost use Rattle.rh_core.specs.declared.errors.BeginError.{BeginError};
 ghost use Rattle.rh_core.specs.declared.errors.FlipError.{FlipError};
+ghost use Rattle.rh_core.specs.declared.errors.IdleError.{IdleError};
+ghost use Rattle.rh_core.specs.declared.errors.NoCycle.{NoCycle};
+ghost use Rattle.rh_core.specs.declared.errors.RecallError.{RecallError};
 ghost use Rattle.rh_core.specs.declared.errors.ShadeError.{ShadeError};
 ghost use Rattle.rh_core.specs.declared.outcomes.Flipped.{Flipped};
 ghost use Rattle.rh_core.specs.declared.outcomes.Given.{Given as GivenOf};
 ghost use Rattle.rh_core.specs.declared.outcomes.Shaded.{Shaded};
 ghost use Rattle.rh_core.specs.declared.stat.Stat.{Stat};
 ghost use Rattle.rh_syntax.specs.TrayName.{IsTrayName};
-ghost use Rattle.rh_engine.specs.CycleAnswers.{begin_text, shade_text, deal_text, give_text, join_text, flip_text, tray_text, stat_text};
-ghost use Rattle.rh_engine.specs.ToldAnswers.{IsToldBegin, IsToldShade, IsToldDeal, IsToldGive, IsToldJoin, IsToldFlip, IsToldTray, IsToldStat};
+ghost use Rattle.rh_engine.specs.CycleAnswers.{begin_text, shade_text, deal_text, give_text, join_text, flip_text, recall_text, abandon_text, idle_text, tray_text, stat_text};
+ghost use Rattle.rh_engine.specs.ToldAnswers.{IsToldBegin, IsToldShade, IsToldDeal, IsToldGive, IsToldJoin, IsToldFlip, IsToldRecall, IsToldAbandon, IsToldIdle, IsToldTray, IsToldStat};
 ghost use Rattle.rh_engine.specs.Trays.{Trays as TraysOf, Tray, tray_named, trays_with, entries_with_all, replica_of, tray_of, IsJoinedInto};
 ghost use Rattle.rh_engine.specs.Engine.{EngineState, deal_line_step, refusals_of_deal, join_line_step, refusals_of_join, give_line_step, refusals_of_give, IsDealtInto};
 
@@ -149,6 +152,12 @@ pub fn each_text_is_of_one_answer_to_its_line()
         → join_text a ≡ join_text b → a ≡ b }
     ensures flip { (a b : Result Flipped FlipError) → IsToldFlip a → IsToldFlip b
         → flip_text a ≡ flip_text b → a ≡ b }
+    ensures recall { (a b : Result ℕ RecallError) → IsToldRecall a → IsToldRecall b
+        → recall_text a ≡ recall_text b → a ≡ b }
+    ensures abandon { (a b : Result ℕ NoCycle) → IsToldAbandon a → IsToldAbandon b
+        → abandon_text a ≡ abandon_text b → a ≡ b }
+    ensures idle { (a b : Result ℕ IdleError) → IsToldIdle a → IsToldIdle b
+        → idle_text a ≡ idle_text b → a ≡ b }
 {}
 
 /// The line of a tray tells its name, its epoch and how many entries it has, and not which. The

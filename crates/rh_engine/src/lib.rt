@@ -8,7 +8,8 @@ pub mod laws;
 mod trays;
 
 pub use cycle_answers::{
-    put_begin, put_deal, put_flip, put_give, put_join, put_shade, put_stat, put_tray,
+    put_abandon, put_begin, put_deal, put_flip, put_give, put_idle, put_join, put_recall,
+    put_shade, put_stat, put_tray,
 };
 pub use engine::{DealRefusal, Engine, GiveRefusal, TrayDeal};
 pub use trays::{JoinRefusal, Trays};

@@ -12,6 +12,8 @@ use Rattle.rh_core.specs.declared.errors.DealError.{DealError}
 use Rattle.rh_core.specs.declared.errors.FlipError.{FlipError}
 use Rattle.rh_core.specs.Commands.{heap_step}
 use Rattle.rh_core.specs.Cycle.{begin_step, flip_step}
+use Rattle.rh_core.specs.Recall.{recall_step, abandon_step}
+use Rattle.rh_core.specs.Idle.{idle_step}
 use Rattle.rh_core.specs.Dealing.{deal_step}
 use Rattle.rh_core.specs.Giving.{give_step}
 use Rattle.rh_core.specs.Heap.{HeapState}
@@ -53,6 +55,9 @@ pub record HeapCounts : Type 0 where
   pub shade : (h : HeapState) (root : RootId) → CountsStay h (shade_step h root).0
   pub deal : (h : HeapState) (kind : Kind) (most : ℕ) → CountsStay h (deal_step h kind most).0
   pub give : (h : HeapState) (r : ReplicaState) → CountsStay h (give_step h r).0
+  pub recall : (h : HeapState) → CountsStay h (recall_step h).0
+  pub abandon : (h : HeapState) → CountsStay h (abandon_step h).0
+  pub idle : (h : HeapState) (words : ℕ) → CountsStay h (idle_step h words).0
   pub flip : (h : HeapState) → IsCounted h (flip_step h).0 (result_ok (flip_step h).1)
 
 pub flip_counts : (h : HeapState) → ((f : Flipped) → (flip_step h).1 ≡ Ok f → ((flip_step h).0.flips ≡ h.flips + 1) × ((flip_step h).0.root_words ≡ h.root_words + f.roots)) → ((why : FlipError) → (flip_step h).1 ≡ Err why → (flip_step h).0 ≡ h) → IsCounted h (flip_step h).0 (result_ok (flip_step h).1)
@@ -74,6 +79,9 @@ request-counted counts (requests.Deal kind most tray) e = counted-none e.heap (r
 request-counted counts (requests.Give tray) e = counted-none e.heap (request_step e (requests.Give tray)).0.heap (give-counts counts (tray_named e.trays tray) e)
 request-counted counts (requests.Join into other) e = counted-none e.heap e.heap (refl, refl)
 request-counted counts requests.Flip e = counts.flip e.heap
+request-counted counts requests.Recall e = counted-none e.heap (recall_step e.heap).0 (counts.recall e.heap)
+request-counted counts requests.Abandon e = counted-none e.heap (abandon_step e.heap).0 (counts.abandon e.heap)
+request-counted counts (requests.Idle words) e = counted-none e.heap (idle_step e.heap words).0 (counts.idle e.heap words)
 request-counted counts requests.Trays e = counted-none e.heap e.heap (refl, refl)
 request-counted counts requests.Stat e = counted-none e.heap e.heap (refl, refl)
 request-counted counts requests.Dump e = counted-none e.heap e.heap (refl, refl)

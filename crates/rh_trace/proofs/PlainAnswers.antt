@@ -21,7 +21,7 @@ use Rattle.rh_core.specs.runs.Run.{event_step}
 use Rattle.rh_core.specs.Stat.{stat_of}
 use Rattle.rh_engine.specs.declared.engine.DealRefusal.{DealRefusal}
 use Rattle.rh_engine.specs.Trays.{Trays, Tray, tray_named, replica_of}
-use Rattle.rh_engine.specs.Engine.{EngineState, command_step, begin_line_step, shade_line_step, deal_line_step, deal_unless, deal_done, tray_refusal, give_line_step, give_found, join_line_step, flip_line_step}
+use Rattle.rh_engine.specs.Engine.{EngineState, command_step, begin_line_step, shade_line_step, deal_line_step, deal_unless, deal_done, tray_refusal, give_line_step, give_found, join_line_step, flip_line_step, recall_line_step, abandon_line_step, idle_line_step}
 use Rattle.rh_syntax.specs.declared.fault.TraceFault.{TraceFault}
 use Rattle.rh_trace.specs.declared.run_fault.RunFault.{RunFault}
 use Rattle.rh_trace.specs.declared.run_fault.RunFault.TheVariants as faults
@@ -91,6 +91,9 @@ module _ {A : Type 0} (keeps : StaysWellFormed A) (steps : Steps A) where
   request-answer dumps (requests.Give tray) e p plain = ((give_line_step e tray).1, refl)
   request-answer dumps (requests.Join into other) e p plain = ((join_line_step e into other).1, refl)
   request-answer dumps requests.Flip e p plain = ((flip_line_step e).1, refl)
+  request-answer dumps requests.Recall e p plain = ((recall_line_step e).1, refl)
+  request-answer dumps requests.Abandon e p plain = ((abandon_line_step e).1, refl)
+  request-answer dumps (requests.Idle words) e p plain = ((idle_line_step e words).1, refl)
   request-answer dumps requests.Trays e p plain = (e.trays, refl)
   request-answer dumps requests.Stat e p plain = (stat_of e.heap, refl)
   request-answer dumps requests.Dump e p plain = ap answers.Dump (dumps e.heap p plain.1)
@@ -104,6 +107,9 @@ module _ {A : Type 0} (keeps : StaysWellFormed A) (steps : Steps A) where
   request-plain (requests.Give tray) e p plain = give-plain (tray_named e.trays tray) e p plain
   request-plain (requests.Join into other) e p plain = plain
   request-plain requests.Flip e p plain = event-plain e.heap p plain happenings.Flip
+  request-plain requests.Recall e p plain = event-plain e.heap p plain happenings.Recall
+  request-plain requests.Abandon e p plain = event-plain e.heap p plain happenings.Abandon
+  request-plain (requests.Idle words) e p plain = event-plain e.heap p plain (happenings.Idle words)
   request-plain requests.Trays e p plain = plain
   request-plain requests.Stat e p plain = plain
   request-plain requests.Dump e p plain = plain

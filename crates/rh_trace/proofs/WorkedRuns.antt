@@ -15,6 +15,8 @@ use Rattle.rh_core.specs.Classes.{class_of}
 use Rattle.rh_core.specs.Commands.{heap_step, heap_after_command, is_limit_answer, AnswersAs}
 use Rattle.rh_mutator.specs.Commands.{limit_of, mutators_after}
 use Rattle.rh_core.specs.Cycle.{begin_step, flip_step}
+use Rattle.rh_core.specs.Recall.{recall_step, abandon_step}
+use Rattle.rh_core.specs.Idle.{idle_step}
 use Rattle.rh_core.specs.Dealing.{deal_step}
 use Rattle.rh_core.specs.Giving.{give_step}
 use Rattle.rh_core.specs.Shading.{shade_step}
@@ -27,7 +29,7 @@ use Rattle.rh_trace.specs.Answers as told
 use Rattle.rh_trace.specs.Answers.{Answered}
 use Rattle.rh_syntax.specs.declared.request.Request.{Request}
 use Rattle.rh_syntax.specs.declared.request.Request.TheVariants.{Command, Dump}
-use Rattle.rh_syntax.specs.Reading.{operand_or_fault, read_alloc, read_store, command_or_fault, kind_or_fault, read_shade, read_deal, read_give, read_join, keyword_request, request_of_parts, sizes_of, header_of_parts, checked_parts, request_or_kind, header_or_kind, requests_from, script_or_fault}
+use Rattle.rh_syntax.specs.Reading.{operand_or_fault, read_alloc, read_store, command_or_fault, kind_or_fault, read_shade, read_deal, read_give, read_join, read_idle, keyword_request, request_of_parts, sizes_of, header_of_parts, checked_parts, request_or_kind, header_or_kind, requests_from, script_or_fault}
 use Rattle.rh_trace.specs.Run.{run_of, text_of, AreTransparent}
 use Rattle.rh_syntax.specs.TrayName.{is_tray_name}
 
@@ -64,7 +66,16 @@ rows =
     ∷ (codes "flip", codes "flipped roots 3 live 10" ∷ [])
     ∷ (codes "join t e", codes "joined 4" ∷ [])
     ∷ (codes "trays", codes "tray t epoch 1 entries 4" ∷ codes "tray e epoch 1 entries 2" ∷ codes "tray c epoch 1 entries 1" ∷ [])
-    ∷ (codes "stat", codes "stat used 10 free 6 cycle off epoch 2 number 3 log 0 granted 48 spent 29 placed 0 missing 0" ∷ [])
+    ∷ (codes "stat", codes "stat used 10 free 6 cycle off epoch 2 number 3 log 0 granted 48 spent 29 placed 0 missing 0 idle 0" ∷ [])
+    ∷ (codes "idle 9", codes "refused NoCycle" ∷ [])
+    ∷ (codes "begin", codes "cycle 2" ∷ [])
+    ∷ (codes "idle 9", codes "idle 9" ∷ [])
+    ∷ (codes "shade 1.0", codes "placed" ∷ [])
+    ∷ (codes "deal copies 9 d", codes "dealt 1 passed 0" ∷ [])
+    ∷ (codes "recall", codes "cycle 3" ∷ [])
+    ∷ (codes "give d", codes "refused StaleEpoch is 3 was 2" ∷ [])
+    ∷ (codes "abandon", codes "abandoned 1" ∷ [])
+    ∷ (codes "recall", codes "refused NoCycle" ∷ [])
     ∷ []
 
 trace : List ℕ
@@ -74,7 +85,7 @@ answers : List ℕ
 answers = text (flat_map (λ row. row.1) rows ++ codes "total commands 6 refused 0 flips 1 rootwords 3" ∷ [])
 
 run : text_of (run_of trace) ≡ answers
-unfolding digits script_or_fault header_or_kind request_or_kind requests_from checked_parts is_formed header_of_parts six_parts sizes_of number_of integer_of request_of_parts command_or_fault read_alloc read_store operand_or_fault keyword_request read_shade read_deal read_give read_join kind_or_fault is_tray_name one_part two_parts three_parts root_of heap_step heap_after_command limit_of mutators_after refusal_of fault_in reply_to begin_step flip_step shade_step deal_step give_step class_of text rows trace answers
+unfolding digits script_or_fault header_or_kind request_or_kind requests_from checked_parts is_formed header_of_parts six_parts sizes_of number_of integer_of request_of_parts command_or_fault read_alloc read_store operand_or_fault keyword_request read_shade read_deal read_give read_join read_idle kind_or_fault is_tray_name one_part two_parts three_parts root_of heap_step heap_after_command limit_of mutators_after refusal_of fault_in reply_to begin_step flip_step recall_step abandon_step idle_step shade_step deal_step give_step class_of text rows trace answers
 run = refl
 
 -- ---- what isn't the answer of a plain heap

@@ -7,12 +7,15 @@ use Rattle.rh_layout.specs.declared.refusal.Refusal.{Refusal}
 use Rattle.rh_core.specs.declared.outcomes as outcomes
 use Rattle.rh_core.specs.declared.errors.BeginError.{BeginError}
 use Rattle.rh_core.specs.declared.errors.FlipError.{FlipError}
+use Rattle.rh_core.specs.declared.errors.IdleError.{IdleError}
+use Rattle.rh_core.specs.declared.errors.NoCycle.{NoCycle}
+use Rattle.rh_core.specs.declared.errors.RecallError.{RecallError}
 use Rattle.rh_core.specs.declared.errors.ShadeError.{ShadeError}
 use Rattle.rh_core.specs.declared.stat as stats
 use Rattle.rh_dump.specs.Dump.{GraphState}
 use Rattle.rh_dump.specs.texts.Line.{dump_text}
 use Rattle.rh_syntax.specs.CommandAnswers.{answer_text, IsU128}
-use Rattle.rh_engine.specs.CycleAnswers.{begin_text, shade_text, deal_text, give_text, join_text, flip_text, tray_text, stat_text}
+use Rattle.rh_engine.specs.CycleAnswers.{begin_text, shade_text, deal_text, give_text, join_text, flip_text, recall_text, abandon_text, idle_text, tray_text, stat_text}
 use Rattle.rh_engine.specs.Trays as trays
 use Rattle.rh_engine.specs.declared.engine.TrayDeal.{TrayDeal}
 use Rattle.rh_engine.specs.declared.engine.DealRefusal.{DealRefusal}
@@ -30,6 +33,9 @@ pub data Answered : Type 0 where
   Give : (answer : Result outcomes.Given.Given GiveRefusal) → Answered
   Join : (answer : Result ℕ JoinRefusal) → Answered
   Flip : (answer : Result outcomes.Flipped.Flipped FlipError) → Answered
+  Recall : (answer : Result ℕ RecallError) → Answered
+  Abandon : (answer : Result ℕ NoCycle) → Answered
+  Idle : (answer : Result ℕ IdleError) → Answered
   Listing : (listed : trays.Trays) → Answered
   Numbers : (stat : stats.Stat.Stat) → Answered
   Dump : (graph : GraphState) → Answered
@@ -55,6 +61,9 @@ answered_text (Deal answer) = with_line_end (deal_text answer)
 answered_text (Give answer) = with_line_end (give_text answer)
 answered_text (Join answer) = with_line_end (join_text answer)
 answered_text (Flip answer) = with_line_end (flip_text answer)
+answered_text (Recall answer) = with_line_end (recall_text answer)
+answered_text (Abandon answer) = with_line_end (abandon_text answer)
+answered_text (Idle answer) = with_line_end (idle_text answer)
 answered_text (Listing listed) = trays_text listed
 answered_text (Numbers stat) = with_line_end (stat_text stat)
 answered_text (Dump graph) = dump_text graph

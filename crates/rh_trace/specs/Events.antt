@@ -32,7 +32,8 @@ module _ {A : Type 0} where
   gives_of (Some t) = events.Give (replica_of t) ∷ []
 
   -- the event that a request is to the heap, if it is one: a command, a begin, a shade, a deal into
-  -- a tray that can take it, a give of a tray that is there, or a flip
+  -- a tray that can take it, a give of a tray that is there, a flip, a recall, an abandon, or idle
+  -- words
   abbrev pub request_events : EngineState → Request → List (Event A)
   request_events e (requests.Command owner command) = events.Command owner command ∷ []
   request_events e requests.Begin = events.Begin ∷ []
@@ -41,6 +42,9 @@ module _ {A : Type 0} where
       event_unless (tray_refusal e tray) (events.Deal kind most)
   request_events e (requests.Give tray) = gives_of (tray_named e.trays tray)
   request_events e requests.Flip = events.Flip ∷ []
+  request_events e requests.Recall = events.Recall ∷ []
+  request_events e requests.Abandon = events.Abandon ∷ []
+  request_events e (requests.Idle words) = events.Idle words ∷ []
   request_events e other = []
 
   -- the events that requests are to the heap, in order
@@ -87,4 +91,7 @@ TellsAnswer (heap_answers.Shade answer ∷ []) answered = answered ≡ answers.S
 TellsAnswer (heap_answers.Deal answer ∷ []) answered = TellsDealt answer answered
 TellsAnswer (heap_answers.Give answer ∷ []) answered = TellsGiven answer answered
 TellsAnswer (heap_answers.Flip answer ∷ []) answered = answered ≡ answers.Flip answer
+TellsAnswer (heap_answers.Recall answer ∷ []) answered = answered ≡ answers.Recall answer
+TellsAnswer (heap_answers.Abandon answer ∷ []) answered = answered ≡ answers.Abandon answer
+TellsAnswer (heap_answers.Idle answer ∷ []) answered = answered ≡ answers.Idle answer
 TellsAnswer (first ∷ second ∷ others) answered = ⊥

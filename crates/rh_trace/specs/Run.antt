@@ -9,6 +9,9 @@ use Rattle.rh_mutator.specs.declared.config.ConfigFault.{ConfigFault}
 use Rattle.rh_core.specs.declared.outcomes as outcomes
 use Rattle.rh_core.specs.declared.errors.BeginError.{BeginError}
 use Rattle.rh_core.specs.declared.errors.FlipError.{FlipError}
+use Rattle.rh_core.specs.declared.errors.IdleError.{IdleError}
+use Rattle.rh_core.specs.declared.errors.NoCycle.{NoCycle}
+use Rattle.rh_core.specs.declared.errors.RecallError.{RecallError}
 use Rattle.rh_core.specs.declared.errors.ShadeError.{ShadeError}
 use Rattle.rh_core.specs.declared.stat.Stat.{Stat}
 use Rattle.rh_core.specs.Config.{fault_of}
@@ -35,7 +38,7 @@ use Rattle.rh_syntax.specs.Spelling.{Script, IsScript, spelling}
 use Rattle.rh_syntax.specs.Reading.{trace_of}
 use Rattle.rh_trace.specs.Answers as answers
 use Rattle.rh_trace.specs.Answers.{Answered, answered_text, is_answer, is_refused, is_flip, flip_of, words_of, root_words_of, total_line}
-use Rattle.rh_engine.specs.Engine.{EngineState, command_step, begin_line_step, shade_line_step, deal_line_step, give_line_step, join_line_step, flip_line_step}
+use Rattle.rh_engine.specs.Engine.{EngineState, command_step, begin_line_step, shade_line_step, deal_line_step, give_line_step, join_line_step, flip_line_step, recall_line_step, abandon_line_step, idle_line_step}
 use Rattle.rh_text.specs.Output.{AppendsPrefix, AppendsLess}
 
 -- the heap of a trace: the numbers of its first line, and 2^62 store numbers and epochs
@@ -65,6 +68,9 @@ request_step e (requests.Deal kind most tray) =
 request_step e (requests.Give tray) = answered_by answers.Give (give_line_step e tray)
 request_step e (requests.Join into other) = answered_by answers.Join (join_line_step e into other)
 request_step e requests.Flip = answered_by answers.Flip (flip_line_step e)
+request_step e requests.Recall = answered_by answers.Recall (recall_line_step e)
+request_step e requests.Abandon = answered_by answers.Abandon (abandon_line_step e)
+request_step e (requests.Idle words) = answered_by answers.Idle (idle_line_step e words)
 request_step e requests.Trays = (e, answers.Listing e.trays)
 request_step e requests.Stat = (e, answers.Numbers (stat_of e.heap))
 request_step e requests.Dump = (e, answers.Dump (dump_of e.heap))
@@ -184,6 +190,12 @@ IsPlainAnswer p (requests.Join into other) answered =
     (answer : Result ℕ JoinRefusal) × (answered ≡ answers.Join answer)
 IsPlainAnswer p requests.Flip answered =
     (answer : Result outcomes.Flipped.Flipped FlipError) × (answered ≡ answers.Flip answer)
+IsPlainAnswer p requests.Recall answered =
+    (answer : Result ℕ RecallError) × (answered ≡ answers.Recall answer)
+IsPlainAnswer p requests.Abandon answered =
+    (answer : Result ℕ NoCycle) × (answered ≡ answers.Abandon answer)
+IsPlainAnswer p (requests.Idle words) answered =
+    (answer : Result ℕ IdleError) × (answered ≡ answers.Idle answer)
 IsPlainAnswer p requests.Trays answered = (listed : Trays) × (answered ≡ answers.Listing listed)
 IsPlainAnswer p requests.Stat answered = (stat : Stat) × (answered ≡ answers.Numbers stat)
 IsPlainAnswer p requests.Dump answered = answered ≡ answers.Dump (plain_dump_of p)

@@ -21,7 +21,8 @@ use crate::summary::Summary;
 use rh_core::Heap;
 use rh_dump::write_dump_logged;
 use rh_engine::{
-    Engine, Trays, put_begin, put_deal, put_flip, put_give, put_join, put_shade, put_stat, put_tray,
+    Engine, Trays, put_abandon, put_begin, put_deal, put_flip, put_give, put_idle, put_join,
+    put_recall, put_shade, put_stat, put_tray,
 };
 use rh_layout::Command;
 use rh_layout::limits::MAX_CALLS;
@@ -143,10 +144,8 @@ fn answer_flip<A: Allocator + Copy>(
 /// The text becomes that of a heap's numbers.
 fn put_numbers<A: Allocator + Copy>(heap: &Heap<A>, text: &mut LineText)
     ensures value { text.new ≡ stat_text (stat_of heap.now) }
-    ensures len { length text.new ≤ 249 }
+    ensures len { length text.new ≤ 245 }
 {
-    // Only for the proof: the words that are used are fewer than 2^32.
-    let _ = heap.used();
     put_stat(text, &heap.stat());
 }
 
@@ -188,6 +187,9 @@ fn play_request<A: Allocator + Copy, W: io::Write>(
         Request::Give { tray } => put_give(text, engine.give(tray)),
         Request::Join { into, other } => put_join(text, engine.join(into, other)?),
         Request::Flip => answer_flip(engine, text, summary),
+        Request::Recall => put_recall(text, engine.recall()),
+        Request::Abandon => put_abandon(text, engine.abandon()),
+        Request::Idle { words } => put_idle(text, engine.idle(words.into())),
         Request::Trays => return write_trays(engine.trays(), text, writer, writes),
         Request::Stat => put_numbers(engine.heap(), text),
         Request::Dump => return write_heap_dump(alloc, engine.heap(), writer, writes),

@@ -16,6 +16,8 @@ use rh_core::laws::cycles::{
 };
 use rh_core::laws::deals::a_deal_looks_at_as_many_as_it_may;
 use rh_core::laws::gives::{a_give_leaves_the_cycle, a_shade_leaves_the_cycle};
+use rh_core::laws::idle_work::idle_words_add_up;
+use rh_core::laws::recalls::{a_recall_makes_all_undealt, an_abandon_forgets_what_was_placed};
 use std::alloc::Allocator;
 
 /// The flips and the root words of a summary are those that the heap counted: after requests it has
@@ -33,6 +35,9 @@ pub fn a_summary_has_what_the_heap_counted()
     a_shade_leaves_the_cycle();
     a_deal_looks_at_as_many_as_it_may();
     a_give_leaves_the_cycle();
+    a_recall_makes_all_undealt();
+    an_abandon_forgets_what_was_placed();
+    idle_words_add_up();
     a_flip_ends_the_cycle();
     a_flip_is_refused_exactly_where_its_cycle_is_not_closed();
 }

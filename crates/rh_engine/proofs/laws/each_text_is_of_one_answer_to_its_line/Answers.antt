@@ -1,4 +1,4 @@
-use Rattle.rh_engine.proofs.OneCycleAnswer.{begin_text-injective, shade_text-injective, deal_text-injective, give_text-injective, join_text-injective, flip_text-injective}
+use Rattle.rh_engine.proofs.OneCycleAnswer.{begin_text-injective, shade_text-injective, deal_text-injective, give_text-injective, join_text-injective, flip_text-injective, recall_text-injective, abandon_text-injective, idle_text-injective}
 use Rattle.rh_engine.proofs.laws.each_text_is_of_one_answer_to_its_line.Goals as goal
 
 pub returns-clause-begin : goal.returns-clause-begin
@@ -18,3 +18,12 @@ returns-clause-join c = join_text-injective
 
 pub returns-clause-flip : goal.returns-clause-flip
 returns-clause-flip c = flip_text-injective
+
+pub returns-clause-recall : goal.returns-clause-recall
+returns-clause-recall c = recall_text-injective
+
+pub returns-clause-abandon : goal.returns-clause-abandon
+returns-clause-abandon c = abandon_text-injective
+
+pub returns-clause-idle : goal.returns-clause-idle
+returns-clause-idle c = idle_text-injective
