@@ -1,8 +1,16 @@
 -- What statuses tell apart.
-use Rattle.std.proofs.Common.{◌≡◌, ◌⊎◌, ◌↔◌, inl, inr, ℕ, refl, sym, arith}
+use Rattle.std.proofs.Common.{◌≡◌, ◌≤◌, ◌⊎◌, ◌↔◌, inl, inr, ℕ, refl, sym, arith}
 use Rattle.rh_replay.specs.declared.checking.Verdict.{Verdict}
 use Rattle.rh_replay.specs.declared.checking.Verdict.TheVariants.{Legal, Wrong}
 use Rattle.std.specs.Prelude.{Ok}
+use Rattle.clap.specs.Words.{kind_of}
+use Rattle.clap.specs.declared.error.kind.ErrorKind.{ErrorKind}
+use Rattle.clap.specs.declared.error.kind.ErrorKind.TheVariants.{DisplayHelp, DisplayVersion}
+use Rattle.rh_cli.specs.declared.ending.Ending.{Ending}
+use Rattle.rh_cli.specs.declared.ending.Ending.TheVariants.{Done, WrongHistory}
+use Rattle.rh_cli.specs.declared.fault.LineFault.{LineFault}
+use Rattle.rh_cli.specs.declared.fault.LineFault.TheVariants as faults
+use Rattle.rh_cli.specs.Fault.{arguments_status, status_of, ending_status, IsLateStatus}
 use Rattle.rh_cli.specs.Replay.{IsReplayStatus}
 
 -- a fault that comes once the command line is understood ends with another status than 0 and 4
@@ -26,3 +34,33 @@ late_is_not_0 own X late = (λ is. absurd (late_is_not_0_or_4 own 0 (inl refl) l
 
 pub late_is_not_4 : (own : ℕ) (X : Type 0) → (own ≡ 1) ⊎ (own ≡ 3) → (own ≡ 4) ↔ (⊥ × X)
 late_is_not_4 own X late = (λ is. absurd (late_is_not_0_or_4 own 4 (inr refl) late is), λ both. absurd both.0)
+
+-- an ending's status isn't that of the command line
+pub late_of_ending : (ending : Ending) (status : ℕ) → status ≡ ending_status ending → IsLateStatus status
+late_of_ending Done status is = (omega (arith, is), λ two. omega (arith, is, two))
+late_of_ending WrongHistory status is = (omega (arith, is), λ two. omega (arith, is, two))
+
+-- nor is that of a fault that comes once the command line is understood
+pub late_of_fault : (status own : ℕ) → status ≡ own → (own ≡ 1) ⊎ (own ≡ 3) → IsLateStatus status
+late_of_fault status own is (inl one) = (omega (arith, is, one), λ two. omega (arith, is, one, two))
+late_of_fault status own is (inr three) = (omega (arith, is, three), λ two. omega (arith, is, three, two))
+
+arguments_at_most_2 : (kind : ErrorKind) → arguments_status kind ≤ 2
+arguments_at_most_2 DisplayHelp = omega arith
+arguments_at_most_2 DisplayVersion = omega arith
+arguments_at_most_2 kind = omega arith
+
+-- no fault has a status above 3
+pub fault_at_most_3 : (fault : LineFault) → status_of fault ≤ 3
+fault_at_most_3 (faults.Arguments error) = omega (arith, arguments_at_most_2 (kind_of error))
+fault_at_most_3 faults.NoText = omega arith
+fault_at_most_3 faults.Incomplete = omega arith
+fault_at_most_3 (faults.Trace fault) = omega arith
+fault_at_most_3 (faults.History fault) = omega arith
+fault_at_most_3 (faults.Dump fault) = omega arith
+fault_at_most_3 (faults.Heap fault) = omega arith
+fault_at_most_3 faults.Open = omega arith
+fault_at_most_3 faults.Read = omega arith
+fault_at_most_3 faults.Write = omega arith
+fault_at_most_3 faults.TooLong = omega arith
+fault_at_most_3 faults.OutOfMemory = omega arith

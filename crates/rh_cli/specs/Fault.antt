@@ -1,5 +1,5 @@
 -- The status that a fault ends the program with.
-use Rattle.std.specs.Prelude.{◌≡◌, ◌⊎◌, ℕ, Result, Ok, Err}
+use Rattle.std.specs.Prelude.{◌≡◌, ◌≢◌, ◌≤◌, ◌⊎◌, ⊤, ℕ, Result, Ok, Err}
 use Rattle.clap.specs.Words.{kind_of}
 use Rattle.clap.specs.declared.error.kind.ErrorKind.{ErrorKind}
 use Rattle.clap.specs.declared.error.kind.ErrorKind.TheVariants.{DisplayHelp, DisplayVersion}
@@ -32,6 +32,26 @@ status_of faults.OutOfMemory = 3
 -- a fault that comes once the command line is understood
 abbrev pub IsLateFault : LineFault → Type 0
 IsLateFault fault = (status_of fault ≡ 1) ⊎ (status_of fault ≡ 3)
+
+-- a status that comes once the command line is understood: one of 0, 1, 3 and 4
+abbrev pub IsLateStatus : ℕ → Type 0
+IsLateStatus status = (status ≤ 4) × (status ≢ 2)
+
+-- a fault that reading the arguments may end with
+abbrev pub IsArgumentsFault : LineFault → Type 0
+IsArgumentsFault (faults.Arguments error) = ⊤
+IsArgumentsFault faults.Incomplete = ⊤
+IsArgumentsFault faults.OutOfMemory = ⊤
+IsArgumentsFault fault = ⊥
+
+-- a fault that comes before anything is done with the file
+abbrev pub IsEarlyFault : LineFault → Type 0
+IsEarlyFault (faults.Arguments error) = ⊤
+IsEarlyFault faults.NoText = ⊤
+IsEarlyFault faults.Incomplete = ⊤
+IsEarlyFault faults.Open = ⊤
+IsEarlyFault faults.OutOfMemory = ⊤
+IsEarlyFault fault = ⊥
 
 -- 0 where all is well, 4 for a wrong history
 abbrev pub ending_status : Ending → ℕ

@@ -4,6 +4,7 @@ ghost use Rattle.std.specs.Prelude.{◌≡◌, ◌≢◌, map, false, Some, IsTr
 ghost use Rattle.clap.specs.declared.builder.command.Command.TheViews.{out-Command as fields_of};
 ghost use Rattle.clap.specs.Words.{kind_of, app_of, subcommand_rows_of};
 ghost use Rattle.rh_cli.specs.Ask.{command_and_file, command_and_file_in, command_and_file_of, file_app, rheap_app, is_taken, name_of};
+ghost use Rattle.rh_cli.specs.Fault.{IsArgumentsFault};
 ghost use Rattle.rh_cli.specs.declared.ask.Ask.{Ask};
 ghost use Rattle.rh_cli.specs.declared.ask.Subcommand.{Subcommand as SubcommandOf};
 
@@ -91,6 +92,8 @@ pub fn read_words<'a>(alloc: Global, arguments: &'a [&'a str]) -> Result<Ask<'a>
         → (ask : Ask)
         → command_and_file_of (map (λ a. a.now) arguments.now) ≡ Some (command_and_file ask)
         → fault ≡ LineFault.OutOfMemory) }
+    // No other fault comes.
+    ensures kinds { IfErr result (λ fault. IsArgumentsFault fault) }
 {
     let matches = matches_of(alloc, arguments)?;
     match ask_of(&matches) {
@@ -106,6 +109,7 @@ fn matches_of<'a>(alloc: Global, arguments: &'a [&'a str]) -> Result<ArgMatches<
         ≡ command_and_file_in (subcommand_rows_of matches)) }
     ensures refused { IfErr result (λ fault. IsTrue (is_taken (map (λ a. a.now) arguments.now))
         → fault ≡ LineFault.OutOfMemory) }
+    ensures kinds { IfErr result (λ fault. IsArgumentsFault fault) }
 {
     let command = command_line(alloc)?;
     match command.try_get_matches_from(arguments) {
@@ -147,7 +151,8 @@ fn subcommand_named(name: &str) -> Option<Subcommand>
 
 /// The fault that an error of clap's is.
 fn fault_of(error: clap::Error) -> LineFault
-    ensures { kind_of error ≡ ErrorKind.OutOfMemory → result ≡ LineFault.OutOfMemory }
+    ensures memory { kind_of error ≡ ErrorKind.OutOfMemory → result ≡ LineFault.OutOfMemory }
+    ensures kinds { IsArgumentsFault result }
 {
     if error.kind() == ErrorKind::OutOfMemory {
         LineFault::OutOfMemory

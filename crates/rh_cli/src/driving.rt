@@ -3,7 +3,7 @@
 ghost use Rattle.std.specs.Prelude.{◌≡◌, ◌⊎◌, List, ℕ, IfSome, IfErr};
 ghost use Rattle.std.specs.Io.KnownBytes.{Consumes, Keeps};
 ghost use Rattle.rh_cli.specs.Drive.{Concludes};
-ghost use Rattle.rh_cli.specs.Fault.{status_of, status_after, IsLateFault};
+ghost use Rattle.rh_cli.specs.Fault.{status_of, status_after, IsLateFault, IsLateStatus};
 ghost use Rattle.rh_cli.specs.declared.fault.LineFault.TheVariants as faults;
 
 use crate::ask::{Ask, Subcommand};
@@ -35,6 +35,8 @@ pub fn drive<A: Allocator + Copy, R: Read, O: Write, E: Write>(
         × Concludes ask.now.subcommand input result (O.contents out.old) (O.contents out.new) }
     // Where it is done, and where a history is wrong, nothing is told of a fault.
     ensures quiet { (result ≡ 0) ⊎ (result ≡ 4) → Keeps (E.contents err.old) (E.contents err.new) }
+    // The command line was understood, so that no status says otherwise.
+    ensures late { IsLateStatus result }
 {
     match act(alloc, ask.subcommand, reader, out) {
         Ok(ending) => ending.status(),

@@ -28,6 +28,9 @@ Lines of a cycle           Answer
   give TRAY                  given joined J repeated R stale S placed P
   join TRAY TRAY             joined ENTRIES
   flip                       flipped roots ROOTS live WORDS
+  recall                     cycle EPOCH: all that was dealt is to be dealt again
+  abandon                    abandoned OBJECTS: the cycle ends without a flip
+  idle N                     idle WORDS: units that the cycle has beside those of allocation
 
 Listings                   Answer
   trays                      tray NAME epoch E entries N, for each tray
@@ -36,9 +39,10 @@ Listings                   Answer
   at the end                 total commands C refused R flips F rootwords W
 
 ROOT, DST, SRC, OBJ, A and B are roots, OWNER.SLOT, as 1.0; owner 0's slots are shared. FIELD counts
-from 0. VAL is nil, a root or a whole number. TRAY is a letter a to z and at most 15 of a to z, 0 to
-9 and _. What can't be done is answered `refused NAME`, changes nothing, and the run goes on. Two
-heaps are the same graph exactly where their dumps are the same text: cut them out and use cmp.
+from 0. VAL is nil, a root or a whole number. N is 0 to 4294967295. TRAY is a letter a to z and at
+most 15 of a to z, 0 to 9 and _. What can't be done is answered `refused NAME`, changes nothing, and
+the run goes on. Two heaps are the same graph exactly where their dumps are the same text: cut them
+out and use cmp.
 
 Statuses:
   0  done; a refused line is an answer, and no failure

@@ -8,6 +8,7 @@ mod driving;
 mod ending;
 mod fault;
 mod help;
+pub mod laws;
 mod program;
 mod replaying;
 mod running;

@@ -1,14 +1,22 @@
 //! The program from its command line to its status.
 
-ghost use Rattle.std.specs.Prelude.{◌≡◌, ◌↔◌, IsTrue, codes};
+ghost use Rattle.std.specs.Prelude.{◌≡◌, ◌≢◌, ◌≤◌, ◌⊎◌, ◌↔◌, map, Some, Err, IsTrue, IfOk, IfErr, codes};
+ghost use Rattle.std.specs.Io.Buffered.{writer_inner};
+ghost use Rattle.std.specs.IoError.{error_kind};
+ghost use Rattle.std.specs.String.{string_bytes};
+ghost use Rattle.std.specs.Vec.Iter.{into_iter_items};
+ghost use Rattle.rh_cli.specs.Ask.{command_and_file, command_and_file_of, is_taken};
+ghost use Rattle.rh_cli.specs.Fault.{IsEarlyFault, IsLateStatus};
+ghost use Rattle.rh_cli.specs.declared.ask.Ask.{Ask as AskOf};
 
 use crate::arguments::read_words;
 use crate::ask::Ask;
 use crate::driving::{drive, show, tell};
 use crate::fault::LineFault;
-use std::env;
+use std::alloc::Global;
+use std::env::{self, Args};
 use std::fs::File;
-use std::io::{self, BufWriter, Write};
+use std::io::{self, BufWriter, ErrorKind, Write};
 use std::rt::{Env, Files};
 
 /// How many bytes of answers are gathered before they are written.
@@ -16,7 +24,9 @@ const OUTPUT_BYTES: usize = 65_536;
 
 /// Reads the command line, does what it asks, and answers the status to end with. Answers, help and
 /// the version go to standard output, and what went wrong to `err`.
-pub fn play<R: Env + Files + Input + Print + AllocGlobal, E: Write>(rt: &R, err: &mut E) -> u8 {
+pub fn play<R: Env + Files + Input + Print + AllocGlobal, E: Write>(rt: &R, err: &mut E) -> u8
+    ensures { result ≤ 4 }
+{
     match carry_out(rt, err) {
         Ok(status) => status,
         Err(fault) if fault.status() == 0 => show(&fault, &mut io::writer(rt), err),
@@ -28,19 +38,82 @@ pub fn play<R: Env + Files + Input + Print + AllocGlobal, E: Write>(rt: &R, err:
 fn carry_out<R: Env + Files + Input + Print + AllocGlobal, E: Write>(
     rt: &R,
     err: &mut E,
-) -> Result<u8, LineFault> {
-    let arguments: Vec<String> = match env::args(rt) {
-        Ok(arguments) => arguments.collect(rt.alloc())?,
-        Err(error) if error.kind() == io::ErrorKind::OutOfMemory => {
-            return Err(LineFault::OutOfMemory);
-        }
-        Err(_) => return Err(LineFault::NoText),
-    };
-    let arguments: Vec<&str> = arguments
-        .iter()
-        .map(|argument| argument.as_str())
-        .collect(rt.alloc())?;
-    let ask = read_words(rt.alloc(), arguments.as_slice())?;
+) -> Result<u8, LineFault>
+    ensures late { IfOk result (λ status. IsLateStatus status) }
+    ensures early { IfErr result (λ fault. IsEarlyFault fault) }
+{
+    let arguments = arguments_of(rt.alloc(), env::args(rt))?;
+    let words = words_of(rt.alloc(), arguments.as_slice())?;
+    with_arguments(rt, words.as_slice(), err)
+}
+
+/// The arguments that were read, where they are text and memory isn't refused.
+fn arguments_of(alloc: Global, read: io::Result<Args>) -> Result<Vec<String>, LineFault>
+    // Refused memory is told as that, while the arguments are read and afterwards.
+    ensures memory { IfErr read (λ error. error_kind error ≡ ErrorKind.OutOfMemory
+        → result ≡ Err LineFault.OutOfMemory) }
+    ensures kept { IfOk read (λ arguments. IfErr result (λ fault. fault ≡ LineFault.OutOfMemory)) }
+    // What was read is kept, each argument in its place.
+    ensures texts { IfOk read (λ arguments.
+        IfOk result (λ texts. texts.items ≡ into_iter_items arguments)) }
+    // Whatever else the reading fails with says that an argument isn't text.
+    ensures no_text { IfErr read (λ error. error_kind error ≢ ErrorKind.OutOfMemory
+        → result ≡ Err LineFault.NoText) }
+    ensures kinds { IfErr result (λ fault.
+        (fault ≡ LineFault.NoText) ⊎ (fault ≡ LineFault.OutOfMemory)) }
+{
+    match read {
+        Ok(arguments) => Ok(arguments.collect(alloc)?),
+        Err(error) => Err(fault_of_reading(&error)),
+    }
+}
+
+/// The fault that an error in reading the arguments is.
+fn fault_of_reading(error: &io::Error) -> LineFault
+    ensures memory { error_kind error.now ≡ ErrorKind.OutOfMemory
+        → result ≡ LineFault.OutOfMemory }
+    ensures no_text { error_kind error.now ≢ ErrorKind.OutOfMemory → result ≡ LineFault.NoText }
+    ensures kinds { (result ≡ LineFault.NoText) ⊎ (result ≡ LineFault.OutOfMemory) }
+{
+    if error.kind() == ErrorKind::OutOfMemory {
+        LineFault::OutOfMemory
+    } else {
+        LineFault::NoText
+    }
+}
+
+/// The arguments as texts that are lent.
+fn words_of<'a>(alloc: Global, arguments: &'a [String]) -> Result<Vec<&'a str>, LineFault>
+    ensures words { IfOk result (λ words.
+        map (λ a. a.now) words.items ≡ map string_bytes arguments.now) }
+    ensures memory { IfErr result (λ fault. fault ≡ LineFault.OutOfMemory) }
+{
+    let mut words = Vec::new(alloc);
+    for argument in arguments {
+        words.push(argument.as_str())?;
+    }
+    Ok(words)
+}
+
+/// Carries out what these arguments ask. The first one is the program's name.
+fn with_arguments<'a, R: Files + Input + Print + AllocGlobal, E: Write>(
+    rt: &R,
+    arguments: &'a [&'a str],
+    err: &mut E,
+) -> Result<u8, LineFault>
+    // A status comes only where clap's parse of the arguments holds a request.
+    ensures asked { IfOk result (λ status. (ask : AskOf)
+        × (command_and_file_of (map (λ a. a.now) arguments.now) ≡ Some (command_and_file ask))) }
+    ensures late { IfOk result (λ status. IsLateStatus status) }
+    // Arguments that clap takes, and that hold a request, are carried out unless memory was refused
+    // or the file can't be opened.
+    ensures refused { IfErr result (λ fault. IsTrue (is_taken (map (λ a. a.now) arguments.now))
+        → (ask : AskOf)
+        → command_and_file_of (map (λ a. a.now) arguments.now) ≡ Some (command_and_file ask)
+        → (fault ≡ LineFault.Open) ⊎ (fault ≡ LineFault.OutOfMemory)) }
+    ensures early { IfErr result (λ fault. IsEarlyFault fault) }
+{
+    let ask = read_words(rt.alloc(), arguments)?;
     with_file(rt, &ask, err)
 }
 
@@ -49,16 +122,39 @@ pub(crate) fn with_file<R: Files + Input + Print + AllocGlobal, E: Write>(
     rt: &R,
     ask: &Ask<'_>,
     err: &mut E,
-) -> Result<u8, LineFault> {
-    let mut out = match BufWriter::with_capacity(rt.alloc(), OUTPUT_BYTES, io::writer(rt)) {
-        Ok(out) => out,
-        Err(_) => return Err(LineFault::OutOfMemory),
-    };
+) -> Result<u8, LineFault>
+    ensures late { IfOk result (λ status. IsLateStatus status) }
+    ensures refused { IfErr result (λ fault.
+        (fault ≡ LineFault.Open) ⊎ (fault ≡ LineFault.OutOfMemory)) }
+    // Standard input isn't opened, so that it is never said to have failed.
+    ensures input { IfErr result (λ fault. ask.now.file.now ≡ codes "-"
+        → fault ≡ LineFault.OutOfMemory) }
+{
+    let mut out = gathering(rt.alloc(), io::writer(rt))?;
     if is_standard_input(ask.file) {
         return Ok(drive(rt.alloc(), ask, &mut rt.reader(), &mut out, err));
     }
-    match File::open(rt, ask.file) {
-        Ok(mut file) => Ok(drive(rt.alloc(), ask, &mut file, &mut out, err)),
+    let mut file = opened(rt, ask.file)?;
+    Ok(drive(rt.alloc(), ask, &mut file, &mut out, err))
+}
+
+/// A writer that gathers what is written before the other writes it.
+fn gathering<W: Write + Drop>(alloc: Global, writer: W) -> Result<BufWriter<W>, LineFault>
+    ensures kept { IfOk result (λ out. writer_inner out ≡ writer) }
+    ensures memory { IfErr result (λ fault. fault ≡ LineFault.OutOfMemory) }
+{
+    match BufWriter::with_capacity(alloc, OUTPUT_BYTES, writer) {
+        Ok(out) => Ok(out),
+        Err(_) => Err(LineFault::OutOfMemory),
+    }
+}
+
+/// The file of this name, to read it.
+fn opened<R: Files>(rt: &R, name: &str) -> Result<R::File, LineFault>
+    ensures { IfErr result (λ fault. fault ≡ LineFault.Open) }
+{
+    match File::open(rt, name) {
+        Ok(file) => Ok(file),
         Err(_) => Err(LineFault::Open),
     }
 }

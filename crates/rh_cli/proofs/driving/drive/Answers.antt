@@ -1,6 +1,6 @@
 use Rattle.rh_text.specs.lemmas.Appends.{Keeps-same}
 use Rattle.rh_cli.specs.Fault.{status_of}
-use Rattle.rh_cli.proofs.Statuses.{late_is_told}
+use Rattle.rh_cli.proofs.Statuses.{late_is_told, late_of_ending, late_of_fault}
 use Rattle.rh_cli.proofs.driving.drive.Goals as goal
 
 pub returns-in-Ok-clause-told : goal.returns-in-Ok-clause-told
@@ -20,3 +20,9 @@ returns-in-Ok-clause-quiet g c = λ is. Keeps-same (g.E.Write.contents c.args.er
 
 pub returns-in-Err-clause-quiet : goal.returns-in-Err-clause-quiet
 returns-in-Err-clause-quiet g c = λ is. absurd (late_is_told c.tell.result (status_of c.in-Err.fault) c.tell.ensures c.in-Err.ensures.late is)
+
+pub returns-in-Ok-clause-late : goal.returns-in-Ok-clause-late
+returns-in-Ok-clause-late g c = late_of_ending c.in-Ok.ending c.status.result c.status.ensures
+
+pub returns-in-Err-clause-late : goal.returns-in-Err-clause-late
+returns-in-Err-clause-late g c = late_of_fault c.tell.result (status_of c.in-Err.fault) c.tell.ensures c.in-Err.ensures.late

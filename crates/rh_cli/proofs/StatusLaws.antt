@@ -1,0 +1,315 @@
+-- What the statuses say of how a subcommand ended.
+use Rattle.std.proofs.Common.{◌≡◌, ◌≢◌, ◌⊎◌, ◌↔◌, inl, inr, ℕ, List, Option, Result, Ok, Err, refl, sym, ap, ◌∙◌, arith}
+use Rattle.std.specs.Io.KnownBytes.{Appends, Keeps}
+use Rattle.clap.specs.Words.{kind_of}
+use Rattle.clap.specs.declared.error.Error.{Error as ClapError}
+use Rattle.clap.specs.declared.error.kind.ErrorKind.{ErrorKind}
+use Rattle.clap.specs.declared.error.kind.ErrorKind.TheVariants.{DisplayHelp, DisplayVersion}
+use Rattle.rh_dump.specs.Dump.{GraphState}
+use Rattle.rh_dump.specs.declared.reading.fault.DumpFault.{DumpFault}
+use Rattle.rh_dump.specs.texts.Reading.{graph_of_text}
+use Rattle.rh_layout.specs.declared.command.Reply.{Reply}
+use Rattle.rh_layout.specs.declared.refusal.Refusal.{Refusal}
+use Rattle.rh_replay.specs.declared.checking.Verdict.{Verdict}
+use Rattle.rh_replay.specs.declared.checking.Verdict.TheVariants.{Legal, Wrong}
+use Rattle.rh_replay.specs.declared.fault.HistoryFault.{HistoryFault}
+use Rattle.rh_replay.specs.History.{HistoryState}
+use Rattle.rh_replay.specs.Reading.{history_of}
+use Rattle.rh_replay.proofs.SpelledIsRead.{history_of-spelling}
+use Rattle.rh_replay.specs.Report.{report_text}
+use Rattle.rh_trace.specs.Run.{Ends, StopsBeforeTotal, run_of, text_of}
+use Rattle.rh_trace.specs.declared.run_fault.RunFault.{RunFault}
+use Rattle.rh_trace.specs.declared.run_fault.RunFault.TheVariants as run_faults
+use Rattle.rh_trace.specs.declared.summary.Summary.{Summary}
+use Rattle.rh_cli.specs.Count.{CountEnds, IsCountStatus, counts_line}
+use Rattle.rh_cli.specs.Drive.{Concludes, IsRunStatus, run_status}
+use Rattle.rh_cli.specs.Fault.{arguments_status, ending_status, status_of, IsLateStatus}
+use Rattle.rh_cli.specs.Replay.{IsJudged, IsReplayStatus, ReplayEnds}
+use Rattle.rh_cli.specs.declared.ask.Subcommand.{Subcommand}
+use Rattle.rh_cli.specs.declared.ask.Subcommand.TheVariants.{Run, Replay, Dump}
+use Rattle.rh_cli.specs.declared.ending.Ending.{Ending}
+use Rattle.rh_cli.specs.declared.ending.Ending.TheVariants.{Done, WrongHistory}
+use Rattle.rh_cli.specs.declared.fault.LineFault.{LineFault}
+use Rattle.rh_cli.specs.declared.fault.LineFault.TheVariants as faults
+
+-- what only the ending that is done has
+pub done_is_0 : (ending : Ending) → (ending_status ending ≡ 0) ↔ (ending ≡ Done)
+done_is_0 Done = (λ is. refl, λ is. refl)
+done_is_0 WrongHistory = (λ is. absurd (omega (arith, is)), λ is. cc)
+
+pub wrong_is_4 : (ending : Ending) → (ending_status ending ≡ 4) ↔ (ending ≡ WrongHistory)
+wrong_is_4 Done = (λ is. absurd (omega (arith, is)), λ is. cc)
+wrong_is_4 WrongHistory = (λ is. refl, λ is. refl)
+
+-- a run's fault has 1, or 3 for want of memory
+pub run_memory_is_3 : (fault : RunFault) → (run_status fault ≡ 3) ↔ (fault ≡ run_faults.OutOfMemory)
+run_memory_is_3 run_faults.Read = (λ is. absurd (omega (arith, is)), λ is. cc)
+run_memory_is_3 run_faults.Long = (λ is. absurd (omega (arith, is)), λ is. cc)
+run_memory_is_3 (run_faults.Trace fault) = (λ is. absurd (omega (arith, is)), λ is. cc)
+run_memory_is_3 (run_faults.New fault) = (λ is. absurd (omega (arith, is)), λ is. cc)
+run_memory_is_3 run_faults.Write = (λ is. absurd (omega (arith, is)), λ is. cc)
+run_memory_is_3 run_faults.OutOfMemory = (λ is. refl, λ is. refl)
+
+run_fault_is_1_or_3 : (fault : RunFault) → (run_status fault ≡ 1) ⊎ (run_status fault ≡ 3)
+run_fault_is_1_or_3 run_faults.Read = inl refl
+run_fault_is_1_or_3 run_faults.Long = inl refl
+run_fault_is_1_or_3 (run_faults.Trace fault) = inl refl
+run_fault_is_1_or_3 (run_faults.New fault) = inl refl
+run_fault_is_1_or_3 run_faults.Write = inl refl
+run_fault_is_1_or_3 run_faults.OutOfMemory = inr refl
+
+arguments_are_not_3 : (kind : ErrorKind) → arguments_status kind ≡ 3 → ⊥
+arguments_are_not_3 DisplayHelp is = omega (arith, is)
+arguments_are_not_3 DisplayVersion is = omega (arith, is)
+arguments_are_not_3 kind is = omega (arith, is)
+
+-- of all faults want of memory alone has 3
+pub memory_is_3 : (fault : LineFault) → (status_of fault ≡ 3) ↔ (fault ≡ faults.OutOfMemory)
+memory_is_3 (faults.Arguments error) = (λ is. absurd (arguments_are_not_3 (kind_of error) is), λ is. cc)
+memory_is_3 faults.NoText = (λ is. absurd (omega (arith, is)), λ is. cc)
+memory_is_3 faults.Incomplete = (λ is. absurd (omega (arith, is)), λ is. cc)
+memory_is_3 (faults.Trace fault) = (λ is. absurd (omega (arith, is)), λ is. cc)
+memory_is_3 (faults.History fault) = (λ is. absurd (omega (arith, is)), λ is. cc)
+memory_is_3 (faults.Dump fault) = (λ is. absurd (omega (arith, is)), λ is. cc)
+memory_is_3 (faults.Heap fault) = (λ is. absurd (omega (arith, is)), λ is. cc)
+memory_is_3 faults.Open = (λ is. absurd (omega (arith, is)), λ is. cc)
+memory_is_3 faults.Read = (λ is. absurd (omega (arith, is)), λ is. cc)
+memory_is_3 faults.Write = (λ is. absurd (omega (arith, is)), λ is. cc)
+memory_is_3 faults.TooLong = (λ is. absurd (omega (arith, is)), λ is. cc)
+memory_is_3 faults.OutOfMemory = (λ is. refl, λ is. refl)
+
+-- a fault with 2 is one of the command line
+pub only_the_line_is_2 : (fault : LineFault) → status_of fault ≡ 2
+    → (fault ≡ faults.NoText) ⊎ ((fault ≡ faults.Incomplete) ⊎ ((error : ClapError) × (fault ≡ faults.Arguments error)))
+only_the_line_is_2 (faults.Arguments error) is = inr (inr (error, refl))
+only_the_line_is_2 faults.NoText is = inl refl
+only_the_line_is_2 faults.Incomplete is = inr (inl refl)
+only_the_line_is_2 (faults.Trace fault) is = absurd (omega (arith, is))
+only_the_line_is_2 (faults.History fault) is = absurd (omega (arith, is))
+only_the_line_is_2 (faults.Dump fault) is = absurd (omega (arith, is))
+only_the_line_is_2 (faults.Heap fault) is = absurd (omega (arith, is))
+only_the_line_is_2 faults.Open is = absurd (omega (arith, is))
+only_the_line_is_2 faults.Read is = absurd (omega (arith, is))
+only_the_line_is_2 faults.Write is = absurd (omega (arith, is))
+only_the_line_is_2 faults.TooLong is = absurd (omega (arith, is))
+only_the_line_is_2 faults.OutOfMemory is = absurd (omega (arith, is))
+
+help_of_0 : (kind : ErrorKind) → arguments_status kind ≡ 0 → (kind ≡ DisplayHelp) ⊎ (kind ≡ DisplayVersion)
+help_of_0 DisplayHelp is = inl refl
+help_of_0 DisplayVersion is = inr refl
+help_of_0 kind is = absurd (omega (arith, is))
+
+-- a fault with 0 is help or the version
+pub only_help_is_0 : (fault : LineFault) → status_of fault ≡ 0
+    → (error : ClapError) × (fault ≡ faults.Arguments error) × ((kind_of error ≡ DisplayHelp) ⊎ (kind_of error ≡ DisplayVersion))
+only_help_is_0 (faults.Arguments error) is = (error, refl, help_of_0 (kind_of error) is)
+only_help_is_0 faults.NoText is = absurd (omega (arith, is))
+only_help_is_0 faults.Incomplete is = absurd (omega (arith, is))
+only_help_is_0 (faults.Trace fault) is = absurd (omega (arith, is))
+only_help_is_0 (faults.History fault) is = absurd (omega (arith, is))
+only_help_is_0 (faults.Dump fault) is = absurd (omega (arith, is))
+only_help_is_0 (faults.Heap fault) is = absurd (omega (arith, is))
+only_help_is_0 faults.Open is = absurd (omega (arith, is))
+only_help_is_0 faults.Read is = absurd (omega (arith, is))
+only_help_is_0 faults.Write is = absurd (omega (arith, is))
+only_help_is_0 faults.TooLong is = absurd (omega (arith, is))
+only_help_is_0 faults.OutOfMemory is = absurd (omega (arith, is))
+
+-- help and the version have 0, and what else clap refuses 2
+pub help_is_0 : (kind : ErrorKind) → (kind ≡ DisplayHelp) ⊎ (kind ≡ DisplayVersion) → arguments_status kind ≡ 0
+help_is_0 kind (inl is) = rw is refl
+help_is_0 kind (inr is) = rw is refl
+
+pub no_help_is_2 : (kind : ErrorKind) → kind ≢ DisplayHelp → kind ≢ DisplayVersion → arguments_status kind ≡ 2
+no_help_is_2 DisplayHelp help version = absurd (help refl)
+no_help_is_2 DisplayVersion help version = absurd (version refl)
+no_help_is_2 kind help version = refl
+
+-- a run ends with 0 where it gave all that was due
+run_is_0 : (due : Result (List ℕ × Summary) RunFault) (outcome : Result Summary RunFault) (old new : Option (List ℕ)) → Ends due outcome old new → IsRunStatus outcome 0
+    → (run : List ℕ × Summary) × (due ≡ Ok run) × Appends old new run.0
+run_is_0 due (Ok summary) old new ends status = ((text_of due, summary), ends.0, ends.1)
+run_is_0 due (Err fault) old new ends status =
+    elim (run_fault_is_1_or_3 fault) [ inl one ↦ absurd (omega (arith, status, one)) | inr three ↦ absurd (omega (arith, status, three)) ]
+
+-- the status after a run is one of 0, 1 and 3
+run_is_0_1_or_3 : (outcome : Result Summary RunFault) (status : ℕ) → IsRunStatus outcome status → (status ≡ 0) ⊎ ((status ≡ 1) ⊎ (status ≡ 3))
+run_is_0_1_or_3 (Ok summary) status (inl is) = inl is
+run_is_0_1_or_3 (Ok summary) status (inr is) = inr (inl is)
+run_is_0_1_or_3 (Err fault) status is =
+    elim (run_fault_is_1_or_3 fault) [ inl one ↦ inr (inl (is ∙ one)) | inr three ↦ inr (inr (is ∙ three)) ]
+
+-- a run that was refused memory has written nothing of its total line
+run_is_3 : (due : Result (List ℕ × Summary) RunFault) (outcome : Result Summary RunFault) (old new : Option (List ℕ)) → Ends due outcome old new → IsRunStatus outcome 3 → StopsBeforeTotal due old new
+run_is_3 due (Ok summary) old new ends (inl is) = absurd (omega (arith, is))
+run_is_3 due (Ok summary) old new ends (inr is) = absurd (omega (arith, is))
+run_is_3 due (Err run_faults.Read) old new ends is = absurd (omega (arith, is))
+run_is_3 due (Err run_faults.Long) old new ends is = absurd (omega (arith, is))
+run_is_3 due (Err (run_faults.Trace fault)) old new ends is = absurd (omega (arith, is))
+run_is_3 due (Err (run_faults.New fault)) old new ends is = absurd (omega (arith, is))
+run_is_3 due (Err run_faults.Write) old new ends is = absurd (omega (arith, is))
+run_is_3 due (Err run_faults.OutOfMemory) old new ends is = ends
+
+-- a run of an input with a fault ends with 1 or 3
+run_of_fault : (due : Result (List ℕ × Summary) RunFault) (fault : RunFault) (outcome : Result Summary RunFault) (status : ℕ) (old new : Option (List ℕ))
+    → due ≡ Err fault → Ends due outcome old new → IsRunStatus outcome status → (status ≡ 1) ⊎ (status ≡ 3)
+run_of_fault due fault (Ok summary) status old new is ends own = absurd (let done = ends.0 in cc)
+run_of_fault due fault (Err other) status old new is ends own =
+    elim (run_fault_is_1_or_3 other) [ inl one ↦ inl (own ∙ one) | inr three ↦ inr (own ∙ three) ]
+
+-- a check ends with no other fault than those that come once the command line is understood
+replay_fault_is_1_or_3 : (input : List ℕ) (fault : LineFault) (old new : Option (List ℕ)) → ReplayEnds input (Err fault) old new → (status_of fault ≡ 1) ⊎ (status_of fault ≡ 3)
+replay_fault_is_1_or_3 input faults.Write old new ends = inl refl
+replay_fault_is_1_or_3 input faults.TooLong old new ends = inl refl
+replay_fault_is_1_or_3 input (faults.History fault) old new ends = inl refl
+replay_fault_is_1_or_3 input faults.Read old new ends = inl refl
+replay_fault_is_1_or_3 input faults.OutOfMemory old new ends = inr refl
+replay_fault_is_1_or_3 input fault old new ends = absurd ends
+
+-- a check that was refused memory has written nothing
+replay_memory_keeps : (input : List ℕ) (fault : LineFault) (old new : Option (List ℕ)) → ReplayEnds input (Err fault) old new → status_of fault ≡ 3 → Keeps old new
+replay_memory_keeps input faults.Write old new ends is = absurd (omega (arith, is))
+replay_memory_keeps input faults.TooLong old new ends is = absurd (omega (arith, is))
+replay_memory_keeps input (faults.History fault) old new ends is = absurd (omega (arith, is))
+replay_memory_keeps input faults.Read old new ends is = ends
+replay_memory_keeps input faults.OutOfMemory old new ends is = ends
+replay_memory_keeps input fault old new ends is = absurd ends
+
+-- what 0, 3 and 4 say of a check, and that no other status but 1 comes
+replay_is_0 : (input : List ℕ) (outcome : Result Verdict LineFault) (old new : Option (List ℕ)) → ReplayEnds input outcome old new → IsReplayStatus outcome 0
+    → (h : HistoryState) × (count : ℕ) × IsJudged input h (Legal count) × Appends old new (report_text h (Legal count))
+replay_is_0 input (Ok (Legal count)) old new ends is = (ends.0, count, ends.1, ends.2)
+replay_is_0 input (Ok (Wrong at expected)) old new ends (inl is) = absurd (omega (arith, is))
+replay_is_0 input (Ok (Wrong at expected)) old new ends (inr is) = absurd (omega (arith, is))
+replay_is_0 input (Err fault) old new ends is =
+    elim (replay_fault_is_1_or_3 input fault old new ends) [ inl one ↦ absurd (omega (arith, is, one)) | inr three ↦ absurd (omega (arith, is, three)) ]
+
+replay_is_4 : (input : List ℕ) (outcome : Result Verdict LineFault) (old new : Option (List ℕ)) → ReplayEnds input outcome old new → IsReplayStatus outcome 4
+    → (h : HistoryState) × (at : ℕ) × (expected : Result Reply Refusal) × IsJudged input h (Wrong at expected) × Appends old new (report_text h (Wrong at expected))
+replay_is_4 input (Ok (Legal count)) old new ends (inl is) = absurd (omega (arith, is))
+replay_is_4 input (Ok (Legal count)) old new ends (inr is) = absurd (omega (arith, is))
+replay_is_4 input (Ok (Wrong at expected)) old new ends is = (ends.0, at, expected, ends.1, ends.2)
+replay_is_4 input (Err fault) old new ends is =
+    elim (replay_fault_is_1_or_3 input fault old new ends) [ inl one ↦ absurd (omega (arith, is, one)) | inr three ↦ absurd (omega (arith, is, three)) ]
+
+replay_is_3 : (input : List ℕ) (outcome : Result Verdict LineFault) (old new : Option (List ℕ)) → ReplayEnds input outcome old new → IsReplayStatus outcome 3 → Keeps old new
+replay_is_3 input (Ok (Legal count)) old new ends (inl is) = absurd (omega (arith, is))
+replay_is_3 input (Ok (Legal count)) old new ends (inr is) = absurd (omega (arith, is))
+replay_is_3 input (Ok (Wrong at expected)) old new ends (inl is) = absurd (omega (arith, is))
+replay_is_3 input (Ok (Wrong at expected)) old new ends (inr is) = absurd (omega (arith, is))
+replay_is_3 input (Err fault) old new ends is = replay_memory_keeps input fault old new ends (sym is)
+
+replay_is_0_1_3_or_4 : (input : List ℕ) (outcome : Result Verdict LineFault) (status : ℕ) (old new : Option (List ℕ)) → ReplayEnds input outcome old new → IsReplayStatus outcome status
+    → ((status ≡ 0) ⊎ (status ≡ 4)) ⊎ ((status ≡ 1) ⊎ (status ≡ 3))
+replay_is_0_1_3_or_4 input (Ok (Legal count)) status old new ends (inl is) = inl (inl is)
+replay_is_0_1_3_or_4 input (Ok (Legal count)) status old new ends (inr is) = inr (inl is)
+replay_is_0_1_3_or_4 input (Ok (Wrong at expected)) status old new ends (inl is) = inl (inr is)
+replay_is_0_1_3_or_4 input (Ok (Wrong at expected)) status old new ends (inr is) = inr (inl is)
+replay_is_0_1_3_or_4 input (Err fault) status old new ends is =
+    elim (replay_fault_is_1_or_3 input fault old new ends) [ inl one ↦ inr (inl (is ∙ one)) | inr three ↦ inr (inr (is ∙ three)) ]
+
+-- counting ends with no other fault than those that come once the command line is understood
+count_fault_is_1_or_3 : (input : List ℕ) (fault : LineFault) (old new : Option (List ℕ)) → CountEnds input (Err fault) old new → (status_of fault ≡ 1) ⊎ (status_of fault ≡ 3)
+count_fault_is_1_or_3 input faults.Write old new ends = inl refl
+count_fault_is_1_or_3 input (faults.Dump fault) old new ends = inl refl
+count_fault_is_1_or_3 input faults.Read old new ends = inl refl
+count_fault_is_1_or_3 input faults.OutOfMemory old new ends = inr refl
+count_fault_is_1_or_3 input fault old new ends = absurd ends
+
+count_memory_keeps : (input : List ℕ) (fault : LineFault) (old new : Option (List ℕ)) → CountEnds input (Err fault) old new → status_of fault ≡ 3 → Keeps old new
+count_memory_keeps input faults.Write old new ends is = absurd (omega (arith, is))
+count_memory_keeps input (faults.Dump fault) old new ends is = absurd (omega (arith, is))
+count_memory_keeps input faults.Read old new ends is = ends
+count_memory_keeps input faults.OutOfMemory old new ends is = ends
+count_memory_keeps input fault old new ends is = absurd ends
+
+count_is_0 : (input : List ℕ) (outcome : Result (Unit {0}) LineFault) (old new : Option (List ℕ)) → CountEnds input outcome old new → IsCountStatus outcome 0
+    → (g : GraphState) × (graph_of_text input ≡ Ok g) × Appends old new (counts_line g)
+count_is_0 input (Ok done) old new ends is = ends
+count_is_0 input (Err fault) old new ends is =
+    elim (count_fault_is_1_or_3 input fault old new ends) [ inl one ↦ absurd (omega (arith, is, one)) | inr three ↦ absurd (omega (arith, is, three)) ]
+
+count_is_3 : (input : List ℕ) (outcome : Result (Unit {0}) LineFault) (old new : Option (List ℕ)) → CountEnds input outcome old new → IsCountStatus outcome 3 → Keeps old new
+count_is_3 input (Ok done) old new ends (inl is) = absurd (omega (arith, is))
+count_is_3 input (Ok done) old new ends (inr is) = absurd (omega (arith, is))
+count_is_3 input (Err fault) old new ends is = count_memory_keeps input fault old new ends (sym is)
+
+count_is_0_1_or_3 : (input : List ℕ) (outcome : Result (Unit {0}) LineFault) (status : ℕ) (old new : Option (List ℕ)) → CountEnds input outcome old new → IsCountStatus outcome status
+    → (status ≡ 0) ⊎ ((status ≡ 1) ⊎ (status ≡ 3))
+count_is_0_1_or_3 input (Ok done) status old new ends (inl is) = inl is
+count_is_0_1_or_3 input (Ok done) status old new ends (inr is) = inr (inl is)
+count_is_0_1_or_3 input (Err fault) status old new ends is =
+    elim (count_fault_is_1_or_3 input fault old new ends) [ inl one ↦ inr (inl (is ∙ one)) | inr three ↦ inr (inr (is ∙ three)) ]
+
+-- none of these is 2 or 4
+not_2_or_4 : (status n : ℕ) → (n ≡ 2) ⊎ (n ≡ 4) → (status ≡ 0) ⊎ ((status ≡ 1) ⊎ (status ≡ 3)) → status ≡ n → ⊥
+not_2_or_4 status n (inl two) (inl is) at = omega (arith, two, is, at)
+not_2_or_4 status n (inl two) (inr (inl is)) at = omega (arith, two, is, at)
+not_2_or_4 status n (inl two) (inr (inr is)) at = omega (arith, two, is, at)
+not_2_or_4 status n (inr four) (inl is) at = omega (arith, four, is, at)
+not_2_or_4 status n (inr four) (inr (inl is)) at = omega (arith, four, is, at)
+not_2_or_4 status n (inr four) (inr (inr is)) at = omega (arith, four, is, at)
+
+late_of_three : (status : ℕ) → (status ≡ 0) ⊎ ((status ≡ 1) ⊎ (status ≡ 3)) → IsLateStatus status
+late_of_three status (inl is) = (omega (arith, is), λ two. omega (arith, is, two))
+late_of_three status (inr (inl is)) = (omega (arith, is), λ two. omega (arith, is, two))
+late_of_three status (inr (inr is)) = (omega (arith, is), λ two. omega (arith, is, two))
+
+late_of_four : (status : ℕ) → ((status ≡ 0) ⊎ (status ≡ 4)) ⊎ ((status ≡ 1) ⊎ (status ≡ 3)) → IsLateStatus status
+late_of_four status (inl (inl is)) = (omega (arith, is), λ two. omega (arith, is, two))
+late_of_four status (inl (inr is)) = (omega (arith, is), λ two. omega (arith, is, two))
+late_of_four status (inr (inl is)) = (omega (arith, is), λ two. omega (arith, is, two))
+late_of_four status (inr (inr is)) = (omega (arith, is), λ two. omega (arith, is, two))
+
+-- what a subcommand ends with is at most 4 and isn't 2
+pub concludes_late : (subcommand : Subcommand) (input : List ℕ) (status : ℕ) (old new : Option (List ℕ)) → Concludes subcommand input status old new → IsLateStatus status
+concludes_late Run input status old new c = late_of_three status (run_is_0_1_or_3 c.0 status c.2)
+concludes_late Replay input status old new c = late_of_four status (replay_is_0_1_3_or_4 input c.0 status old new c.1 c.2)
+concludes_late Dump input status old new c = late_of_three status (count_is_0_1_or_3 input c.0 status old new c.1 c.2)
+
+pub concludes_run_0 : (input : List ℕ) (old new : Option (List ℕ)) → Concludes Run input 0 old new → (run : List ℕ × Summary) × (run_of input ≡ Ok run) × Appends old new run.0
+concludes_run_0 input old new c = run_is_0 (run_of input) c.0 old new c.1 c.2
+
+pub concludes_replay_0 : (input : List ℕ) (old new : Option (List ℕ)) → Concludes Replay input 0 old new
+    → (h : HistoryState) × (count : ℕ) × IsJudged input h (Legal count) × Appends old new (report_text h (Legal count))
+concludes_replay_0 input old new c = replay_is_0 input c.0 old new c.1 c.2
+
+pub concludes_dump_0 : (input : List ℕ) (old new : Option (List ℕ)) → Concludes Dump input 0 old new → (g : GraphState) × (graph_of_text input ≡ Ok g) × Appends old new (counts_line g)
+concludes_dump_0 input old new c = count_is_0 input c.0 old new c.1 c.2
+
+pub concludes_run_3 : (input : List ℕ) (old new : Option (List ℕ)) → Concludes Run input 3 old new → StopsBeforeTotal (run_of input) old new
+concludes_run_3 input old new c = run_is_3 (run_of input) c.0 old new c.1 c.2
+
+pub concludes_replay_3 : (input : List ℕ) (old new : Option (List ℕ)) → Concludes Replay input 3 old new → Keeps old new
+concludes_replay_3 input old new c = replay_is_3 input c.0 old new c.1 c.2
+
+pub concludes_dump_3 : (input : List ℕ) (old new : Option (List ℕ)) → Concludes Dump input 3 old new → Keeps old new
+concludes_dump_3 input old new c = count_is_3 input c.0 old new c.1 c.2
+
+pub concludes_4 : (subcommand : Subcommand) (input : List ℕ) (old new : Option (List ℕ)) → Concludes subcommand input 4 old new → (subcommand ≡ Replay)
+    × ((h : HistoryState) × (at : ℕ) × (expected : Result Reply Refusal) × IsJudged input h (Wrong at expected) × Appends old new (report_text h (Wrong at expected)))
+concludes_4 Run input old new c = absurd (not_2_or_4 4 4 (inr refl) (run_is_0_1_or_3 c.0 4 c.2) refl)
+concludes_4 Replay input old new c = (refl, replay_is_4 input c.0 old new c.1 c.2)
+concludes_4 Dump input old new c = absurd (not_2_or_4 4 4 (inr refl) (count_is_0_1_or_3 input c.0 4 old new c.1 c.2) refl)
+
+pub concludes_run_fault : (input : List ℕ) (fault : RunFault) (status : ℕ) (old new : Option (List ℕ)) → run_of input ≡ Err fault → Concludes Run input status old new → (status ≡ 1) ⊎ (status ≡ 3)
+concludes_run_fault input fault status old new is c = run_of_fault (run_of input) fault c.0 status old new is c.1 c.2
+
+count_of_fault : (input : List ℕ) (fault : DumpFault) (outcome : Result (Unit {0}) LineFault) (status : ℕ) (old new : Option (List ℕ)) → graph_of_text input ≡ Err fault
+    → CountEnds input outcome old new → IsCountStatus outcome status → (status ≡ 1) ⊎ (status ≡ 3)
+count_of_fault input fault (Ok done) status old new is ends own = absurd (let read = ends.1 in cc)
+count_of_fault input fault (Err other) status old new is ends own =
+    elim (count_fault_is_1_or_3 input other old new ends) [ inl one ↦ inl (own ∙ one) | inr three ↦ inr (own ∙ three) ]
+
+pub concludes_dump_fault : (input : List ℕ) (fault : DumpFault) (status : ℕ) (old new : Option (List ℕ)) → graph_of_text input ≡ Err fault → Concludes Dump input status old new → (status ≡ 1) ⊎ (status ≡ 3)
+concludes_dump_fault input fault status old new is c = count_of_fault input fault c.0 status old new is c.1 c.2
+
+history_of_fault : (input : List ℕ) (fault : HistoryFault) (outcome : Result Verdict LineFault) (status : ℕ) (old new : Option (List ℕ)) → history_of input ≡ Err fault
+    → ReplayEnds input outcome old new → IsReplayStatus outcome status → (status ≡ 1) ⊎ (status ≡ 3)
+history_of_fault input fault (Ok verdict) status old new is ends own =
+    absurd (let read = ap history_of ends.1.spelled ∙ history_of-spelling ends.0 ends.1.readable in cc)
+history_of_fault input fault (Err other) status old new is ends own =
+    elim (replay_fault_is_1_or_3 input other old new ends) [ inl one ↦ inl (own ∙ one) | inr three ↦ inr (own ∙ three) ]
+
+pub concludes_replay_fault : (input : List ℕ) (fault : HistoryFault) (status : ℕ) (old new : Option (List ℕ)) → history_of input ≡ Err fault → Concludes Replay input status old new → (status ≡ 1) ⊎ (status ≡ 3)
+concludes_replay_fault input fault status old new is c = history_of_fault input fault c.0 status old new is c.1 c.2

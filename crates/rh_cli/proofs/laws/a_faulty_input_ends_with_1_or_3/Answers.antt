@@ -1,0 +1,11 @@
+use Rattle.rh_cli.proofs.StatusLaws.{concludes_run_fault, concludes_replay_fault, concludes_dump_fault}
+use Rattle.rh_cli.proofs.laws.a_faulty_input_ends_with_1_or_3.Goals as goal
+
+pub returns-clause-run : goal.returns-clause-run
+returns-clause-run c = concludes_run_fault
+
+pub returns-clause-replay : goal.returns-clause-replay
+returns-clause-replay c = concludes_replay_fault
+
+pub returns-clause-dump : goal.returns-clause-dump
+returns-clause-dump c = concludes_dump_fault

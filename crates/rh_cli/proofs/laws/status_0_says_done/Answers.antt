@@ -1,0 +1,17 @@
+use Rattle.rh_cli.proofs.StatusLaws.{concludes_run_0, concludes_replay_0, concludes_dump_0, done_is_0, only_help_is_0}
+use Rattle.rh_cli.proofs.laws.status_0_says_done.Goals as goal
+
+pub returns-clause-run : goal.returns-clause-run
+returns-clause-run c = concludes_run_0
+
+pub returns-clause-replay : goal.returns-clause-replay
+returns-clause-replay c = concludes_replay_0
+
+pub returns-clause-dump : goal.returns-clause-dump
+returns-clause-dump c = concludes_dump_0
+
+pub returns-clause-ending : goal.returns-clause-ending
+returns-clause-ending c = done_is_0
+
+pub returns-clause-fault : goal.returns-clause-fault
+returns-clause-fault c = only_help_is_0

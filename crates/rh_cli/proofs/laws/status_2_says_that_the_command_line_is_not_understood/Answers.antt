@@ -1,0 +1,22 @@
+use Rattle.std.proofs.Common.{refl}
+use Rattle.clap.specs.Words.{kind_of}
+use Rattle.rh_cli.proofs.StatusLaws.{concludes_late, only_the_line_is_2, help_is_0, no_help_is_2}
+use Rattle.rh_cli.proofs.laws.status_2_says_that_the_command_line_is_not_understood.Goals as goal
+
+pub returns-clause-never : goal.returns-clause-never
+returns-clause-never c = λ subcommand input status old new ends. (concludes_late subcommand input status old new ends).1
+
+pub returns-clause-only : goal.returns-clause-only
+returns-clause-only c = only_the_line_is_2
+
+pub returns-clause-no_text : goal.returns-clause-no_text
+returns-clause-no_text c = refl
+
+pub returns-clause-incomplete : goal.returns-clause-incomplete
+returns-clause-incomplete c = refl
+
+pub returns-clause-asked : goal.returns-clause-asked
+returns-clause-asked c = λ error is. help_is_0 (kind_of error) is
+
+pub returns-clause-refused : goal.returns-clause-refused
+returns-clause-refused c = λ error help version. no_help_is_2 (kind_of error) help version

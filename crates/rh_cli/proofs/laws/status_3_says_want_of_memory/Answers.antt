@@ -1,0 +1,17 @@
+use Rattle.rh_cli.proofs.StatusLaws.{memory_is_3, run_memory_is_3, concludes_run_3, concludes_replay_3, concludes_dump_3}
+use Rattle.rh_cli.proofs.laws.status_3_says_want_of_memory.Goals as goal
+
+pub returns-clause-fault : goal.returns-clause-fault
+returns-clause-fault c = memory_is_3
+
+pub returns-clause-run_fault : goal.returns-clause-run_fault
+returns-clause-run_fault c = run_memory_is_3
+
+pub returns-clause-run : goal.returns-clause-run
+returns-clause-run c = concludes_run_3
+
+pub returns-clause-replay : goal.returns-clause-replay
+returns-clause-replay c = concludes_replay_3
+
+pub returns-clause-dump : goal.returns-clause-dump
+returns-clause-dump c = concludes_dump_3

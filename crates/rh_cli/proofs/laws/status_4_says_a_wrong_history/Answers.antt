@@ -1,0 +1,15 @@
+use Rattle.rh_cli.proofs.Statuses.{fault_at_most_3}
+use Rattle.rh_cli.proofs.StatusLaws.{concludes_4, concludes_late, wrong_is_4}
+use Rattle.rh_cli.proofs.laws.status_4_says_a_wrong_history.Goals as goal
+
+pub returns-clause-wrong : goal.returns-clause-wrong
+returns-clause-wrong c = concludes_4
+
+pub returns-clause-fault : goal.returns-clause-fault
+returns-clause-fault c = fault_at_most_3
+
+pub returns-clause-most : goal.returns-clause-most
+returns-clause-most c = λ subcommand input status old new ends. (concludes_late subcommand input status old new ends).0
+
+pub returns-clause-ending : goal.returns-clause-ending
+returns-clause-ending c = wrong_is_4

@@ -1,0 +1,40 @@
+use Rattle.std.proofs.Common.{refl}
+use Rattle.clap.proofs.OnLiterals.{clap_on_literals}
+use Rattle.rh_cli.specs.Ask.{command_and_file_of, is_taken}
+use Rattle.rh_cli.proofs.laws.worked_command_lines.Goals as goal
+
+pub returns-clause-run : goal.returns-clause-run
+unfolding command_and_file_of clap_on_literals
+returns-clause-run c = refl
+
+pub returns-clause-replay : goal.returns-clause-replay
+unfolding command_and_file_of clap_on_literals
+returns-clause-replay c = refl
+
+pub returns-clause-dump : goal.returns-clause-dump
+unfolding command_and_file_of clap_on_literals
+returns-clause-dump c = refl
+
+pub returns-clause-input : goal.returns-clause-input
+unfolding command_and_file_of clap_on_literals
+returns-clause-input c = refl
+
+pub returns-clause-taken : goal.returns-clause-taken
+unfolding is_taken clap_on_literals
+returns-clause-taken c = refl
+
+pub returns-clause-bare : goal.returns-clause-bare
+unfolding is_taken clap_on_literals
+returns-clause-bare c = refl
+
+pub returns-clause-no_file : goal.returns-clause-no_file
+unfolding is_taken clap_on_literals
+returns-clause-no_file c = refl
+
+pub returns-clause-unknown : goal.returns-clause-unknown
+unfolding is_taken clap_on_literals
+returns-clause-unknown c = refl
+
+pub returns-clause-two_files : goal.returns-clause-two_files
+unfolding is_taken clap_on_literals
+returns-clause-two_files c = refl

@@ -1,0 +1,154 @@
+//! Laws of the definitions alone. Each function does nothing: its contract is the law.
+
+ghost use Rattle.std.specs.Prelude.{◌≡◌, ◌≢◌, ◌≤◌, ◌⊎◌, ◌↔◌, ℕ, ◌++◌, List, [], ◌∷◌, length, Option, Some, Result, Ok, Err, IsTrue, false, codes, decimal};
+ghost use Rattle.std.specs.List.{flat_map};
+ghost use Rattle.std.specs.Io.KnownBytes.{Appends, Keeps};
+ghost use Rattle.clap.specs.Words.{kind_of};
+ghost use Rattle.clap.specs.declared.error.Error.{Error as ClapError};
+ghost use Rattle.clap.specs.declared.error.kind.ErrorKind.TheVariants.{DisplayHelp, DisplayVersion};
+ghost use Rattle.rh_dump.specs.Dump.{GraphState, IsGraph};
+ghost use Rattle.rh_dump.specs.declared.reading.fault.DumpFault.{DumpFault as DumpFaultOf};
+ghost use Rattle.rh_dump.specs.texts.Line.{dump_text};
+ghost use Rattle.rh_dump.specs.texts.Reading.{graph_of_text};
+ghost use Rattle.rh_layout.specs.declared.command.Reply.{Reply};
+ghost use Rattle.rh_layout.specs.declared.refusal.Refusal.{Refusal};
+ghost use Rattle.rh_replay.specs.declared.checking.Verdict.{Verdict as VerdictOf};
+ghost use Rattle.rh_replay.specs.declared.fault.HistoryFault.{HistoryFault as HistoryFaultOf};
+ghost use Rattle.rh_replay.specs.History.{HistoryState};
+ghost use Rattle.rh_replay.specs.Reading.{history_of};
+ghost use Rattle.rh_replay.specs.Report.{report_text};
+ghost use Rattle.rh_trace.specs.Run.{StopsBeforeTotal, run_of};
+ghost use Rattle.rh_trace.specs.declared.run_fault.RunFault.{RunFault as RunFaultOf};
+ghost use Rattle.rh_trace.specs.declared.summary.Summary.{Summary as SummaryOf};
+ghost use Rattle.rh_cli.specs.Ask.{command_and_file_of, is_taken};
+ghost use Rattle.rh_cli.specs.Count.{counts_line};
+ghost use Rattle.rh_cli.specs.Drive.{Concludes, run_status};
+ghost use Rattle.rh_cli.specs.Fault.{ending_status, status_of};
+ghost use Rattle.rh_cli.specs.Replay.{IsJudged};
+ghost use Rattle.rh_cli.specs.declared.ask.Subcommand.{Subcommand as SubcommandOf};
+ghost use Rattle.rh_cli.specs.declared.ending.Ending.{Ending as EndingOf};
+ghost use Rattle.rh_cli.specs.declared.fault.LineFault.{LineFault as FaultOf};
+
+use rh_dump::laws::what_is_spelled_is_read;
+use rh_dump::limits::MAX_DUMP_BYTES;
+
+/// 0 says that all was done: a run answered its whole trace, a history is legal and its report is
+/// written, or the counts of a dump's graph are.
+pub fn status_0_says_done()
+    ensures run { (input : List ℕ) (old new : Option (List ℕ))
+        → Concludes SubcommandOf.Run input 0 old new
+        → (run : List ℕ × SummaryOf) × (run_of input ≡ Ok run) × Appends old new run.0 }
+    ensures replay { (input : List ℕ) (old new : Option (List ℕ))
+        → Concludes SubcommandOf.Replay input 0 old new
+        → (h : HistoryState) × (count : ℕ) × IsJudged input h (VerdictOf.Legal count)
+        × Appends old new (report_text h (VerdictOf.Legal count)) }
+    ensures dump { (input : List ℕ) (old new : Option (List ℕ))
+        → Concludes SubcommandOf.Dump input 0 old new
+        → (g : GraphState) × (graph_of_text input ≡ Ok g) × Appends old new (counts_line g) }
+    ensures ending { (ending : EndingOf) → (ending_status ending ≡ 0) ↔ (ending ≡ EndingOf.Done) }
+    // No fault has 0, but help and the version, which clap tells as errors.
+    ensures fault { (fault : FaultOf) → status_of fault ≡ 0
+        → (error : ClapError) × (fault ≡ FaultOf.Arguments error)
+        × ((kind_of error ≡ DisplayHelp) ⊎ (kind_of error ≡ DisplayVersion)) }
+{}
+
+/// What isn't a trace, a history or a dump ends with 1, or with 3 where memory was refused before
+/// its fault was found.
+pub fn a_faulty_input_ends_with_1_or_3()
+    ensures run { (input : List ℕ) (fault : RunFaultOf) (status : ℕ) (old new : Option (List ℕ))
+        → run_of input ≡ Err fault → Concludes SubcommandOf.Run input status old new
+        → (status ≡ 1) ⊎ (status ≡ 3) }
+    ensures replay { (input : List ℕ) (fault : HistoryFaultOf) (status : ℕ)
+        (old new : Option (List ℕ)) → history_of input ≡ Err fault
+        → Concludes SubcommandOf.Replay input status old new → (status ≡ 1) ⊎ (status ≡ 3) }
+    ensures dump { (input : List ℕ) (fault : DumpFaultOf) (status : ℕ)
+        (old new : Option (List ℕ)) → graph_of_text input ≡ Err fault
+        → Concludes SubcommandOf.Dump input status old new → (status ≡ 1) ⊎ (status ≡ 3) }
+{}
+
+/// 2 says that the command line isn't understood: no subcommand ends with it, and no fault but one
+/// of the command line has it.
+pub fn status_2_says_that_the_command_line_is_not_understood()
+    ensures never { (subcommand : SubcommandOf) (input : List ℕ) (status : ℕ)
+        (old new : Option (List ℕ)) → Concludes subcommand input status old new → status ≢ 2 }
+    ensures only { (fault : FaultOf) → status_of fault ≡ 2
+        → (fault ≡ FaultOf.NoText) ⊎ ((fault ≡ FaultOf.Incomplete)
+        ⊎ ((error : ClapError) × (fault ≡ FaultOf.Arguments error))) }
+    ensures no_text { status_of FaultOf.NoText ≡ 2 }
+    ensures incomplete { status_of FaultOf.Incomplete ≡ 2 }
+    // What clap refuses has 2, unless it asks for help or the version, which is no mistake.
+    ensures asked { (error : ClapError)
+        → (kind_of error ≡ DisplayHelp) ⊎ (kind_of error ≡ DisplayVersion)
+        → status_of (FaultOf.Arguments error) ≡ 0 }
+    ensures refused { (error : ClapError)
+        → kind_of error ≢ DisplayHelp → kind_of error ≢ DisplayVersion
+        → status_of (FaultOf.Arguments error) ≡ 2 }
+{}
+
+/// 3 says that memory was refused, and of no other fault: a run has then written nothing of its
+/// total line, and a check and a count nothing at all.
+pub fn status_3_says_want_of_memory()
+    ensures fault { (fault : FaultOf) → (status_of fault ≡ 3) ↔ (fault ≡ FaultOf.OutOfMemory) }
+    ensures run_fault { (fault : RunFaultOf)
+        → (run_status fault ≡ 3) ↔ (fault ≡ RunFaultOf.OutOfMemory) }
+    ensures run { (input : List ℕ) (old new : Option (List ℕ))
+        → Concludes SubcommandOf.Run input 3 old new → StopsBeforeTotal (run_of input) old new }
+    ensures replay { (input : List ℕ) (old new : Option (List ℕ))
+        → Concludes SubcommandOf.Replay input 3 old new → Keeps old new }
+    ensures dump { (input : List ℕ) (old new : Option (List ℕ))
+        → Concludes SubcommandOf.Dump input 3 old new → Keeps old new }
+{}
+
+/// 4 says that a history is wrong, and that the whole report on it is written. No other subcommand
+/// ends with it, and no fault has it. No status is above it.
+pub fn status_4_says_a_wrong_history()
+    ensures wrong { (subcommand : SubcommandOf) (input : List ℕ) (old new : Option (List ℕ))
+        → Concludes subcommand input 4 old new → (subcommand ≡ SubcommandOf.Replay)
+        × ((h : HistoryState) × (at : ℕ) × (expected : Result Reply Refusal)
+        × IsJudged input h (VerdictOf.Wrong at expected)
+        × Appends old new (report_text h (VerdictOf.Wrong at expected))) }
+    ensures fault { (fault : FaultOf) → status_of fault ≤ 3 }
+    ensures most { (subcommand : SubcommandOf) (input : List ℕ) (status : ℕ)
+        (old new : Option (List ℕ)) → Concludes subcommand input status old new → status ≤ 4 }
+    ensures ending { (ending : EndingOf)
+        → (ending_status ending ≡ 4) ↔ (ending ≡ EndingOf.WrongHistory) }
+{}
+
+/// Command lines, and what they ask: a subcommand and its file, where `-` is a file's name too. A
+/// line without a subcommand, without a file, with an unknown subcommand or with a part too many
+/// isn't taken.
+pub fn worked_command_lines()
+    ensures run { command_and_file_of (codes "rheap" ∷ codes "run" ∷ codes "x" ∷ [])
+        ≡ Some (codes "run", codes "x") }
+    ensures replay { command_and_file_of (codes "rheap" ∷ codes "replay" ∷ codes "x" ∷ [])
+        ≡ Some (codes "replay", codes "x") }
+    ensures dump { command_and_file_of (codes "rheap" ∷ codes "dump" ∷ codes "x" ∷ [])
+        ≡ Some (codes "dump", codes "x") }
+    ensures input { command_and_file_of (codes "rheap" ∷ codes "run" ∷ codes "-" ∷ [])
+        ≡ Some (codes "run", codes "-") }
+    ensures taken { IsTrue (is_taken (codes "rheap" ∷ codes "run" ∷ codes "x" ∷ [])) }
+    ensures bare { is_taken (codes "rheap" ∷ []) ≡ false }
+    ensures no_file { is_taken (codes "rheap" ∷ codes "run" ∷ []) ≡ false }
+    ensures unknown { is_taken (codes "rheap" ∷ codes "grow" ∷ codes "x" ∷ []) ≡ false }
+    ensures two_files { false
+        ≡ is_taken (codes "rheap" ∷ codes "run" ∷ codes "x" ∷ codes "y" ∷ []) }
+{}
+
+/// What is counted of the text of a graph is how many roots and how many objects the graph has, and
+/// the line says them in this order.
+pub fn the_counts_are_those_of_the_graph()
+    ensures counted { (g : GraphState) (old new : Option (List ℕ)) → IsGraph g
+        → length (dump_text g) ≤ MAX_DUMP_BYTES
+        → Concludes SubcommandOf.Dump (dump_text g) 0 old new
+        → Appends old new (codes "roots " ++ (decimal (length g.roots)
+        ++ (codes " objects " ++ (decimal (length g.objects) ++ 10 ∷ [])))) }
+    ensures one { (g : GraphState) → length g.roots ≡ 1 → length g.objects ≡ 1
+        → counts_line g ≡ codes "roots 1 objects 1" ++ 10 ∷ [] }
+    // A dump in which two roots refer to one object.
+    ensures worked { (old new : Option (List ℕ)) → Concludes SubcommandOf.Dump
+        (flat_map (λ line. line ++ 10 ∷ []) (codes "rheap 1" ∷ codes "roots 2" ∷ codes "1.0 @0"
+        ∷ codes "1.1 @0" ∷ codes "objects 1" ∷ codes "@0 0" ∷ codes "end" ∷ [])) 0 old new
+        → Appends old new (codes "roots 2 objects 1" ++ 10 ∷ []) }
+{
+    what_is_spelled_is_read();
+}
