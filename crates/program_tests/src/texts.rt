@@ -28,7 +28,7 @@ pub const WHOLE_CYCLE: &[u8] =
 pub const WHOLE_CYCLE_ANSWERS: &[u8] =
     b"object 2\ncycle 1\nobject 1\ndone\nplaced\nplaced\ndealt 3 passed 0\n\
         given joined 3 repeated 0 stale 0 placed 0\nflipped roots 2 live 7\n\
-        stat used 7 free 9 cycle off epoch 2 number 1 log 0 granted 24 spent 15 placed 0 missing 0\n\
+        stat used 7 free 9 cycle off epoch 2 number 1 log 0 granted 24 spent 15 placed 0 missing 0 idle 0\n\
         total commands 3 refused 0 flips 1 rootwords 2\n";
 
 /// Trays joined in both orders and given again.
@@ -52,7 +52,7 @@ pub const TOO_MANY: &[u8] =
 
 pub const TOO_MANY_ANSWERS: &[u8] =
     b"object 65\ncycle 1\nobject 5\nplaced\ndealt 64 passed 0\ndealt 1 passed 0\nrefused TooMany\n\
-        stat used 74 free 950 cycle on epoch 1 number 0 log 0 granted 392 spent 68 placed 1 missing 65\n\
+        stat used 74 free 950 cycle on epoch 1 number 0 log 0 granted 392 spent 68 placed 1 missing 65 idle 0\n\
         total commands 2 refused 0 flips 0 rootwords 0\n";
 
 /// Trays that take 64 fields a deal, of two objects of 300, and are joined in both orders.
@@ -108,7 +108,7 @@ pub const FOUR_CYCLES_ANSWERS: &[u8] =
         dealt 2 passed 0\ndone\ngiven joined 1 repeated 0 stale 1 placed 0\ndealt 3 passed 1\n\
         given joined 1 repeated 1 stale 0 placed 0\nrefused RootUnplaced 1.1\nplaced\n\
         dealt 3 passed 0\ngiven joined 3 repeated 0 stale 0 placed 0\nflipped roots 2 live 9\n\
-        stat used 9 free 55 cycle off epoch 2 number 9 log 0 granted 40 spent 27 placed 0 missing 0\n\
+        stat used 9 free 55 cycle off epoch 2 number 9 log 0 granted 40 spent 27 placed 0 missing 0 idle 0\n\
         done\ndone\ncycle 2\nobject 7\ndone\nplaced\ndone\nrefused OtherEpoch\ndealt 2 passed 0\n\
         done\ndone\ngiven joined 1 repeated 0 stale 1 placed 1\ndealt 1 passed 0\njoined 2\n\
         joined 2\nrefused NoTray\ndealt 2 passed 0\ngiven joined 1 repeated 1 stale 0 placed 0\n\
@@ -120,7 +120,7 @@ pub const FOUR_CYCLES_ANSWERS: &[u8] =
         done\ndone\nplaced\nplaced\nalready\ndealt 1 passed 0\ndealt 1 passed 0\n\
         refused CreditShort need 10 free 8\nobject 0\ndone\n\
         given joined 2 repeated 0 stale 0 placed 0\nflipped roots 2 live 6\n\
-        stat used 6 free 58 cycle off epoch 5 number 18 log 0 granted 32 spent 12 placed 0 missing 0\n\
+        stat used 6 free 58 cycle off epoch 5 number 18 log 0 granted 32 spent 12 placed 0 missing 0 idle 0\n\
         object 0\nsame yes\ntray a epoch 1 entries 2\ntray b epoch 1 entries 3\n\
         tray c epoch 2 entries 2\ntray d epoch 2 entries 5\ntray e epoch 3 entries 2\n\
         tray f epoch 3 entries 2\ntray g epoch 4 entries 2\n\

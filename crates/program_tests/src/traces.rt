@@ -2,5 +2,6 @@
 
 mod leading;
 mod reading;
+mod recalling;
 mod running;
 mod trays;

@@ -20,7 +20,7 @@ use rh_core::laws::progress::{
     a_cycle_keeps_what_was_dealt_logged_and_granted, a_well_formed_heap_is_bounded,
 };
 use rh_core::laws::stores::store_lists_go_on_over_a_flip;
-use rh_core::{BeginError, Config, Heap, Kind, Shaded};
+use rh_core::{BeginError, Config, FlipError, Heap, IdleError, Kind, NoCycle, RecallError, Shaded};
 use rh_layout::{Command, Item, Operand, Value};
 use rh_partial::Piece;
 use std::alloc::Allocator;
@@ -43,6 +43,42 @@ fn the_last_epoch(rt: HostRuntime) {
         expect_equal(&rt, heap.config(), sizes);
         expect_equal(&rt, heap.begin(), Err(BeginError::EpochsSpent));
     }
+}
+
+/// A recall may reach the last epoch: then neither a flip nor another recall is accepted, and an
+/// abandoned cycle leaves the epoch.
+#[test]
+fn the_last_epoch_by_a_recall(rt: HostRuntime) {
+    let sizes = Config {
+        last_epoch: 2,
+        ..SIZES
+    };
+    let mut heap = Heap::new(rt.alloc(), sizes).expect(&rt, "a heap");
+    expect_equal(&rt, heap.recall(), Err(RecallError::NoCycle));
+    expect_equal(&rt, heap.abandon(), Err(NoCycle));
+    expect_equal(&rt, heap.begin(), Ok(1));
+    expect_equal(&rt, heap.recall(), Ok(2));
+    expect_equal(&rt, heap.flip().err(), Some(FlipError::EpochsSpent));
+    expect_equal(&rt, heap.recall(), Err(RecallError::EpochsSpent));
+    expect_equal(&rt, heap.abandon(), Ok(0));
+    expect_equal(&rt, (heap.epoch(), heap.is_in_cycle()), (2, false));
+}
+
+/// A cycle has at most 2^61 idle words, and a new one none.
+#[test]
+fn idle_words(rt: HostRuntime) {
+    let most = 2_305_843_009_213_693_952;
+    let mut heap = Heap::new(rt.alloc(), SIZES).expect(&rt, "a heap");
+    expect_equal(&rt, heap.idle(0), Err(IdleError::NoCycle));
+    expect_equal(&rt, heap.begin(), Ok(1));
+    expect_equal(&rt, heap.idle(most), Ok(most));
+    for words in [1, u64::MAX] {
+        expect_equal(&rt, heap.idle(words), Err(IdleError::IdleSpent));
+    }
+    expect_equal(&rt, (heap.stat().idle, heap.stat().granted), (most, 0));
+    assert!(rt; heap.flip().is_ok());
+    expect_equal(&rt, heap.begin(), Ok(2));
+    expect_equal(&rt, heap.stat().idle, 0);
 }
 
 /// In a cycle a second one begins at no time, whatever command comes before.

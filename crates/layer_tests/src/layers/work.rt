@@ -29,8 +29,17 @@ fn credit_is_granted_and_spent(rt: HostRuntime) {
         (16, 6, 10),
     );
     expect_equal(&rt, work.spend(10), Ok(()));
+    work.idle(3);
+    expect_equal(&rt, work.spend(4), Err(CreditShort { need: 4, free: 3 }));
+    expect_equal(&rt, work.spend(2), Ok(()));
+    expect_equal(
+        &rt,
+        (work.granted(), work.idle_words(), work.free()),
+        (16, 3, 1),
+    );
     work.restart();
     expect_equal(&rt, (work.granted(), work.spent(), work.free()), (0, 0, 0));
+    expect_equal(&rt, work.idle_words(), 0);
     work.grant(1);
     expect_equal(&rt, work.free(), 8);
 }

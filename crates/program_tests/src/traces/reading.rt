@@ -21,7 +21,8 @@ use std::test::Fail;
 const KEYWORDS: &[u8] =
     b"heap 16 8 4 2 2\n1 alloc 1.0 2\n1 load 1.1 1.0 0\n1 store 1.0 0 5\n1 copy 1.1 0.0\n\
         1 same 1.0 1.1\n1 drop 1.0\nbegin\nshade 1.0\ndeal copies 4294967295 t\n\
-        deal entries 0 a_2z9\ngive abcdefghijklmnop\njoin t a_2z9\nflip\ntrays\nstat\ndump\n";
+        deal entries 0 a_2z9\ngive abcdefghijklmnop\njoin t a_2z9\nflip\nrecall\nabandon\n\
+        idle 4294967295\ntrays\nstat\ndump\n";
 
 /// Stores of each kind of operand, and lines of the greatest numbers.
 const OPERANDS: &[u8] =
@@ -89,7 +90,7 @@ fn tray(rt: &impl Abort, name: &[u8]) -> TrayName {
 }
 
 /// The other lines, one of each keyword, and of both kinds of deals.
-fn other_lines(rt: &impl Abort) -> [Line; 10] {
+fn other_lines(rt: &impl Abort) -> [Line; 13] {
     let (first, second) = (tray(rt, b"t"), tray(rt, b"a_2z9"));
     [
         Line::Begin,
@@ -112,6 +113,11 @@ fn other_lines(rt: &impl Abort) -> [Line; 10] {
             other: second,
         },
         Line::Flip,
+        Line::Recall,
+        Line::Abandon,
+        Line::Idle {
+            words: 4_294_967_295,
+        },
         Line::Trays,
         Line::Stat,
         Line::Dump,

@@ -1,0 +1,77 @@
+//! Cycles that are recalled or abandoned at each moment, and then brought to their end.
+
+use crate::texts::repeated;
+use rh_trace::run_trace;
+use std::alloc::AllocError;
+use std::process::Abort;
+use std::test::Fail;
+
+/// The first lines of a trace: two objects, of which the first refers to the second.
+const FIRST: &[u8] =
+    b"heap 64 8 8 2 2\n1 alloc 1.0 2\n1 alloc 1.1 1\n1 store 1.0 0 5\n1 store 1.0 1 1.1\n";
+
+/// A cycle, line by line: with copies, entries, stale parts, stores, and an object that is dropped.
+const CYCLE: &[&[u8]] = &[
+    b"begin\n",
+    b"1 alloc 0.0 3\n",
+    b"shade 1.0\n",
+    b"deal copies 1 a\n",
+    b"1 store 1.0 0 6\n",
+    b"give a\n",
+    b"1 store 1.1 0 1.0\n",
+    b"deal entries 9 b\n",
+    b"deal copies 9 c\n",
+    b"give c\n",
+    b"give b\n",
+    b"1 drop 0.0\n",
+    b"deal copies 9 d\n",
+    b"give d\n",
+    b"flip\n",
+];
+
+/// What ends a cycle wherever it stands, with trays of its own.
+const FINISH: &[u8] =
+    b"idle 1000\nshade 0.0\nshade 1.0\nshade 1.1\ndeal entries 9 w\ngive w\ndeal copies 9 x\n\
+        give x\ndeal copies 9 y\ngive y\nflip\ndump\n";
+
+/// What is answered last, whatever came between: one flip was done, and the graph is the same.
+const LAST: &[u8] = b"\nrheap 1\nroots 2\n1.0 @0\n1.1 @1\nobjects 2\n@0 2 6 @1\n@1 1 @0\nend\n\
+        total commands 8 refused 0 flips 1 rootwords 2\n";
+
+/// The trace with a line before the one at this position of its cycle, and with an end.
+fn interrupted(
+    rt: &impl AllocGlobal,
+    moment: usize,
+    line: &[u8],
+    end: &[u8],
+) -> Result<Vec<u8>, AllocError> {
+    let mut text = repeated(rt, FIRST, b"", 0)?;
+    for (position, part) in CYCLE.iter().enumerate() {
+        if position == moment {
+            text.extend_from_slice(line)?;
+        }
+        text.extend_from_slice(part)?;
+    }
+    text.extend_from_slice(end)?;
+    text.extend_from_slice(FINISH)?;
+    Ok(text)
+}
+
+/// Runs a trace, and expects its last answers.
+fn expect_last(rt: &(impl AllocGlobal + Abort), text: &[u8]) {
+    let mut written = Vec::new(rt.alloc());
+    let outcome = run_trace(rt.alloc(), &mut { text }, &mut written);
+    assert!(rt; outcome.is_ok());
+    assert!(rt; written.as_slice().ends_with(LAST), "{written:?}");
+}
+
+#[test]
+fn a_cycle_is_recalled_or_abandoned_at_each_moment(rt: HostRuntime) -> Result<(), Fail> {
+    for moment in 1..CYCLE.len() {
+        let recalled = interrupted(&rt, moment, b"recall\n", b"")?;
+        expect_last(&rt, recalled.as_slice());
+        let abandoned = interrupted(&rt, moment, b"abandon\n", b"begin\n")?;
+        expect_last(&rt, abandoned.as_slice());
+    }
+    Ok(())
+}
