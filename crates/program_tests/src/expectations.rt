@@ -28,3 +28,14 @@ where
     let shown = format!(in rt.alloc(); "{value}").expect(rt, "memory is ample");
     expect_equal(rt, shown.as_str(), text);
 }
+
+/// Ends the test unless each value is shown as the text beside it.
+pub fn expect_texts<R, D>(rt: &R, texts: &[(D, &str)])
+where
+    R: AllocGlobal + Abort,
+    D: Display + Copy + Drop,
+{
+    for &(value, text) in texts {
+        expect_text(rt, value, text);
+    }
+}

@@ -16,6 +16,8 @@ mod program;
 #[cfg(test)]
 mod reading_dumps;
 #[cfg(test)]
+mod sizes;
+#[cfg(test)]
 mod texts;
 #[cfg(test)]
 mod traces;

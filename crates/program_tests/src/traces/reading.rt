@@ -137,14 +137,14 @@ fn line_at<A: Allocator>(trace: &Trace<A>, i: usize) -> Option<Line> {
 fn reads_each_keyword(rt: HostRuntime) -> Result<(), Fail> {
     let trace = parse(rt.alloc(), KEYWORDS).ok().ok_or("a trace")?;
     expect_equal(&rt, trace.header(), HEADER);
-    expect_equal(&rt, (trace.len(), trace.is_empty()), (16, false));
+    expect_equal(&rt, (trace.len(), trace.is_empty()), (19, false));
     for (i, line) in (0..6).zip(command_lines().iter()) {
         expect_equal(&rt, line_at(&trace, i), Some(*line));
     }
-    for (i, line) in (6..16).zip(other_lines(&rt).iter()) {
+    for (i, line) in (6..19).zip(other_lines(&rt).iter()) {
         expect_equal(&rt, line_at(&trace, i), Some(*line));
     }
-    assert!(rt; trace.len() == 16 && trace.line(15) == Line::Dump);
+    assert!(rt; trace.len() == 19 && trace.line(18) == Line::Dump);
     assert!(rt; size_of::<Line>() <= 40 && size_of::<Request>() <= 40);
     Ok(())
 }
