@@ -115,11 +115,11 @@ pub enum Line {
     },
     /// `flip`: the roots are moved to the replica.
     Flip,
-    /// `recall`: all that was dealt is undealt again, in a new epoch of the same cycle.
+    /// `recall`: all that was dealt is undealt again; the cycle goes on in the next epoch.
     Recall,
     /// `abandon`: the cycle ends without a flip.
     Abandon,
-    /// `idle N`: so many words of idle work are granted to the collector.
+    /// `idle N`: the collector has so many idle words more in this cycle, a unit each.
     Idle {
         /// How many words.
         words: u32,

@@ -44,11 +44,11 @@ pub enum Request {
     },
     /// The roots are moved to the replica.
     Flip,
-    /// All that was dealt is undealt again, in a new epoch of the same cycle.
+    /// All that was dealt is undealt again; the cycle goes on in the next epoch.
     Recall,
     /// The cycle ends without a flip.
     Abandon,
-    /// So many words of idle work are granted to the collector.
+    /// The collector has so many idle words more in this cycle, a unit each.
     Idle {
         /// How many words.
         words: u32,
