@@ -10,4 +10,6 @@ mod heaps;
 #[cfg(test)]
 mod layers;
 #[cfg(test)]
+mod paced;
+#[cfg(test)]
 mod refusals;

@@ -1,0 +1,6 @@
+//! The heap that collects by itself.
+
+mod calls;
+mod collections;
+mod mutators;
+mod paces;

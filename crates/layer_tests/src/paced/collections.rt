@@ -1,0 +1,92 @@
+//! Collections on demand.
+
+use crate::commands::alloc;
+use crate::expectations::expect_equal;
+use crate::paced::calls::{SIZES, STEPS, play, small_heap};
+use rh_core::{Config, Flipped};
+use rh_layout::{Command, Refusal, Reply, RootId};
+use rh_pace::{Did, EpochsSpent};
+
+const D: RootId = RootId { owner: 0, slot: 1 };
+
+/// How many steps come before, how many roots hold references, and the words of what is kept.
+const STAGES: &[(usize, u32, u32)] = &[
+    (0, 0, 0),
+    (1, 1, 4),
+    (2, 2, 12),
+    // A cycle began.
+    (3, 3, 14),
+    (4, 2, 12),
+    // Objects are placed, and a field is held.
+    (5, 3, 14),
+    // An entry was looked at.
+    (8, 3, 14),
+    // A cycle ended, and one began with most of the space in use.
+    (10, 4, 17),
+    (12, 4, 27),
+];
+
+/// Whatever the stage of a cycle, a collection ends it, and keeps what the roots reach and what was
+/// placed. A second one begins anew.
+#[test]
+fn from_each_stage(rt: HostRuntime) {
+    for &(steps, roots, live_words) in STAGES {
+        let mut heap = small_heap(&rt, rt.alloc(), SIZES);
+        for step in STEPS.iter().take(steps) {
+            let _ = heap.command(1, &step.0);
+        }
+        let flips = heap.stat().flips;
+        let flipped = Flipped { roots, live_words };
+        expect_equal(&rt, heap.collect(), Ok(flipped));
+        expect_equal(&rt, heap.last_did().flipped, Some(flipped));
+        expect_equal(&rt, heap.collect(), Ok(flipped));
+        expect_equal(&rt, heap.last_did().began, true);
+        let stat = heap.stat();
+        expect_equal(&rt, (stat.cycle, stat.used), (false, live_words.into()));
+        expect_equal(&rt, stat.flips, flips.saturating_add(2));
+    }
+}
+
+/// An object that fits once the heap was collected is made; one that doesn't isn't, though the heap
+/// was collected twice. Another refusal is told at once.
+#[test]
+fn insisting_where_the_heap_is_full(rt: HostRuntime) {
+    let mut heap = small_heap(&rt, rt.alloc(), SIZES);
+    play(&rt, &mut heap, STEPS);
+    let full = Err(Refusal::SpaceFull { need: 6, free: 5 });
+    expect_equal(&rt, heap.insist(1, &alloc(D, 4)), full);
+    expect_equal(&rt, heap.stat().flips, 3);
+    expect_equal(
+        &rt,
+        heap.insist(
+            1,
+            &Command::Load {
+                dst: D,
+                src: D,
+                field: 0,
+            },
+        ),
+        Err(Refusal::NoField),
+    );
+    expect_equal(&rt, heap.insist(1, &alloc(D, 3)), Ok(Reply::Object(3)));
+    expect_equal(&rt, (heap.stat().flips, heap.stat().free), (3, 0));
+    // What D named is unreachable now, but for the first collection.
+    expect_equal(&rt, heap.insist(1, &alloc(D, 0)), Ok(Reply::Object(0)));
+}
+
+/// Where the epoch is the last one nothing is collected.
+#[test]
+fn the_last_epoch(rt: HostRuntime) {
+    let sizes = Config {
+        last_epoch: 2,
+        ..SIZES
+    };
+    let mut heap = small_heap(&rt, rt.alloc(), sizes);
+    expect_equal(&rt, heap.collect().is_ok(), true);
+    let did = heap.last_did();
+    expect_equal(&rt, heap.collect(), Err(EpochsSpent));
+    expect_equal(&rt, heap.last_did(), did);
+    let full = Err(Refusal::SpaceFull { need: 33, free: 32 });
+    expect_equal(&rt, heap.insist(1, &alloc(D, 31)), full);
+    expect_equal(&rt, heap.increment(), Did::NOTHING);
+}
