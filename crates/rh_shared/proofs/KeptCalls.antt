@@ -1,0 +1,166 @@
+-- Calls of what lies under the lock: what they make of it, and that the history stays legal.
+use Rattle.std.proofs.Common.{◌≡◌, ℕ, ◌<◌, ◌≤◌, ◌↔◌, Bool, true, false, Some, None, Result, Ok, Err, is_ok, length, inl, inr, refl, sym, ap, subst, ◌∙◌, arith}
+use Rattle.std.proofs.lemmas.Bool.{le-ltb, lt-ltb, ltb-true, ltb-false}
+use Rattle.std.specs.Prelude.{IsTrue, nat_lt}
+use Rattle.rh_layout.specs.Refusal.{is_limit}
+use Rattle.rh_layout.specs.declared.command.Command.{Command}
+use Rattle.rh_layout.specs.declared.command.Reply.{Reply}
+use Rattle.rh_layout.specs.declared.refusal.Refusal.{Refusal}
+use Rattle.rh_partial.specs.PartialReplica.{ReplicaState}
+use Rattle.rh_model.specs.Plain.{step}
+use Rattle.rh_mutator.specs.Commands.{AnswersAs, is_limit_answer, plain_unless}
+use Rattle.rh_mutator.specs.Mutator.{StandsFor}
+use Rattle.rh_core.specs.Heap.{HeapState}
+use Rattle.rh_core.specs.Commands.{heap_step}
+use Rattle.rh_replay.specs.declared.call.Call.{Call}
+use Rattle.rh_replay.specs.History.{HistoryState, RecorderState, with_call}
+use Rattle.rh_replay.specs.Legal.{IsLegal, replay}
+use Rattle.rh_shared.specs.declared.kept.CallError.TheVariants as call_errors
+use Rattle.rh_shared.specs.declared.did.Did.{Did}
+use Rattle.rh_shared.specs.Collector.{CollectorState, with_heap}
+use Rattle.rh_shared.specs.Increment.{increment, IncrementFolds}
+use Rattle.rh_shared.specs.Kept.{CallFolds, IsKept, KeptState, full_refusal, kept_call, kept_increment, refused_where, with_command, with_noted}
+
+-- What the law of legal histories says.
+pub record HistoryLaws : Type 0 where
+  pub grown : (h : HistoryState) (call : Call) → IsLegal (with_call h call) ↔ (IsLegal h × (call.answer ≡ (step (replay h) call.owner call.command).1))
+  pub replayed : (h : HistoryState) (call : Call) → replay (with_call h call) ≡ (step (replay h) call.owner call.command).0
+
+-- an answer that isn't a limit's is the plain heap's
+same_answer : (answer plain : Result Reply Refusal) → AnswersAs answer plain → is_limit_answer answer ≡ false → answer ≡ plain
+same_answer answer plain (inl same) kept = same.1
+same_answer answer plain (inr limited) kept = cc (limited.0, kept)
+
+-- A call that is noted with the heap's answer keeps the history legal, and what the heap stands for.
+pub IsKept-noted : (laws : HistoryLaws) (h : HistoryState) (before after : HeapState) (owner : ℕ) (command : Command) (answer : Result Reply Refusal)
+    → IsKept h before → is_limit_answer answer ≡ false
+    → AnswersAs answer (step (replay h) owner command).1
+    → StandsFor after.mutators (plain_unless (is_limit_answer answer) (replay h) owner command)
+    → IsKept (with_call h (record { owner = owner; command = command; answer = answer })) after
+IsKept-noted laws h before after owner command answer was kept answered stands =
+    let call : Call = record { owner = owner; command = command; answer = answer } in
+    let moved : StandsFor after.mutators (step (replay h) owner command).0 = subst (λ b. StandsFor after.mutators (plain_unless b (replay h) owner command)) kept stands in
+    record {
+      legal = (laws.grown h call).1 (was.legal, same_answer answer (step (replay h) owner command).1 answered kept);
+      stands = subst (λ p. StandsFor after.mutators p) (sym (laws.replayed h call)) moved;
+    }
+
+-- Where a limit refused, nothing was noted.
+pub IsKept-limited : (h : HistoryState) (before after : HeapState) (owner : ℕ) (command : Command) (answer : Result Reply Refusal)
+    → IsKept h before → is_limit_answer answer ≡ true
+    → StandsFor after.mutators (plain_unless (is_limit_answer answer) (replay h) owner command)
+    → IsKept h after
+IsKept-limited h before after owner command answer was limited stands = record {
+  legal = was.legal;
+  stands = subst (λ b. StandsFor after.mutators (plain_unless b (replay h) owner command)) limited stands;
+}
+
+-- An increment.
+
+-- the collector and what it did are those of the increment
+pub increment-does : (r : ReplicaState) (k : KeptState) (after : CollectorState) (did : Did) → after ≡ (increment r k.collector).0 → did ≡ (increment r k.collector).1
+    → (record k { collector = after; last = did }, did) ≡ kept_increment r k
+unfolding kept_increment
+increment-does r k after did leads does = cc
+
+-- Whether there is room for a call.
+
+-- a history that isn't at its limit has room
+pub room_left : (b : Bool) (n most : ℕ) → b ≡ false → (IsTrue b ↔ (n ≡ most)) → n ≤ most → n < most
+room_left b n most not_full full few = by_test (nat_lt n most) refl
+  where
+    by_test : (t : Bool) → nat_lt n most ≡ t → n < most
+    by_test true e = ltb-true n most e
+    by_test false e = let same : n ≡ most = omega (arith, ltb-false n most e, few) in absurd (cc (full.1 same, not_full))
+
+pub full_refusal-full : (k : KeptState) → length k.recorder.history.calls ≡ k.recorder.limit → full_refusal k ≡ Some call_errors.TraceFull
+full_refusal-full k full = rw (le-ltb (length k.recorder.history.calls) k.recorder.limit (omega (arith, full))) refl
+
+pub full_refusal-room : (k : KeptState) → length k.recorder.history.calls < k.recorder.limit → full_refusal k ≡ None
+full_refusal-room k room = rw (lt-ltb (length k.recorder.history.calls) k.recorder.limit room) refl
+
+-- The four ends of a call.
+
+kept_call-full : (r : ReplicaState) (k : KeptState) (owner : ℕ) (command : Command) → full_refusal k ≡ Some call_errors.TraceFull
+    → kept_call r k owner command ≡ (k, Err call_errors.TraceFull)
+unfolding kept_call
+kept_call-full r k owner command full = rw full refl
+
+kept_call-accepted : (r : ReplicaState) (k : KeptState) (owner : ℕ) (command : Command) (reply : Reply) → full_refusal k ≡ None
+    → (heap_step k.collector.heap owner command).1 ≡ Ok reply
+    → kept_call r k owner command ≡ (with_noted (kept_increment r (with_command k owner command)).0 owner command (Ok reply), Ok reply)
+unfolding kept_call
+kept_call-accepted r k owner command reply room answer = rw (room, answer) refl
+
+kept_call-refused : (r : ReplicaState) (k : KeptState) (owner : ℕ) (command : Command) (refusal : Refusal) → full_refusal k ≡ None
+    → (heap_step k.collector.heap owner command).1 ≡ Err refusal
+    → kept_call r k owner command ≡ (refused_where (is_limit refusal) (with_command k owner command) owner command refusal, Err (call_errors.Heap refusal))
+unfolding kept_call
+kept_call-refused r k owner command refusal room answer = rw (room, answer) refl
+
+-- The same, of what the steps of a call made.
+
+-- a recorder is its history and its limit
+recorder_is : (r : RecorderState) (h : HistoryState) (n : ℕ) → r.history ≡ h → r.limit ≡ n → r ≡ record { history = h; limit = n }
+recorder_is r h n history limit =
+    let with_limit : ℕ → RecorderState = λ m. record { history = h; limit = m } in
+    let with_history : HistoryState → RecorderState = λ g. record { history = g; limit = r.limit } in
+    ap with_history history ∙ ap with_limit limit
+
+pub call-full : (r : ReplicaState) (k : KeptState) (owner : ℕ) (command : Command) → length k.recorder.history.calls ≡ k.recorder.limit
+    → (k, Err call_errors.TraceFull) ≡ kept_call r k owner command
+call-full r k owner command full = sym (kept_call-full r k owner command (full_refusal-full k full))
+
+pub call-accepted : (r : ReplicaState) (k : KeptState) (owner : ℕ) (command : Command) (reply : Reply) (one after : CollectorState) (did : Did) (noted : RecorderState)
+    → length k.recorder.history.calls < k.recorder.limit → Ok reply ≡ (heap_step k.collector.heap owner command).1
+    → one ≡ with_heap k.collector (heap_step k.collector.heap owner command).0
+    → after ≡ (increment r one).0 → did ≡ (increment r one).1
+    → noted.history ≡ with_call k.recorder.history (record { owner = owner; command = command; answer = Ok reply }) → noted.limit ≡ k.recorder.limit
+    → (record { collector = after; recorder = noted; last = did }, Ok reply) ≡ kept_call r k owner command
+unfolding kept_increment
+call-accepted r k owner command reply one after did noted room answer state leads does history limit =
+    let is = kept_call-accepted r k owner command reply (full_refusal-room k room) (sym answer) in
+    let call : Call = record { owner = owner; command = command; answer = Ok reply } in
+    let whole : noted ≡ record { history = with_call k.recorder.history call; limit = k.recorder.limit } = recorder_is noted (with_call k.recorder.history call) k.recorder.limit history limit in
+    cc
+
+pub call-refused : (r : ReplicaState) (k : KeptState) (owner : ℕ) (command : Command) (refusal : Refusal) (one : CollectorState) (noted : RecorderState)
+    → length k.recorder.history.calls < k.recorder.limit → Err refusal ≡ (heap_step k.collector.heap owner command).1
+    → one ≡ with_heap k.collector (heap_step k.collector.heap owner command).0 → is_limit refusal ≡ false
+    → noted.history ≡ with_call k.recorder.history (record { owner = owner; command = command; answer = Err refusal }) → noted.limit ≡ k.recorder.limit
+    → (record { collector = one; recorder = noted; last = k.last }, Err (call_errors.Heap refusal)) ≡ kept_call r k owner command
+call-refused r k owner command refusal one noted room answer state limited history limit =
+    let is = kept_call-refused r k owner command refusal (full_refusal-room k room) (sym answer) in
+    let which : refused_where (is_limit refusal) (with_command k owner command) owner command refusal ≡ with_noted (with_command k owner command) owner command (Err refusal) =
+    ap (λ b. refused_where b (with_command k owner command) owner command refusal) limited in
+    let call : Call = record { owner = owner; command = command; answer = Err refusal } in
+    let whole : noted ≡ record { history = with_call k.recorder.history call; limit = k.recorder.limit } = recorder_is noted (with_call k.recorder.history call) k.recorder.limit history limit in
+    cc
+
+pub call-limited : (r : ReplicaState) (k : KeptState) (owner : ℕ) (command : Command) (refusal : Refusal) (one : CollectorState)
+    → length k.recorder.history.calls < k.recorder.limit → Err refusal ≡ (heap_step k.collector.heap owner command).1
+    → one ≡ with_heap k.collector (heap_step k.collector.heap owner command).0 → is_limit refusal ≡ true
+    → (record { collector = one; recorder = k.recorder; last = k.last }, Err (call_errors.Heap refusal)) ≡ kept_call r k owner command
+call-limited r k owner command refusal one room answer state limited =
+    let is = kept_call-refused r k owner command refusal (full_refusal-room k room) (sym answer) in
+    let which : refused_where (is_limit refusal) (with_command k owner command) owner command refusal ≡ with_command k owner command =
+    ap (λ b. refused_where b (with_command k owner command) owner command refusal) limited in
+    cc
+
+-- What an accepted call's increment folds, and where there is none.
+
+pub folds-accepted : (r : ReplicaState) (k : KeptState) (owner : ℕ) (command : Command) (one : CollectorState)
+    → one ≡ with_heap k.collector (heap_step k.collector.heap owner command).0 → IncrementFolds r one → CallFolds r k owner command
+unfolding CallFolds
+folds-accepted r k owner command one state folds room accepted = subst (IncrementFolds r) state folds
+
+pub folds-full : (r : ReplicaState) (k : KeptState) (owner : ℕ) (command : Command) → length k.recorder.history.calls ≡ k.recorder.limit → CallFolds r k owner command
+unfolding CallFolds
+folds-full r k owner command full room accepted = absurd (cc (room, full_refusal-full k full))
+
+pub folds-refused : (r : ReplicaState) (k : KeptState) (owner : ℕ) (command : Command) (refusal : Refusal) → Err refusal ≡ (heap_step k.collector.heap owner command).1
+    → CallFolds r k owner command
+unfolding CallFolds
+folds-refused r k owner command refusal answer room accepted =
+    let ok = subst (λ (x : Result Reply Refusal). is_ok x ≡ true) (sym answer) accepted in
+    absurd (cc)
