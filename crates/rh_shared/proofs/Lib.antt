@@ -5,3 +5,5 @@ pub mod KeptCalls
 pub mod IncrementLaws
 pub mod Ranges
 pub mod Stages
+pub mod Differences
+pub mod SharesTogether

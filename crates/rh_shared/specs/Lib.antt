@@ -4,3 +4,4 @@ pub mod Collector
 pub mod Increment
 pub mod Collected
 pub mod Kept
+pub mod Shares

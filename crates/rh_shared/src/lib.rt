@@ -2,15 +2,21 @@
 //! increments of collector work keep.
 #![tactic(auto)]
 
+mod closing;
 mod collector;
 mod config;
 mod did;
 mod kept;
 pub mod laws;
+mod mutator;
+mod shared_heap;
 mod start;
 mod steps;
 
+pub use closing::{CloseError, NotClosed, close};
 pub use config::{MAX_MOST, MAX_REPLICATORS, SharedConfig, SharedFault};
 pub use did::Did;
 pub use kept::{CallError, Kept};
+pub use mutator::Mutator;
+pub use shared_heap::SharedHeap;
 pub use start::{Start, StartError};

@@ -6,9 +6,11 @@ ghost use Rattle.rh_mutator.specs.Config.{fault_of};
 ghost use Rattle.rh_mutator.specs.Mutator.{StandsFor};
 ghost use Rattle.rh_replay.specs.History.{empty_history};
 ghost use Rattle.rh_shared.specs.Kept.{IsStart};
+ghost use Rattle.rh_shared.specs.Shares.{new_mutators};
 ghost use Rattle.rh_shared.specs.SharedConfig.{HasRoots, new_start, shared_fault_of};
 
 use crate::config::{SharedConfig, SharedFault};
+use crate::mutator::{Mutator, mutators_of};
 use rh_core::{Config, ConfigFault, Heap, HeapError};
 use rh_layout::OutOfMemory;
 use rh_layout::limits::MAX_HISTORY_CALLS;
@@ -92,6 +94,15 @@ impl<A: Allocator + Copy> Start<A> {
             }),
             Err(OutOfMemory) => Err(StartError::OutOfMemory),
         }
+    }
+
+    /// A mutator for each owner of the heap, in order, with room for as many calls as the history
+    /// may have.
+    pub(crate) fn mutators(&self, alloc: A) -> Result<Vec<Mutator<A>, A>, OutOfMemory>
+        ensures { IfOk result (λ mutators. mutators.items ≡ new_mutators self.now) }
+    {
+        let config = self.heap.config();
+        mutators_of(alloc, config.owners, config.slots, self.config.history)
     }
 
     /// The heap, the recorder and the configuration.

@@ -1,0 +1,306 @@
+-- Shares compared with the calls of their owners in a history.
+use Rattle.std.proofs.Common.{◌≡◌, ◌≢◌, ℕ, zero, suc, ◌+◌, ◌<◌, ◌≤◌, Bool, true, false, cond, List, [], ◌∷◌, ◌++◌, Option, Some, None, length, take, drop, get_or, refl, sym, ap, subst, ◌∙◌, arith, add-one}
+use Rattle.std.specs.Prelude.{◌==◌, ◌&&◌, nat_lt, nat_le, slice_get}
+use Rattle.std.proofs.lemmas.Bool.{and_parts, ltb-true, ltb-false, leb-true, leb-false, lt-ltb, le-ltb, eqb-true, eq-eqb}
+use Rattle.std.proofs.lemmas.List.{at_drop_more}
+use Rattle.std.proofs.lemmas.List.Elements.{filter-append}
+use Rattle.rh_replay.specs.declared.call.Call.{Call}
+use Rattle.rh_shared.specs.Shares.{HistoryDiffersAt, MutatorState, calls_of, due_to, have_owners_below, lesser_of, lesser_stranger, mutator_count, share_of, IsFirstDifference, IsLeastStranger, IsOneEach}
+
+-- Calls of an owner.
+
+calls_of-append : (owner : ℕ) (xs ys : List Call) → calls_of owner (xs ++ ys) ≡ calls_of owner xs ++ calls_of owner ys
+calls_of-append owner xs ys = filter-append (λ (call : Call). call.owner == owner) xs ys
+
+calls_of-other : (owner : ℕ) (c : Call) → (c.owner == owner) ≡ false → calls_of owner (c ∷ []) ≡ []
+calls_of-other owner c e = rw e refl
+
+calls_of-own : (c : Call) → calls_of c.owner (c ∷ []) ≡ c ∷ []
+calls_of-own c = rw (eq-eqb c.owner c.owner refl) refl
+
+-- two numbers that differ aren't told equal
+differ-eqb : (m n : ℕ) → (m ≡ n → ⊥) → (m == n) ≡ false
+differ-eqb m n apart = by_test (m == n) refl
+  where
+    by_test : (b : Bool) → (m == n) ≡ b → (m == n) ≡ false
+    by_test true e = absurd (apart (eqb-true m n e))
+    by_test false e = e
+
+-- Lists.
+
+take-itself : {X : Type 0} (k : ℕ) (xs ys : List X) → k ≤ length xs → take k (take k xs ++ ys) ≡ take k xs
+take-itself zero xs ys few = refl
+take-itself (suc k) [] ys few = absurd (omega arith)
+take-itself (suc k) (x ∷ xs) ys few = ap (λ rest. x ∷ rest) (take-itself k xs ys (omega arith))
+
+slice_get-past_front : {X : Type 0} (k : ℕ) (xs ys : List X) (y : X) → k ≤ length xs → slice_get (take k xs ++ y ∷ ys) k ≡ Some y
+slice_get-past_front zero xs ys y few = refl
+slice_get-past_front (suc k) [] ys y few = absurd (omega arith)
+slice_get-past_front (suc k) (x ∷ xs) ys y few = slice_get-past_front k xs ys y (omega arith)
+
+slice_get-of_front : {X : Type 0} (k : ℕ) (xs : List X) → slice_get (take k xs) k ≡ None
+slice_get-of_front zero xs = refl
+slice_get-of_front (suc k) [] = refl
+slice_get-of_front (suc k) (x ∷ xs) = slice_get-of_front k xs
+
+take-more : {X : Type 0} (k : ℕ) (xs ys : List X) (x : X) → slice_get xs k ≡ Some x → take (suc k) xs ++ ys ≡ take k xs ++ x ∷ ys
+take-more k [] ys x e = absurd (cc)
+take-more zero (z ∷ xs) ys x e = let same : z ≡ x = cc in ap (λ w. w ∷ ys) same
+take-more (suc k) (z ∷ xs) ys x e = ap (λ rest. z ∷ rest) (take-more k xs ys x e)
+
+within-get : {X : Type 0} (k : ℕ) (xs : List X) (x : X) → slice_get xs k ≡ Some x → k < length xs
+within-get k [] x e = absurd (cc)
+within-get zero (z ∷ xs) x e = omega arith
+within-get (suc k) (z ∷ xs) x e = omega (arith, within-get k xs x e)
+
+take-whole : {X : Type 0} (k : ℕ) (xs : List X) → length xs ≤ k → take k xs ≡ xs
+take-whole zero [] few = refl
+take-whole (suc k) [] few = refl
+take-whole zero (x ∷ xs) few = absurd (omega arith)
+take-whole (suc k) (x ∷ xs) few = ap (λ rest. x ∷ rest) (take-whole k xs (omega arith))
+
+within-some : {X : Type 0} (k : ℕ) (xs : List X) → k < length xs → slice_get xs k ≡ None → ⊥
+within-some k [] few e = omega arith
+within-some zero (x ∷ xs) few e = cc
+within-some (suc k) (x ∷ xs) few e = within-some k xs (omega arith) e
+
+-- The first difference.
+
+-- what was found of a share, and the calls that are left, are the owner's calls
+abbrev pub Goes : ℕ → List Call → List Call → List Call → Type 0
+Goes found share rest all = take found share ++ rest ≡ all
+
+next-call : (owner i : ℕ) (calls : List Call) (d : Call) (b : Bool) → i < length calls → ((get_or calls i d).owner == owner) ≡ b
+    → calls_of owner (drop i calls) ≡ cond b (get_or calls i d ∷ calls_of owner (drop (i + 1) calls)) (calls_of owner (drop (i + 1) calls))
+next-call owner i calls d b within test =
+    at_drop_more (calls_of owner) calls i d within
+    ∙ ap (λ b. cond b (get_or calls i d ∷ calls_of owner (drop (i + 1) calls)) (calls_of owner (drop (i + 1) calls))) test
+
+found-more : (found : ℕ) (share rest all : List Call) (c : Call) → slice_get share found ≡ Some c → Goes found share (c ∷ rest) all → Goes (found + 1) share rest all
+found-more found share rest all c stands goes = rw (add-one found) (take-more found share rest c stands ∙ goes)
+
+pub found-within : (found : ℕ) (share : List Call) (c : Call) → slice_get share found ≡ Some c → found + 1 ≤ length share
+found-within found share c stands = omega (arith, within-get found share c stands)
+
+differs-here : (found : ℕ) (share rest all : List Call) (c : Call) → found ≤ length share → (slice_get share found ≡ Some c → ⊥) → Goes found share (c ∷ rest) all
+    → IsFirstDifference share all (found + 1)
+differs-here found share rest all c few other goes = record {
+  before = found;
+  counted = refl;
+  same = sym (take-itself found share (c ∷ rest) few) ∙ ap (take found) goes;
+  differ = λ same. other (same ∙ sym (ap (λ xs. slice_get xs found) goes) ∙ slice_get-past_front found share rest c few);
+}
+
+-- the next call is another owner's
+pub goes-other : (owner i found : ℕ) (share calls : List Call) (d : Call) → i < length calls → ((get_or calls i d).owner ≡ owner → ⊥)
+    → Goes found share (calls_of owner (drop i calls)) (calls_of owner calls) → Goes found share (calls_of owner (drop (i + 1) calls)) (calls_of owner calls)
+goes-other owner i found share calls d within other goes =
+    subst (λ rest. Goes found share rest (calls_of owner calls)) (next-call owner i calls d false within (differ-eqb (get_or calls i d).owner owner other)) goes
+
+-- it is the owner's, and stands in the share
+pub goes-own : (owner i found : ℕ) (share calls : List Call) (d : Call) → i < length calls → (get_or calls i d).owner ≡ owner → slice_get share found ≡ Some (get_or calls i d)
+    → Goes found share (calls_of owner (drop i calls)) (calls_of owner calls) → Goes (found + 1) share (calls_of owner (drop (i + 1) calls)) (calls_of owner calls)
+goes-own owner i found share calls d within own stands goes =
+    found-more found share (calls_of owner (drop (i + 1) calls)) (calls_of owner calls) (get_or calls i d) stands
+    (subst (λ rest. Goes found share rest (calls_of owner calls)) (next-call owner i calls d true within (eq-eqb (get_or calls i d).owner owner own)) goes)
+
+-- it is the owner's, and doesn't stand there
+pub goes-wrong : (owner i found : ℕ) (share calls : List Call) (d : Call) → i < length calls → (get_or calls i d).owner ≡ owner → found ≤ length share
+    → (slice_get share found ≡ Some (get_or calls i d) → ⊥)
+    → Goes found share (calls_of owner (drop i calls)) (calls_of owner calls) → IsFirstDifference share (calls_of owner calls) (found + 1)
+goes-wrong owner i found share calls d within own few other goes =
+    differs-here found share (calls_of owner (drop (i + 1) calls)) (calls_of owner calls) (get_or calls i d) few other
+    (subst (λ rest. Goes found share rest (calls_of owner calls)) (next-call owner i calls d true within (eq-eqb (get_or calls i d).owner owner own)) goes)
+
+append-nothing : {X : Type 0} (xs : List X) → xs ++ [] ≡ xs
+append-nothing [] = refl
+append-nothing (x ∷ xs) = ap (λ rest. x ∷ rest) (append-nothing xs)
+
+pub differs-at_end : (found : ℕ) (share all : List Call) → found < length share → Goes found share [] all → IsFirstDifference share all (found + 1)
+differs-at_end found share all few goes =
+    let whole : take found share ≡ all = sym (append-nothing (take found share)) ∙ goes in
+    record {
+      before = found;
+      counted = refl;
+      same = sym (take-itself found share [] (omega arith)) ∙ ap (take found) goes;
+      differ = λ same. within-some found share few (same ∙ sym (ap (λ xs. slice_get xs found) whole) ∙ slice_get-of_front found share);
+    }
+
+pub same-at_end : (found : ℕ) (share all : List Call) → length share ≤ found → Goes found share [] all → share ≡ all
+same-at_end found share all few goes = sym (take-whole found share few) ∙ sym (append-nothing (take found share)) ∙ goes
+
+-- Mutators of an owner.
+
+pub next-share-own : (owner i : ℕ) (ms : List MutatorState) (m : MutatorState) → i < length ms → m ≡ get_or ms i m → (m.owner == owner) ≡ true
+    → share_of owner (drop i ms) ≡ m.share.history.calls
+next-share-own owner i ms m within is own =
+    at_drop_more (share_of owner) ms i m within
+    ∙ ap (λ (d : MutatorState). share_of owner (d ∷ drop (i + 1) ms)) (sym is)
+    ∙ ap (λ b. cond b m.share.history.calls (share_of owner (drop (i + 1) ms))) own
+
+pub next-share-other : (owner i : ℕ) (ms : List MutatorState) (m : MutatorState) → i < length ms → m ≡ get_or ms i m → (m.owner == owner) ≡ false
+    → share_of owner (drop i ms) ≡ share_of owner (drop (i + 1) ms)
+next-share-other owner i ms m within is other =
+    at_drop_more (share_of owner) ms i m within
+    ∙ ap (λ (d : MutatorState). share_of owner (d ∷ drop (i + 1) ms)) (sym is)
+    ∙ ap (λ b. cond b m.share.history.calls (share_of owner (drop (i + 1) ms))) other
+
+pub next-count : (owner i : ℕ) (ms : List MutatorState) (m : MutatorState) (b : Bool) → i < length ms → m ≡ get_or ms i m → (m.owner == owner) ≡ b
+    → mutator_count owner (drop i ms) ≡ cond b (1 + mutator_count owner (drop (i + 1) ms)) (mutator_count owner (drop (i + 1) ms))
+next-count owner i ms m b within is test =
+    at_drop_more (mutator_count owner) ms i m within
+    ∙ ap (λ (d : MutatorState). mutator_count owner (d ∷ drop (i + 1) ms)) (sym is)
+    ∙ ap (λ b. cond b (1 + mutator_count owner (drop (i + 1) ms)) (mutator_count owner (drop (i + 1) ms))) test
+
+pub next-below : (owners i : ℕ) (ms : List MutatorState) (m : MutatorState) (b : Bool) → i < length ms → m ≡ get_or ms i m → nat_lt m.owner owners ≡ b
+    → have_owners_below owners (drop i ms) ≡ (b && have_owners_below owners (drop (i + 1) ms))
+next-below owners i ms m b within is test =
+    at_drop_more (have_owners_below owners) ms i m within
+    ∙ ap (λ (d : MutatorState). have_owners_below owners (d ∷ drop (i + 1) ms)) (sym is)
+    ∙ ap (λ b. b && have_owners_below owners (drop (i + 1) ms)) test
+
+-- One mutator for each owner.
+
+-- where each is for one of so many owners, another owner has none
+count-none : (owners o : ℕ) (ms : List MutatorState) → have_owners_below owners ms ≡ true → owners ≤ o → mutator_count o ms ≡ 0
+count-none owners o [] below past = refl
+count-none owners o (m ∷ ms) below past =
+    let parts = and_parts (nat_lt m.owner owners) (have_owners_below owners ms) below in
+    let less : m.owner < owners = ltb-true m.owner owners parts.0 in
+    let other : (m.owner == o) ≡ false = by_test (m.owner == o) refl (omega arith) in
+    rw other (count-none owners o ms parts.1 past)
+  where
+    by_test : (b : Bool) → (m.owner == o) ≡ b → m.owner < o → (m.owner == o) ≡ false
+    by_test true e less = absurd (omega (arith, eqb-true m.owner o e))
+    by_test false e less = e
+
+-- and where no other owner has one, each is for one of them
+below-where : (owners : ℕ) (ms : List MutatorState) → ((o : ℕ) → owners ≤ o → mutator_count o ms ≡ 0) → have_owners_below owners ms ≡ true
+below-where owners [] none = refl
+below-where owners (m ∷ ms) none = by_test (nat_lt m.owner owners) refl (below-where owners ms)
+  where
+    rest : (o : ℕ) → owners ≤ o → (b : Bool) → cond b (1 + mutator_count o ms) (mutator_count o ms) ≡ 0 → mutator_count o ms ≡ 0
+    rest o past true e = absurd (omega arith)
+    rest o past false e = e
+
+    by_test : (b : Bool) → nat_lt m.owner owners ≡ b → (((o : ℕ) → owners ≤ o → mutator_count o ms ≡ 0) → have_owners_below owners ms ≡ true)
+        → (nat_lt m.owner owners && have_owners_below owners ms) ≡ true
+    by_test true e others = rw e (others (λ o past. rest o past (m.owner == o) (none o past)))
+    by_test false e others =
+        let one : mutator_count m.owner (m ∷ ms) ≡ 1 + mutator_count m.owner ms = rw (eq-eqb m.owner m.owner refl) refl in
+        absurd (omega (arith, one, none m.owner (ltb-false m.owner owners e)))
+
+due-within : (owners o : ℕ) → o < owners → due_to owners o ≡ 1
+due-within owners o within = rw (lt-ltb o owners within) refl
+
+due-past : (owners o : ℕ) → owners ≤ o → due_to owners o ≡ 0
+due-past owners o past = rw (le-ltb o owners past) refl
+
+pub one_each-where : (owners : ℕ) (ms : List MutatorState) → have_owners_below owners ms ≡ true → ((o : ℕ) → o < owners → mutator_count o ms ≡ 1) → IsOneEach owners ms
+one_each-where owners ms below ones o = by_test (nat_lt o owners) refl
+  where
+    by_test : (b : Bool) → nat_lt o owners ≡ b → mutator_count o ms ≡ due_to owners o
+    by_test true e = let within = ltb-true o owners e in ones o within ∙ sym (due-within owners o within)
+    by_test false e = let past = ltb-false o owners e in count-none owners o ms below past ∙ sym (due-past owners o past)
+
+pub not_one_each-strangers : (owners : ℕ) (ms : List MutatorState) → have_owners_below owners ms ≡ false → IsOneEach owners ms → ⊥
+not_one_each-strangers owners ms below each =
+    let yes = below-where owners ms (λ o past. each o ∙ due-past owners o past) in
+    cc
+
+pub not_one_each-count : (owners o : ℕ) (ms : List MutatorState) → o < owners → mutator_count o ms ≢ 1 → IsOneEach owners ms → ⊥
+not_one_each-count owners o ms within other each = other (each o ∙ due-within owners o within)
+
+-- an owner without a mutator has an empty share
+share-none : (o : ℕ) (ms : List MutatorState) → mutator_count o ms ≡ 0 → share_of o ms ≡ []
+share-none o [] none = refl
+share-none o (m ∷ ms) none = by_test (m.owner == o) none (share-none o ms)
+  where
+    by_test : (b : Bool) → cond b (1 + mutator_count o ms) (mutator_count o ms) ≡ 0 → (mutator_count o ms ≡ 0 → share_of o ms ≡ []) → cond b m.share.history.calls (share_of o ms) ≡ []
+    by_test true e others = absurd (omega arith)
+    by_test false e others = others e
+
+pub share-stranger : (owners o : ℕ) (ms : List MutatorState) → IsOneEach owners ms → owners ≤ o → share_of o ms ≡ []
+share-stranger owners o ms each past = share-none o ms (each o ∙ due-past owners o past)
+
+-- Strangers.
+
+append-some : {X : Type 0} (xs ys : List X) (y : X) → xs ++ y ∷ ys ≡ [] → ⊥
+append-some [] ys y e = cc
+append-some (x ∷ xs) ys y e = cc
+
+append-left : {X : Type 0} (xs ys : List X) → xs ++ ys ≡ [] → xs ≡ []
+append-left [] ys e = refl
+append-left (x ∷ xs) ys e = absurd (cc)
+
+-- an owner that isn't the call's has the calls that it had
+kept-calls : (o : ℕ) (calls : List Call) (c : Call) → (c.owner ≡ o → ⊥) → calls_of o calls ≡ [] → calls_of o (calls ++ c ∷ []) ≡ []
+kept-calls o calls c other none =
+    calls_of-append o calls (c ∷ []) ∙ ap (λ xs. xs ++ calls_of o (c ∷ [])) none ∙ calls_of-other o c (differ-eqb c.owner o other)
+
+-- and one that had some has some
+more-calls : (o : ℕ) (calls : List Call) (c : Call) → calls_of o calls ≢ [] → calls_of o (calls ++ c ∷ []) ≢ []
+more-calls o calls c some e = some (append-left (calls_of o calls) (calls_of o (c ∷ [])) (sym (calls_of-append o calls (c ∷ [])) ∙ e))
+
+own-calls : (calls : List Call) (c : Call) → calls_of c.owner (calls ++ c ∷ []) ≢ []
+own-calls calls c e =
+    append-some (calls_of c.owner calls) [] c (ap (λ xs. calls_of c.owner calls ++ xs) (sym (calls_of-own c)) ∙ sym (calls_of-append c.owner calls (c ∷ [])) ∙ e)
+
+-- the call of an owner that the heap has changes nothing
+stranger-kept : (found : Option ℕ) (owners : ℕ) (calls : List Call) (c : Call) → c.owner < owners → IsLeastStranger found owners calls → IsLeastStranger found owners (calls ++ c ∷ [])
+stranger-kept None owners calls c has least = λ o past. kept-calls o calls c (λ e. omega arith) (least o past)
+stranger-kept (Some k) owners calls c has least = (
+  least.0,
+  more-calls k calls c least.1,
+  λ o past less. kept-calls o calls c (λ e. omega arith) (least.2 o past less),
+)
+
+-- the call of another owner may make it the least
+stranger-more : (found : Option ℕ) (owners : ℕ) (calls : List Call) (c : Call) → owners ≤ c.owner → IsLeastStranger found owners calls
+    → IsLeastStranger (lesser_of found c.owner) owners (calls ++ c ∷ [])
+stranger-more None owners calls c past least = (past, own-calls calls c, λ o from less. kept-calls o calls c (λ e. omega arith) (least o from))
+stranger-more (Some k) owners calls c past least = by_test (nat_le k c.owner) refl
+  where
+    by_test : (b : Bool) → nat_le k c.owner ≡ b → IsLeastStranger (cond b (Some k) (Some c.owner)) owners (calls ++ c ∷ [])
+    by_test true e =
+        let few = leb-true k c.owner e in
+        (least.0, more-calls k calls c least.1, λ o from less. kept-calls o calls c (λ e. omega arith) (least.2 o from less))
+    by_test false e =
+        let few = leb-false k c.owner e in
+        (past, own-calls calls c, λ o from less. kept-calls o calls c (λ e. omega arith) (least.2 o from (omega arith)))
+
+pub stranger-next : (found : Option ℕ) (owners : ℕ) (calls : List Call) (c : Call) → IsLeastStranger found owners calls
+    → IsLeastStranger (lesser_stranger found c.owner owners) owners (calls ++ c ∷ [])
+stranger-next found owners calls c least = by_test (nat_lt c.owner owners) refl
+  where
+    by_test : (b : Bool) → nat_lt c.owner owners ≡ b → IsLeastStranger (cond b found (lesser_of found c.owner)) owners (calls ++ c ∷ [])
+    by_test true e = stranger-kept found owners calls c (ltb-true c.owner owners e) least
+    by_test false e = stranger-more found owners calls c (ltb-false c.owner owners e) least
+
+-- an empty share differs at 1 from calls of which there are some
+pub differs-at_1 : (share calls : List Call) → share ≡ [] → calls ≢ [] → IsFirstDifference share calls 1
+differs-at_1 share calls none some = record { before = 0; counted = refl; same = refl; differ = λ same. some (empty calls (sym (ap (λ xs. slice_get xs 0) none ∙ refl) ∙ same)) }
+  where
+    empty : (xs : List Call) → None ≡ slice_get xs 0 → xs ≡ []
+    empty [] e = refl
+    empty (x ∷ xs) e = absurd (cc)
+
+-- the least stranger is the least owner whose share differs, where those of the heap's owners don't
+pub stranger-differs : (owners owner : ℕ) (ms : List MutatorState) (calls : List Call) → IsOneEach owners ms → ((o : ℕ) → o < owners → share_of o ms ≡ calls_of o calls)
+    → IsLeastStranger (Some owner) owners calls → HistoryDiffersAt ms calls owner 1
+stranger-differs owners owner ms calls each same least = record {
+  differs = differs-at_1 (share_of owner ms) (calls_of owner calls) (share-stranger owners owner ms each least.0) least.1;
+  least = λ o less. by_test o less (nat_lt o owners) refl;
+}
+  where
+    by_test : (o : ℕ) → o < owner → (b : Bool) → nat_lt o owners ≡ b → share_of o ms ≡ calls_of o calls
+    by_test o less true e = same o (ltb-true o owners e)
+    by_test o less false e = let past = ltb-false o owners e in share-stranger owners o ms each past ∙ sym (least.2 o past less)
+
+pub stranger-none : (owners : ℕ) (ms : List MutatorState) (calls : List Call) → IsOneEach owners ms → ((o : ℕ) → o < owners → share_of o ms ≡ calls_of o calls)
+    → IsLeastStranger None owners calls → (o : ℕ) → share_of o ms ≡ calls_of o calls
+stranger-none owners ms calls each same none o = by_test (nat_lt o owners) refl
+  where
+    by_test : (b : Bool) → nat_lt o owners ≡ b → share_of o ms ≡ calls_of o calls
+    by_test true e = same o (ltb-true o owners e)
+    by_test false e = let past = ltb-false o owners e in share-stranger owners o ms each past ∙ sym (none o past)
