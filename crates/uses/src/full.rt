@@ -1,0 +1,41 @@
+//! A space that is full: a call is refused, the runtime lets go of what it can, and insists.
+
+use crate::problem::Problem;
+use rh_layout::{Command, Refusal, RootId};
+use rh_pace::{Pace, PacedHeap};
+use std::alloc::Allocator;
+
+const WORDS: u32 = 256;
+
+const RATIO: u32 = 32;
+
+const OBJECT_WORDS: u32 = 34;
+
+/// As many words as the objects that the slots hold fill the space.
+const SLOTS: u32 = 7;
+
+/// Fills the slots with objects until the space has no room, makes one more once two are dropped,
+/// and collects. Answers the words that live then.
+pub fn run<A: Allocator + Copy>(alloc: A) -> Result<u32, Problem> {
+    let pace = Pace::filling(WORDS, OBJECT_WORDS, RATIO)?;
+    let mut heap = PacedHeap::new(alloc, pace.config(WORDS, RATIO, 2, SLOTS), pace)?;
+    for slot in 0..SLOTS {
+        heap.alloc(1, RootId { owner: 1, slot }, OBJECT_WORDS - 2)?;
+    }
+    let dst = RootId { owner: 0, slot: 0 };
+    let alloc_one = Command::Alloc {
+        dst,
+        fields: OBJECT_WORDS - 2,
+    };
+    match heap.insist(1, &alloc_one) {
+        Err(Refusal::SpaceFull { .. }) => {}
+        _ => return Err(Problem::Answer),
+    }
+    heap.drop(1, RootId { owner: 1, slot: 0 })?;
+    heap.drop(1, RootId { owner: 1, slot: 1 })?;
+    heap.insist(1, &alloc_one)?;
+    match heap.collect() {
+        Ok(flipped) => Ok(flipped.live_words),
+        Err(_) => Err(Problem::Answer),
+    }
+}

@@ -1,0 +1,64 @@
+//! A list with a collector beside it: numbers are pushed in front of a list, which is dropped and
+//! begun again, in a space that never holds a tenth of what is pushed.
+
+use crate::problem::Problem;
+use rh_layout::{Operand, Reply, RootId};
+use rh_pace::{Pace, PacedHeap};
+use std::alloc::Allocator;
+
+const WORDS: u32 = 2048;
+
+const RATIO: u32 = 32;
+
+/// The words of a cell: a header, a forward word, a number and the rest of the list.
+const CELL_WORDS: u32 = 4;
+
+const OWNER: u32 = 1;
+
+/// The list, the cell that is made, and the cell that is read.
+const LIST: RootId = RootId { owner: 1, slot: 0 };
+
+const CELL: RootId = RootId { owner: 1, slot: 1 };
+
+const NUMBER: RootId = RootId { owner: 1, slot: 2 };
+
+/// Pushes 10,000 numbers, 100 to each list. Answers the sum of the last list, and how many cycles
+/// there were.
+pub fn run<A: Allocator + Copy>(alloc: A) -> Result<(i64, u64), Problem> {
+    let pace = Pace::filling(WORDS, CELL_WORDS, RATIO)?;
+    let mut heap = PacedHeap::new(alloc, pace.config(WORDS, RATIO, 2, 3), pace)?;
+    for n in 0..10_000 {
+        if n % 100 == 0 {
+            heap.drop(OWNER, LIST)?;
+        }
+        push(&mut heap, n)?;
+    }
+    let sum = sum(&mut heap)?;
+    Ok((sum, heap.stat().flips))
+}
+
+/// A new cell stands in front of the list.
+fn push<A: Allocator + Copy>(heap: &mut PacedHeap<A>, n: i64) -> Result<(), Problem> {
+    heap.alloc(OWNER, CELL, 2)?;
+    heap.store(OWNER, CELL, 0, Operand::Int(n))?;
+    heap.store(OWNER, CELL, 1, Operand::Root(LIST))?;
+    heap.copy(OWNER, LIST, CELL)?;
+    Ok(())
+}
+
+/// The sum of the list, which is read from its front, a cell at a time.
+fn sum<A: Allocator + Copy>(heap: &mut PacedHeap<A>) -> Result<i64, Problem> {
+    let mut sum = 0i64;
+    heap.copy(OWNER, CELL, LIST)?;
+    for _ in 0..WORDS {
+        if heap.root(CELL) == Some(rh_layout::Value::Nil) {
+            return Ok(sum);
+        }
+        match heap.load(OWNER, NUMBER, CELL, 0)? {
+            Reply::Int(n) => sum = sum.wrapping_add(n),
+            _ => return Err(Problem::Answer),
+        }
+        heap.load(OWNER, CELL, CELL, 1)?;
+    }
+    Err(Problem::Answer)
+}

@@ -1,0 +1,36 @@
+//! Programs as a runtime's author writes them, over the heap that collects by itself. Each is
+//! proved, and run.
+#![tactic(auto)]
+
+mod full;
+mod list;
+mod owners;
+mod problem;
+mod recorded;
+
+use problem::Problem;
+use std::process::ExitCode;
+
+/// Each program, and what it came to.
+fn run(rt: &(impl Print + AllocGlobal)) -> Result<(), Problem> {
+    let alloc = rt.alloc();
+    let (sum, flips) = list::run(alloc)?;
+    println!(rt; "list sum {sum} flips {flips}")?;
+    let shared = owners::run(alloc)?;
+    println!(rt; "owners shared {shared}")?;
+    let live = full::run(alloc)?;
+    println!(rt; "full live {live}")?;
+    let (calls, objects) = recorded::run(alloc)?;
+    println!(rt; "recorded calls {calls} objects {objects}")?;
+    Ok(())
+}
+
+fn main(rt: HostRuntime) -> ExitCode {
+    match run(&rt) {
+        Ok(()) => ExitCode::SUCCESS,
+        Err(problem) => {
+            let _ = eprintln!(rt; "{problem}");
+            ExitCode::FAILURE
+        }
+    }
+}

@@ -1,0 +1,37 @@
+//! What can go wrong in these programs.
+
+use rh_core::HeapError;
+use rh_layout::{OutOfMemory, Refusal};
+use rh_pace::PaceError;
+use rh_replay::{RecorderError, TraceFull};
+use std::io;
+use thiserror::Error;
+
+/// What can go wrong in these programs.
+#[derive(Debug, Drop, Error)]
+pub enum Problem {
+    /// The sizes make no heap, or memory was refused.
+    #[error("no heap: {0}")]
+    Heap(#[from] HeapError),
+    /// No pace keeps up with these sizes.
+    #[error("no pace: {0}")]
+    Pace(#[from] PaceError),
+    /// A call was refused.
+    #[error("refused: {0}")]
+    Refused(#[from] Refusal),
+    /// No history is recorded.
+    #[error("no recorder: {0}")]
+    Recorder(#[from] RecorderError),
+    /// The history is full.
+    #[error("{0}")]
+    TraceFull(#[from] TraceFull),
+    /// Memory was refused.
+    #[error("{0}")]
+    OutOfMemory(#[from] OutOfMemory),
+    /// A write failed.
+    #[error("write failed")]
+    Write(#[from] io::Error),
+    /// An answer isn't what the program knows it to be.
+    #[error("an answer is wrong")]
+    Answer,
+}

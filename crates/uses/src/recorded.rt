@@ -1,0 +1,63 @@
+//! What was done is kept: each call is noted in a history, which a checker that knows no moving
+//! heap then judges, and the graph that the roots reach is counted.
+
+use crate::problem::Problem;
+use rh_layout::{Command, Operand, RootId};
+use rh_pace::{Pace, PacedHeap};
+use rh_replay::{Recorder, Verdict, check};
+use rh_trace::graph;
+use std::alloc::Allocator;
+
+const WORDS: u32 = 256;
+
+const RATIO: u32 = 32;
+
+const OBJECT_WORDS: u32 = 4;
+
+const FIRST: RootId = RootId { owner: 1, slot: 0 };
+
+const SECOND: RootId = RootId { owner: 1, slot: 1 };
+
+/// Makes pairs, the new one always referring to the one before, each call noted. Answers how many
+/// calls the checker found right, and how many objects the roots reach.
+pub fn run<A: Allocator + Copy>(alloc: A) -> Result<(u32, u64), Problem> {
+    let pace = Pace::filling(WORDS, OBJECT_WORDS, RATIO)?;
+    let mut heap = PacedHeap::new(alloc, pace.config(WORDS, RATIO, 2, 2), pace)?;
+    let mut recorder = Recorder::new(alloc, 2, 2, 64)?;
+    let pair = Command::Alloc {
+        dst: SECOND,
+        fields: 2,
+    };
+    let link = Command::Store {
+        obj: SECOND,
+        field: 0,
+        operand: Operand::Root(FIRST),
+    };
+    let keep = Command::Copy {
+        dst: FIRST,
+        src: SECOND,
+    };
+    for _ in 0..16 {
+        for command in [&pair, &link, &keep] {
+            noted(&mut heap, &mut recorder, command)?;
+        }
+    }
+    let graph = graph(alloc, heap.heap())?;
+    match check(alloc, recorder.history())? {
+        Verdict::Legal(calls) => Ok((calls, graph.objects())),
+        Verdict::Wrong { .. } => Err(Problem::Answer),
+    }
+}
+
+/// Does a command of owner 1, and notes it with its answer unless a limit refused it.
+fn noted<A: Allocator + Copy>(
+    heap: &mut PacedHeap<A>,
+    recorder: &mut Recorder<A>,
+    command: &Command,
+) -> Result<(), Problem> {
+    let answer = heap.command(1, command);
+    match answer {
+        Err(refusal) if refusal.is_limit() => Ok(()),
+        _ => Ok(recorder.note(1, command, answer)?),
+    }
+}
