@@ -12,6 +12,7 @@ mod running;
 mod stop;
 mod summary;
 
+pub use answers::put_total;
 pub use heap_dump::graph;
 pub use rh_engine::{DealRefusal, Engine, GiveRefusal, JoinRefusal, TrayDeal, Trays};
 pub use rh_syntax::{
@@ -21,5 +22,5 @@ pub use rh_syntax::{
 };
 pub use rh_text::Write;
 pub use run_fault::RunFault;
-pub use running::{run_trace, run_trace_logged};
+pub use running::{config_of, run_trace, run_trace_logged};
 pub use summary::Summary;

@@ -30,7 +30,7 @@ use std::alloc::Allocator;
 use std::io;
 
 /// The heap that a trace's first line asks for; its store numbers and epochs go up to 2^62.
-fn config_of(header: Header) -> Config
+pub fn config_of(header: Header) -> Config
     ensures { result ≡ config_of header }
 {
     Config {
