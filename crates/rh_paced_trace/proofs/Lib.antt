@@ -1,0 +1,4 @@
+pub mod CollectorWork
+pub mod PlainAnswers
+pub mod InTurn
+pub mod Fillings

@@ -1,0 +1,138 @@
+-- What a paced run writes are the answers of a plain heap.
+use Rattle.std.proofs.Common.{◌≡◌, ℕ, ◌≤◌, List, [], ◌∷◌, length, Option, Some, None, Result, Ok, Err, refl, sym, ap, subst}
+use Rattle.std.specs.Prelude.{IfOk, IsErrOf}
+use Rattle.std.specs.Io.KnownBytes.{Appends, Consumes, Keeps}
+use Rattle.rh_layout.specs.declared.command.Command.{Command}
+use Rattle.rh_model.specs.Plain.{PlainHeap, empty_plain, step}
+use Rattle.rh_mutator.specs.declared.config.Config.{Config}
+use Rattle.rh_mutator.specs.Config.{fault_of}
+use Rattle.rh_mutator.specs.Mutator.{StandsFor}
+use Rattle.rh_mutator.specs.Commands.{is_limit_answer, AnswersAs, plain_unless}
+use Rattle.rh_core.specs.Heap.{HeapState, new_heap, IsWellFormed}
+use Rattle.rh_layout.specs.declared.command.RootId.{RootId}
+use Rattle.rh_core.specs.Commands.{heap_step}
+use Rattle.rh_core.specs.Cycle.{begin_step, flip_step}
+use Rattle.rh_core.specs.Holding.{hold_step}
+use Rattle.rh_core.specs.Idle.{idle_step}
+use Rattle.rh_core.specs.Shading.{shade_step}
+use Rattle.rh_core.specs.declared.event.Event.{Event}
+use Rattle.rh_core.specs.declared.event.Event.TheVariants as events
+use Rattle.rh_core.specs.runs.Collected.{IsCollected}
+use Rattle.rh_core.specs.runs.Programs.{CommandAnswers}
+use Rattle.rh_core.specs.runs.Run as runs
+use Rattle.rh_core.specs.runs.Run.{event_step}
+use Rattle.rh_text.specs.Output.{AppendsLess}
+use Rattle.rh_syntax.specs.Spelling.{Script}
+use Rattle.rh_syntax.specs.lemmas.ReadIsSpelled.{trace_of-means}
+use Rattle.rh_trace.specs.declared.summary.Summary.{Summary}
+use Rattle.rh_trace.specs.Run.{config_of}
+use Rattle.rh_pace.specs.declared.pace.Pace.{Pace}
+use Rattle.rh_pace.specs.Paced.{PacedState, after_answer, paced_step, with_command}
+use Rattle.rh_paced_trace.specs.declared.fault.PacedFault.{PacedFault}
+use Rattle.rh_paced_trace.specs.declared.fault.PacedFault.TheVariants as faults
+use Rattle.rh_paced_trace.specs.Lines.{Commands, commands_in}
+use Rattle.rh_paced_trace.specs.Run.{answers_to, new_run, output_of, sum_of, text_of, IsRun, Ends, AreTransparent, IsPlainRun, AreSumsOf}
+use Rattle.rh_paced_trace.proofs.CollectorWork.{WorkLaws, answered}
+
+-- a well-formed heap that stands for a plain heap
+abbrev IsPlain : HeapState → PlainHeap → Type 0
+IsPlain h p = IsWellFormed h × StandsFor h.mutators p
+
+-- what the laws of a heap say of it and the plain heap that it stands for
+pub record PlainLaws (A : Type 0) : Type 0 where
+  pub work : WorkLaws A
+  pub new : (c : Config) → fault_of c ≡ None → IsWellFormed (new_heap c)
+  pub begins : (c : Config) → StandsFor (new_heap c).mutators (empty_plain c.owners c.slots)
+  pub steps : (h : HeapState) → IsWellFormed h → (p : PlainHeap) → StandsFor h.mutators p → (event : Event A)
+      → runs.IsPlainAnswer p event (event_step h event).1 × StandsFor (event_step h event).0.mutators (runs.plain_after p event (event_step h event).1)
+  pub keeps : (h : HeapState) → IsWellFormed h → (event : Event A) → IsWellFormed (event_step h event).0
+  pub well : (h k : HeapState) → IsWellFormed h → IsCollected A h k → IsWellFormed k
+  pub stands : (h k : HeapState) → IsWellFormed h → IsCollected A h k → (p : PlainHeap) → StandsFor h.mutators p → StandsFor k.mutators p
+
+-- what the public laws of a heap say
+pub laws_of : {A : Type 0}
+    → ((h : HeapState) → IsCollected A h h)
+    → ((g h k : HeapState) → IsCollected A g h → IsCollected A h k → IsCollected A g k)
+    → ((h : HeapState) → IsCollected A h (begin_step h).0)
+    → ((h : HeapState) (root : RootId) → IsCollected A h (shade_step h root).0)
+    → ((h : HeapState) → IsCollected A h (hold_step h).0)
+    → ((h : HeapState) → IsCollected A h (flip_step h).0)
+    → ((h : HeapState) (words : ℕ) → IsCollected A h (idle_step h words).0)
+    → ((h k : HeapState) → IsWellFormed h → IsCollected A h k → IsWellFormed k)
+    → ((h k : HeapState) → IsWellFormed h → IsCollected A h k → (p : PlainHeap) → StandsFor h.mutators p → StandsFor k.mutators p)
+    → ((c : Config) → fault_of c ≡ None → IsWellFormed (new_heap c))
+    → ((c : Config) → StandsFor (new_heap c).mutators (empty_plain c.owners c.slots))
+    → ((h : HeapState) → IsWellFormed h → (p : PlainHeap) → StandsFor h.mutators p → (event : Event A)
+    → runs.IsPlainAnswer p event (event_step h event).1 × StandsFor (event_step h event).0.mutators (runs.plain_after p event (event_step h event).1))
+    → ((h : HeapState) → IsWellFormed h → (event : Event A) → IsWellFormed (event_step h event).0)
+    → PlainLaws A
+laws_of none both begin shade hold flip idle well stands new begins steps keeps = record {
+  work = record { none = none; both = both; begin = begin; shade = shade; hold = hold; flip = flip; idle = idle };
+  new = new;
+  begins = begins;
+  steps = steps;
+  keeps = keeps;
+  well = well;
+  stands = stands;
+}
+
+module _ {A : Type 0} (laws : PlainLaws A) where
+  -- a command is answered as by the plain heap, and the heap goes on to stand for it
+  one : (s : PacedState) (p : PlainHeap) → IsPlain s.heap p → (owner : ℕ) (command : Command)
+      → AnswersAs (paced_step s owner command).1 (step p owner command).1
+      × IsPlain (paced_step s owner command).0.heap (plain_unless (is_limit_answer (paced_step s owner command).1) p owner command)
+  unfolding paced_step
+  one s p plain owner command =
+      let event : Event A = events.Command owner command in
+      let done = heap_step s.heap owner command in
+      let next = after_answer done.1 command (with_command s owner command) in
+      let steps = laws.steps s.heap plain.0 p plain.1 event in
+      let well = laws.keeps s.heap plain.0 event in
+      let work = answered laws.work done.1 command (with_command s owner command) in
+      (steps.0, (laws.well done.0 next.heap well work, laws.stands done.0 next.heap well work (plain_unless (is_limit_answer done.1) p owner command) steps.1))
+
+  transparent : (commands : Commands) (s : PacedState) (p : PlainHeap) → IsPlain s.heap p → AreTransparent p commands (answers_to s commands)
+  transparent [] s p plain = tt
+  transparent (owned ∷ others) s p plain =
+      let first = one s p plain owned.0 owned.1 in
+      (first.0, transparent others (paced_step s owned.0 owned.1).0 (plain_unless (is_limit_answer (paced_step s owned.0 owned.1).1) p owned.0 owned.1) first.1)
+
+  -- what a run is answered
+  abbrev answers_of : Script → Pace → CommandAnswers
+  answers_of script pace = answers_to (new_run script pace) (commands_in script.requests)
+
+  plain_run : (mark : Option ℕ) (input : List ℕ) (script : Script) (pace : Pace) (old new : Option (List ℕ)) → IsRun mark input script pace → Consumes old new input → IsPlainRun script (answers_of script pace) old new
+  plain_run mark input script pace old new run consumed =
+      let takes = trace_of-means input script run.trace.read in
+      let c = config_of script.header in
+      record {
+        fits = takes.0;
+        read = subst (Consumes old new) takes.1 consumed;
+        commands = run.trace.commands;
+        answered = transparent (commands_in script.requests) (new_run script pace) (empty_plain script.header.owners script.header.slots) (laws.new c run.sizes, laws.begins c);
+      }
+
+  sums : (script : Script) (pace : Pace) → AreSumsOf (answers_of script pace) (sum_of script pace)
+  sums script pace = record { commands = refl; refused = refl }
+
+  module _ (mark : Option ℕ) (input : List ℕ) (from to old new : Option (List ℕ)) (consumed : Consumes from to input) where
+    pub plain : (result : Result Summary PacedFault) → Ends mark input result old new
+        → IfOk result (λ summary. (script : Script) × (answers : CommandAnswers) × IsPlainRun script answers from to × AreSumsOf answers summary × Appends old new (output_of answers summary))
+    plain (Err fault) ends = tt
+    plain (Ok summary) ends =
+        let answers = answers_of ends.0 ends.1 in (
+          ends.0,
+          answers,
+          plain_run mark input ends.0 ends.1 from to ends.2 consumed,
+          subst (AreSumsOf answers) (sym ends.3) (sums ends.0 ends.1),
+          subst (λ (s : Summary). Appends old new (output_of answers s)) (sym ends.3) ends.4,
+        )
+
+    pub plain_prefix : (result : Result Summary PacedFault) → Ends mark input result old new → IsErrOf result faults.Write
+        → (script : Script) × (answers : CommandAnswers) × (summary : Summary) × IsPlainRun script answers from to × AreSumsOf answers summary × AppendsLess old new (output_of answers summary)
+    plain_prefix result ends failed =
+        let cut = subst (λ (r : Result Summary PacedFault). Ends mark input r old new) failed ends in
+        (cut.0, answers_of cut.0 cut.1, sum_of cut.0 cut.1, plain_run mark input cut.0 cut.1 from to cut.2 consumed, sums cut.0 cut.1, cut.3)
+
+    pub unwritten : (result : Result Summary PacedFault) → Ends mark input result old new → IsErrOf result faults.OutOfMemory → Keeps old new
+    unwritten result ends refused = subst (λ (r : Result Summary PacedFault). Ends mark input r old new) refused ends

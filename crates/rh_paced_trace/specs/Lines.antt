@@ -1,0 +1,46 @@
+-- The commands of a trace, its lines that are none, and the biggest object that it asks for.
+use Rattle.std.specs.Prelude.{ℕ, ◌+◌, min, max, List, [], ◌∷◌, Option, Some, None, Result, Ok, Err}
+use Rattle.rh_layout.specs.declared.command.Command.{Command}
+use Rattle.rh_layout.specs.declared.command.Command.TheVariants.{Alloc, Load, Store, Copy, Same, Drop}
+use Rattle.rh_syntax.specs.declared.fault.Kind.TheVariants.{Word}
+use Rattle.rh_syntax.specs.declared.fault.TraceFault.{TraceFault}
+use Rattle.rh_syntax.specs.declared.request.Request.{Request}
+use Rattle.rh_syntax.specs.declared.request.Request.TheVariants as requests
+use Rattle.rh_syntax.specs.Reading.{fault_at}
+use Rattle.rh_syntax.specs.Spelling.{Script}
+
+-- commands, each with its owner
+abbrev pub Commands : Type 0
+Commands = List (ℕ × Command)
+
+-- those among requests, in order
+abbrev pub commands_in : List Request → Commands
+commands_in [] = []
+commands_in (requests.Command owner command ∷ others) = (owner, command) ∷ commands_in others
+commands_in (other ∷ others) = commands_in others
+
+-- the fault Word of the first request that is no command; they stand on the lines from this number
+-- on
+abbrev pub other_fault : ℕ → List Request → Option TraceFault
+other_fault number [] = None
+other_fault number (requests.Command owner command ∷ others) = other_fault (number + 1) others
+other_fault number (other ∷ others) = Some (fault_at number Word)
+
+-- the first fault of what was read, as a trace of commands alone: the trace's own comes first
+abbrev pub fault_in : Result Script TraceFault → Option TraceFault
+fault_in (Err fault) = Some fault
+fault_in (Ok script) = other_fault 2 script.requests
+
+-- the words of the object that a command asks for: its fields and 2, and at most 4,097
+abbrev pub words_asked : Command → ℕ
+words_asked (Alloc dst fields) = min (fields + 2) 4097
+words_asked (Load dst src field) = 0
+words_asked (Store obj field operand) = 0
+words_asked (Copy dst src) = 0
+words_asked (Same a b) = 0
+words_asked (Drop root) = 0
+
+-- the words of the biggest object that commands ask for, and at least 2
+abbrev pub biggest_of : Commands → ℕ
+biggest_of [] = 2
+biggest_of (owned ∷ others) = max (words_asked owned.1) (biggest_of others)

@@ -1,0 +1,127 @@
+-- What a paced run of an input gives, and how it ends.
+use Rattle.std.specs.Prelude.{◌≡◌, ℕ, ◌<◌, ◌≤◌, List, [], ◌∷◌, ◌++◌, length, count_by, is_err, Option, Some, None, Result, Ok, Err}
+use Rattle.std.specs.List.{flat_map}
+use Rattle.std.specs.Io.KnownBytes.{Appends, Consumes, Keeps}
+use Rattle.rh_model.specs.Plain.{PlainHeap, empty_plain, step}
+use Rattle.rh_mutator.specs.Config.{fault_of}
+use Rattle.rh_mutator.specs.Commands.{is_limit_answer, AnswersAs, plain_unless}
+use Rattle.rh_core.specs.Heap.{new_heap}
+use Rattle.rh_core.specs.runs.Programs.{CommandAnswers}
+use Rattle.rh_text.specs.Output.{AppendsLess}
+use Rattle.rh_syntax.specs.Reading.{trace_of}
+use Rattle.rh_syntax.specs.Spelling.{Script, IsScript, spelling}
+use Rattle.rh_trace.specs.declared.summary.Summary.{Summary}
+use Rattle.rh_trace.specs.Answers.{answer_line, total_line}
+use Rattle.rh_trace.specs.Run.{config_of}
+use Rattle.rh_pace.specs.declared.pace.Pace.{Pace}
+use Rattle.rh_pace.specs.Paced.{PacedState, paced_heap, paced_step}
+use Rattle.rh_paced_trace.specs.declared.fault.PacedFault.{PacedFault}
+use Rattle.rh_paced_trace.specs.declared.fault.PacedFault.TheVariants as faults
+use Rattle.rh_paced_trace.specs.Lines.{Commands, commands_in, fault_in, other_fault}
+use Rattle.rh_paced_trace.specs.Pacing.{IsPaceOf}
+
+-- what a paced heap answers to commands, in order
+abbrev pub answers_to : PacedState → Commands → CommandAnswers
+answers_to s [] = []
+answers_to s (owned ∷ others) =
+    (paced_step s owned.0 owned.1).1 ∷ answers_to (paced_step s owned.0 owned.1).0 others
+
+-- the paced heap after them
+abbrev pub state_after : PacedState → Commands → PacedState
+state_after s [] = s
+state_after s (owned ∷ others) = state_after (paced_step s owned.0 owned.1).0 others
+
+-- what the answers add up to, and what the heap counted that gave them
+abbrev pub summary_of : CommandAnswers → PacedState → Summary
+summary_of answers last = record {
+  commands = length answers;
+  refused = count_by is_err answers;
+  flips = last.heap.flips;
+  root_words = last.heap.root_words;
+}
+
+-- a line for each answer, and the total line
+abbrev pub output_of : CommandAnswers → Summary → List ℕ
+output_of answers summary = flat_map answer_line answers ++ total_line summary
+
+-- what a paced heap answers to these commands, and what that adds up to
+abbrev pub summary_to : PacedState → Commands → Summary
+summary_to s commands = summary_of (answers_to s commands) (state_after s commands)
+
+-- the text of that
+abbrev pub output_to : PacedState → Commands → List ℕ
+output_to s commands = output_of (answers_to s commands) (summary_to s commands)
+
+-- what a run begins with: a new heap of the sizes of the first line, at this pace
+abbrev pub new_run : Script → Pace → PacedState
+new_run script pace = paced_heap (new_heap (config_of script.header)) pace
+
+-- the text of a run, and what it adds up to
+abbrev pub text_of : Script → Pace → List ℕ
+text_of script pace = output_to (new_run script pace) (commands_in script.requests)
+
+abbrev pub sum_of : Script → Pace → Summary
+sum_of script pace = summary_to (new_run script pace) (commands_in script.requests)
+
+-- the input is this trace, of commands alone, and within the limit of bytes
+pub record IsCommandTrace (input : List ℕ) (script : Script) : Type 0 where
+  pub few : length input ≤ 16777216
+  pub read : trace_of input ≡ Ok script
+  pub commands : other_fault 2 script.requests ≡ None
+
+-- the input is such a trace, the sizes of its heap have no fault, and this is the pace of its run,
+-- by the mark where one is asked for
+pub record IsRun (mark : Option ℕ) (input : List ℕ) (script : Script) (pace : Pace) : Type 0 where
+  pub trace : IsCommandTrace input script
+  pub sizes : fault_of (config_of script.header) ≡ None
+  pub paced : IsPaceOf mark script (Ok pace)
+
+-- How a paced run of an input ends: with its whole text written; with the first fault of the input,
+-- or why there is no pace, and nothing written; where a write failed with a prefix of its text
+-- written, and not all; and where a read failed or memory was refused with nothing written.
+abbrev pub Ends : Option ℕ → List ℕ → Result Summary PacedFault → Option (List ℕ)
+    → Option (List ℕ) → Type 0
+Ends mark input (Ok summary) old new =
+    (script : Script) × (pace : Pace) × IsRun mark input script pace
+    × (summary ≡ sum_of script pace) × Appends old new (text_of script pace)
+Ends mark input (Err faults.Write) old new =
+    (script : Script) × (pace : Pace) × IsRun mark input script pace
+    × AppendsLess old new (text_of script pace)
+Ends mark input (Err faults.Long) old new = (16777216 < length input) × Keeps old new
+Ends mark input (Err (faults.Trace fault)) old new =
+    (length input ≤ 16777216) × (fault_in (trace_of input) ≡ Some fault) × Keeps old new
+Ends mark input (Err (faults.New fault)) old new =
+    (script : Script) × IsCommandTrace input script
+    × (fault_of (config_of script.header) ≡ Some fault) × Keeps old new
+Ends mark input (Err (faults.Pace why)) old new =
+    (script : Script) × IsCommandTrace input script
+    × (fault_of (config_of script.header) ≡ None) × IsPaceOf mark script (Err why)
+    × Keeps old new
+Ends mark input (Err faults.Read) old new = Keeps old new
+Ends mark input (Err faults.OutOfMemory) old new = Keeps old new
+
+-- The answers to commands are those of a plain heap, one by one, but for limits; it goes on by each
+-- command that no limit refused.
+abbrev pub AreTransparent : PlainHeap → Commands → CommandAnswers → Type 0
+AreTransparent p [] [] = Unit {0}
+AreTransparent p [] (answer ∷ answers) = ⊥
+AreTransparent p (owned ∷ others) [] = ⊥
+AreTransparent p (owned ∷ others) (answer ∷ answers) =
+    AnswersAs answer (step p owned.0 owned.1).1
+    × AreTransparent (plain_unless (is_limit_answer answer) p owned.0 owned.1) others answers
+
+-- The bytes that a reader gave spell this trace, it has commands alone, and the answers to them are
+-- those of a plain heap that begins empty, but for limits.
+pub record IsPlainRun (script : Script) (answers : CommandAnswers) (old new : Option (List ℕ))
+    : Type 0 where
+  pub fits : IsScript script
+  pub read : Consumes old new (spelling script)
+  pub commands : other_fault 2 script.requests ≡ None
+  pub answered :
+      AreTransparent (empty_plain script.header.owners script.header.slots)
+      (commands_in script.requests) answers
+
+-- the sums tell how many answers there are, and how many of them are refusals
+pub record AreSumsOf (answers : CommandAnswers) (summary : Summary) : Type 0 where
+  pub commands : summary.commands ≡ length answers
+  pub refused : summary.refused ≡ count_by is_err answers

@@ -1,0 +1,13 @@
+//! Paced runs: traces of commands alone, run on a heap that collects by itself.
+#![tactic(auto)]
+
+mod fault;
+mod lines;
+mod pacing;
+mod playing;
+mod running;
+
+pub use fault::PacedFault;
+pub use rh_pace::{Pace, PaceError};
+pub use rh_trace::Summary;
+pub use running::{run_paced, run_paced_logged};
