@@ -46,8 +46,8 @@ type Step = (
 /// Two objects of 2 and 6 fields leave 20 words free, and no cycle begins; the third one begins it,
 /// and grants nothing yet. The fourth grants 16 units: three objects are placed, of which the third
 /// has no field, and one field is held. A store pays 8, which holds the entry, passes over its copy
-/// and holds another field. The last object grants 24: five fields, its place, and its field, so the
-/// cycle ends.
+/// and holds another field. The last object grants 24: five fields, its place, and its field, so
+/// the cycle ends.
 pub const STEPS: &[Step] = &[
     (
         Command::Alloc { dst: A, fields: 2 },

@@ -44,7 +44,7 @@ impl<A: Allocator + Copy> Both<A> {
 /// The least words at which a pace keeps up.
 fn least_words(program: &Program, ratio: u32) -> u32 {
     match Pace::of(0, program.live, program.biggest, ratio) {
-        Err(PaceError::TooSmall { need }) => need as u32,
+        Err(PaceError::TooSmall { need }) => u32::try_from(need).unwrap_or(0),
         _ => 0,
     }
 }
