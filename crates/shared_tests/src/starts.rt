@@ -1,0 +1,181 @@
+//! What a shared heap starts with.
+
+use crate::expectations::{expect_equal, expect_refusals, expect_texts};
+use refusing::refused_in_turn;
+use rh_core::{Config, ConfigFault};
+use rh_layout::{OutOfMemory, Refusal};
+use rh_shared::{CallError, CloseError, SharedConfig, SharedFault, SharedHeap, Start, StartError};
+use std::alloc::Allocator;
+
+/// Two owners with two slots each.
+pub const SMALL: Config = Config {
+    words: 64,
+    ratio: 8,
+    owners: 2,
+    slots: 2,
+    log_limit: 8,
+    last_number: 1 << 62,
+    last_epoch: 1 << 62,
+};
+
+/// A cycle begins with the first call, and all is dealt at once.
+pub const EAGER: SharedConfig = SharedConfig {
+    replicators: 0,
+    copies: 1,
+    most: 16,
+    mark: 64,
+    history: 8,
+    patience: 0,
+    idle: 0,
+};
+
+/// Each configuration with one fault more than the one after it, and the fault that is told.
+const FAULTY: &[(Config, SharedConfig, StartError)] = &[
+    (
+        Config { words: 7, ..SMALL },
+        SharedConfig {
+            replicators: 1,
+            copies: 0,
+            most: 65,
+            history: 0,
+            ..EAGER
+        },
+        StartError::Config(ConfigFault::BadSpace),
+    ),
+    (
+        SMALL,
+        SharedConfig {
+            replicators: 1,
+            copies: 0,
+            most: 65,
+            history: 0,
+            ..EAGER
+        },
+        StartError::Shared(SharedFault::BadReplicators),
+    ),
+    (
+        SMALL,
+        SharedConfig {
+            copies: 2,
+            most: 65,
+            history: 0,
+            ..EAGER
+        },
+        StartError::Shared(SharedFault::BadCopies),
+    ),
+    (
+        SMALL,
+        SharedConfig {
+            most: 65,
+            history: 0,
+            ..EAGER
+        },
+        StartError::Shared(SharedFault::BadMost),
+    ),
+    (
+        SMALL,
+        SharedConfig {
+            history: 0,
+            ..EAGER
+        },
+        StartError::Shared(SharedFault::BadHistory),
+    ),
+    (
+        SMALL,
+        SharedConfig { copies: 0, ..EAGER },
+        StartError::Shared(SharedFault::BadCopies),
+    ),
+    (
+        SMALL,
+        SharedConfig { most: 0, ..EAGER },
+        StartError::Shared(SharedFault::BadMost),
+    ),
+    (
+        SMALL,
+        SharedConfig {
+            history: 1_048_577,
+            ..EAGER
+        },
+        StartError::Shared(SharedFault::BadHistory),
+    ),
+];
+
+#[test]
+fn the_first_fault_is_told(rt: HostRuntime) {
+    for &(config, shared, fault) in FAULTY {
+        let refused = Start::new(rt.alloc(), config, shared).err();
+        expect_equal(&rt, refused, Some(fault));
+    }
+}
+
+#[test]
+fn the_greatest_sizes_start(rt: HostRuntime) {
+    let shared = SharedConfig {
+        most: 64,
+        mark: u32::MAX,
+        history: 1_048_576,
+        patience: u32::MAX,
+        idle: u32::MAX,
+        ..EAGER
+    };
+    assert!(rt; Start::new(rt.alloc(), SMALL, shared).is_ok());
+}
+
+/// Whether a start met want of memory, which is told as that alone.
+fn start_is_refused<A: Allocator + Copy>(alloc: A) -> bool {
+    matches!(
+        Start::new(alloc, SMALL, EAGER),
+        Err(StartError::OutOfMemory)
+    )
+}
+
+/// Whether a shared heap met want of memory once it had started.
+fn shared_heap_is_refused<A: Allocator + Copy>(alloc: A) -> bool {
+    match Start::new(alloc, SMALL, EAGER) {
+        Ok(start) => matches!(SharedHeap::new(alloc, start), Err(OutOfMemory)),
+        Err(_) => true,
+    }
+}
+
+#[test]
+fn refused_memory_is_told(rt: HostRuntime) {
+    let starts = refused_in_turn(rt.alloc(), |memory| start_is_refused(memory));
+    expect_refusals(&rt, starts, 5);
+    let heaps = refused_in_turn(rt.alloc(), |memory| shared_heap_is_refused(memory));
+    expect_refusals(&rt, heaps, 9);
+}
+
+#[test]
+fn each_error_has_its_text(rt: HostRuntime) {
+    expect_texts(
+        &rt,
+        &[
+            (StartError::Config(ConfigFault::BadLog), "BadLog"),
+            (
+                StartError::Shared(SharedFault::BadReplicators),
+                "BadReplicators",
+            ),
+            (StartError::Shared(SharedFault::BadCopies), "BadCopies"),
+            (StartError::Shared(SharedFault::BadMost), "BadMost"),
+            (StartError::Shared(SharedFault::BadHistory), "BadHistory"),
+            (StartError::OutOfMemory, "out of memory"),
+        ],
+    );
+    expect_texts(
+        &rt,
+        &[
+            (CallError::TraceFull, "TraceFull"),
+            (CallError::Heap(Refusal::NoRoot), "NoRoot"),
+        ],
+    );
+    expect_texts(
+        &rt,
+        &[
+            (CloseError::SharesMissing, "SharesMissing"),
+            (
+                CloseError::HistoryDiffers { owner: 2, at: 4 },
+                "HistoryDiffers owner 2 at 4",
+            ),
+        ],
+    );
+}
