@@ -1,0 +1,76 @@
+//! The benches of the heap that collects by itself: `paced_benches NAME ARGUMENTS`. Without a name
+//! each of them runs once, on little.
+#![tactic(auto)]
+
+mod binary_trees;
+mod gc_bench;
+mod latency;
+mod setting;
+mod stream;
+mod tree;
+
+use std::env;
+use std::process::ExitCode;
+use std::rt::{Clock, Env};
+use std::time::CpuClock;
+
+/// Each bench once, on little; nothing where one failed.
+fn run_each(rt: &(impl Print + Input + Clock + CpuClock + AllocGlobal)) -> Option<()> {
+    binary_trees::run(rt, 8, 8192)?;
+    gc_bench::run(rt, gc_bench::Depths::LITTLE, 8192)
+}
+
+/// The number that an argument is; nothing where it is none.
+fn number(text: Option<&str>) -> Option<u32> {
+    text?.parse::<u32>().ok()
+}
+
+/// The bench of this name with these arguments; nothing where it failed or has another name.
+fn run_one(
+    rt: &(impl Print + Input + Clock + CpuClock + AllocGlobal),
+    name: &str,
+    first: Option<&str>,
+    second: Option<&str>,
+    third: Option<&str>,
+    fourth: Option<&str>,
+) -> Option<()> {
+    match name {
+        "stream" => stream::run(
+            rt,
+            setting::Setting {
+                headroom: number(first)?,
+                passes: number(second)?,
+                ratio: number(third)?,
+                mark: number(fourth)?,
+            },
+        ),
+        "binary-trees" => binary_trees::run(rt, number(first)?, number(second)?),
+        "gc-bench" => gc_bench::run(rt, gc_bench::Depths::WHOLE, number(first)?),
+        _ => None,
+    }
+}
+
+/// The bench that the arguments name, or each; nothing where one failed.
+fn run(rt: &(impl Env + Print + Input + Clock + CpuClock + AllocGlobal)) -> Option<()> {
+    let mut args = env::args(rt).ok()?;
+    let Some(name) = args.nth(1) else {
+        return run_each(rt);
+    };
+    let (first, second) = (args.next(), args.next());
+    let (third, fourth) = (args.next(), args.next());
+    run_one(
+        rt,
+        name.as_str(),
+        first.as_deref(),
+        second.as_deref(),
+        third.as_deref(),
+        fourth.as_deref(),
+    )
+}
+
+fn main(rt: HostRuntime) -> ExitCode {
+    match run(&rt) {
+        Some(()) => ExitCode::SUCCESS,
+        None => ExitCode::FAILURE,
+    }
+}
