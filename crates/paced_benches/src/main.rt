@@ -17,7 +17,7 @@ use std::time::CpuClock;
 /// Each bench once, on little; nothing where one failed.
 fn run_each(rt: &(impl Print + Input + Clock + CpuClock + AllocGlobal)) -> Option<()> {
     binary_trees::run(rt, 8, 8192)?;
-    gc_bench::run(rt, gc_bench::Depths::LITTLE, 8192)
+    gc_bench::run(rt, gc_bench::Depths::LITTLE, 32_768)
 }
 
 /// The number that an argument is; nothing where it is none.
