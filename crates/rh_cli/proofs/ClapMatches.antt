@@ -1,14 +1,13 @@
 -- What clap's matches hold, as far as a request is read from them.
-use Rattle.std.proofs.Common.{◌≡◌, ◌≢◌, List, [], Option, Some, None, option_map, ap, sym, codes, true, refl, ◌∙◌}
-use Rattle.clap.specs.Words.{Row, Text, App, first_value, found_of, rows_of, subcommand_rows_of, is_simple, HasMatchesOf, subcommand_name_of, subcommand_of, takes}
+use Rattle.std.proofs.Common.{◌≡◌, List, Option, Some, None, Err, option_map, ap, sym, codes, true, refl, ◌∙◌}
+use Rattle.clap.specs.Words.{Row, Text, App, first_of, first_value, found_of, rows_of, subcommand_rows_of, is_simple, HasMatchesOf, subcommand_name_of, subcommand_of, takes}
 use Rattle.clap.specs.declared.parser.matches.ArgMatches.{ArgMatches}
 use Rattle.clap.specs.declared.parser.matches.ArgMatches.TheViews.{out-ArgMatches, out-SubCommand}
 use Rattle.std.specs.Box.{box_value}
 use Rattle.clap.proofs.WalkLemmas.{first_value-rows}
 use Rattle.clap.proofs.OnLiterals.{clap_on_literals}
-use Rattle.rh_cli.specs.declared.ask.Subcommand.{Subcommand}
-use Rattle.rh_cli.specs.declared.ask.Subcommand.TheVariants.{Run, Replay, Dump}
-use Rattle.rh_cli.specs.Ask.{command_and_file_in, command_and_file_of, with_file, rheap_app, is_taken, name_of}
+use Rattle.rh_cli.specs.declared.fault.LineFault.TheVariants as faults
+use Rattle.rh_cli.specs.Ask.{command_and_file_in, command_and_file_of, command_named, is_set, with_file, rheap_app, is_taken}
 
 abbrev both : {X : Type 0} → (X → Text) → (X → List Row) → X → Text × List Row
 both name rows x = (name x, rows x)
@@ -21,13 +20,28 @@ rows_are : {X : Type 0} (name : X → Text) (rows : X → List Row) (o : Option 
 rows_are name rows None n r e f = absurd cc
 rows_are name rows (Some x) n r e f = cc
 
--- a subcommand with this name and these matches is held with the file that they have
-pub command_and_file_in-matches : (m : ArgMatches) (n : Text) (values : ArgMatches) (file : Option Text) → Some n ≡ subcommand_name_of m
+no_rows : {X : Type 0} (name : X → Text) (rows : X → List Row) (o : Option X) → None ≡ option_map name o → option_map (both name rows) o ≡ None
+no_rows name rows None e = refl
+no_rows name rows (Some x) e = absurd cc
+
+-- what three values of the same matches hold
+from_values : (rows : List Row) (n : Text) (file paced mark : Option Text) → file ≡ first_of (codes "FILE") rows → paced ≡ first_of (codes "paced") rows → mark ≡ first_of (codes "mark") rows
+    → command_and_file_in (Some (labelled n rows)) ≡ with_file (command_named n (is_set paced) mark) file
+from_values rows n file paced mark f p m = rw f (rw p (rw m refl))
+
+-- a subcommand with this name and these matches is held with the file and the options that they have
+pub command_and_file_in-matches : (m : ArgMatches) (n : Text) (values : ArgMatches) (file paced mark : Option Text) → Some n ≡ subcommand_name_of m
     → Some (rows_of (found_of values)) ≡ option_map (λ (p : Text × List Row). p.1) (subcommand_rows_of m)
-    → file ≡ first_value (found_of values) (codes "FILE") → command_and_file_in (subcommand_rows_of m) ≡ with_file n file
-command_and_file_in-matches m n values file name rows is =
-    let entered = rows_are (λ b. (out-SubCommand (box_value b)).name.now) (λ b. rows_of (found_of (out-SubCommand (box_value b)).matches)) (out-ArgMatches m).subcommand n (rows_of (found_of values)) name rows in
-    ap command_and_file_in entered ∙ ap (with_file n) (sym (is ∙ first_value-rows (found_of values) (codes "FILE")))
+    → file ≡ first_value (found_of values) (codes "FILE") → paced ≡ first_value (found_of values) (codes "paced") → mark ≡ first_value (found_of values) (codes "mark")
+    → command_and_file_in (subcommand_rows_of m) ≡ with_file (command_named n (is_set paced) mark) file
+command_and_file_in-matches m n values file paced mark name rows is paced_is mark_is =
+    let found = found_of values in
+    let entered = rows_are (λ b. (out-SubCommand (box_value b)).name.now) (λ b. rows_of (found_of (out-SubCommand (box_value b)).matches)) (out-ArgMatches m).subcommand n (rows_of found) name rows in
+    ap command_and_file_in entered ∙ from_values (rows_of found) n file paced mark (is ∙ first_value-rows found (codes "FILE")) (paced_is ∙ first_value-rows found (codes "paced")) (mark_is ∙ first_value-rows found (codes "mark"))
+
+-- no subcommand is held where the matches have none
+pub command_and_file_in-none : (m : ArgMatches) → None ≡ subcommand_name_of m → command_and_file_in (subcommand_rows_of m) ≡ Err faults.Incomplete
+command_and_file_in-none m is = ap command_and_file_in (no_rows (λ b. (out-SubCommand (box_value b)).name.now) (λ b. rows_of (found_of (out-SubCommand (box_value b)).matches)) (out-ArgMatches m).subcommand is)
 
 is_simple_line : is_simple rheap_app ≡ true
 unfolding clap_on_literals
@@ -44,17 +58,3 @@ command_and_file_of-matches a arguments m is h =
 pub taken-app : (a : App) (arguments : List Text) → a ≡ rheap_app → is_taken arguments ≡ true → takes a arguments ≡ true
 unfolding is_taken
 taken-app a arguments is taken = ap (λ (x : App). takes x arguments) is ∙ taken
-
--- no other name is a command's
-pub no_other_name : (name : Text) → name ≢ codes "run" → name ≢ codes "replay" → name ≢ codes "dump" → (s : Subcommand) → name_of s ≢ name
-no_other_name name run replay dump Run is = run (sym is)
-no_other_name name run replay dump Replay is = replay (sym is)
-no_other_name name run replay dump Dump is = dump (sym is)
-
-abbrev name_in : Option (Text × Text) → Text
-name_in None = []
-name_in (Some found) = found.0
-
--- where two of a name and a file are the same, so are the names
-pub same_name : (n m file other : Text) → ◌≡◌ {A = Option (Text × Text)} (Some (n, file)) (Some (m, other)) → m ≡ n
-same_name n m file other is = sym (ap name_in is)

@@ -6,7 +6,11 @@ use Rattle.rh_trace.specs.declared.run_fault.RunFault.{RunFault}
 use Rattle.rh_trace.specs.declared.run_fault.RunFault.TheVariants as faults
 use Rattle.rh_text.specs.Output.{AppendsLess}
 use Rattle.rh_trace.specs.Run.{StopsBeforeTotal, Ends, text_of, run_of}
+use Rattle.rh_paced_trace.specs.declared.fault.PacedFault.{PacedFault}
+use Rattle.rh_paced_trace.specs.declared.fault.PacedFault.TheVariants as paced_faults
+use Rattle.rh_paced_trace.specs.Run.{Ends as PacedEnds, text_of as paced_text_of}
 use Rattle.rh_cli.specs.Drive.{ConcludesRun, IsRunStatus}
+use Rattle.rh_cli.specs.Paced.{ConcludesPaced, IsPacedStatus}
 
 Keeps-kept : (old mid new : Option (List ℕ)) → Keeps old mid → Keeps mid new → Keeps old new
 Keeps-kept None mid new k l = tt
@@ -42,3 +46,20 @@ Ends-flushed due (Err faults.OutOfMemory) old mid new e k = StopsBeforeTotal-kep
 pub ConcludesRun-told : (known : Option (List ℕ)) (r : Result Summary RunFault) (status : ℕ) (old mid new : Option (List ℕ)) → IfSome known (λ input. Ends (run_of input) r old mid) → Keeps mid new → IsRunStatus r status → IfSome known (λ input. ConcludesRun (run_of input) status old new)
 ConcludesRun-told None r status old mid new e k s = tt
 ConcludesRun-told (Some input) r status old mid new e k s = (r, Ends-flushed (run_of input) r old mid new e k, s)
+
+-- so it is of a paced run
+pub PacedEnds-flushed : (mark : Option ℕ) (input : List ℕ) (r : Result Summary PacedFault) (old mid new : Option (List ℕ)) → PacedEnds mark input r old mid → Keeps mid new → PacedEnds mark input r old new
+PacedEnds-flushed mark input (Ok summary) old mid new e k =
+    (e.0, e.1, e.2, e.3, Appends-kept old mid new (paced_text_of e.0 e.1) e.4 k)
+PacedEnds-flushed mark input (Err paced_faults.Write) old mid new e k =
+    (e.0, e.1, e.2, AppendsLess-kept old mid new (paced_text_of e.0 e.1) e.3 k)
+PacedEnds-flushed mark input (Err paced_faults.Long) old mid new e k = (e.0, Keeps-kept old mid new e.1 k)
+PacedEnds-flushed mark input (Err (paced_faults.Trace fault)) old mid new e k = (e.0, e.1, Keeps-kept old mid new e.2 k)
+PacedEnds-flushed mark input (Err (paced_faults.New fault)) old mid new e k = (e.0, e.1, e.2, Keeps-kept old mid new e.3 k)
+PacedEnds-flushed mark input (Err (paced_faults.Pace why)) old mid new e k = (e.0, e.1, e.2, e.3, Keeps-kept old mid new e.4 k)
+PacedEnds-flushed mark input (Err paced_faults.Read) old mid new e k = Keeps-kept old mid new e k
+PacedEnds-flushed mark input (Err paced_faults.OutOfMemory) old mid new e k = Keeps-kept old mid new e k
+
+pub ConcludesPaced-told : (mark : Option ℕ) (known : Option (List ℕ)) (r : Result Summary PacedFault) (status : ℕ) (old mid new : Option (List ℕ)) → IfSome known (λ input. PacedEnds mark input r old mid) → Keeps mid new → IsPacedStatus r status → IfSome known (λ input. ConcludesPaced mark input status old new)
+ConcludesPaced-told mark None r status old mid new e k s = tt
+ConcludesPaced-told mark (Some input) r status old mid new e k s = (r, PacedEnds-flushed mark input r old mid new e k, s)

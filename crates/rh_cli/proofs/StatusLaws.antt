@@ -24,9 +24,12 @@ use Rattle.rh_trace.specs.declared.summary.Summary.{Summary}
 use Rattle.rh_cli.specs.Count.{CountEnds, IsCountStatus, counts_line}
 use Rattle.rh_cli.specs.Drive.{Concludes, IsRunStatus, run_status}
 use Rattle.rh_cli.specs.Fault.{arguments_status, ending_status, status_of, IsLateStatus}
+use Rattle.rh_cli.specs.Paced.{IsPacedStatus, paced_status}
+use Rattle.rh_paced_trace.specs.declared.fault.PacedFault.{PacedFault}
+use Rattle.rh_paced_trace.specs.declared.fault.PacedFault.TheVariants as paced_faults
 use Rattle.rh_cli.specs.Replay.{IsJudged, IsReplayStatus, ReplayEnds}
 use Rattle.rh_cli.specs.declared.ask.Subcommand.{Subcommand}
-use Rattle.rh_cli.specs.declared.ask.Subcommand.TheVariants.{Run, Replay, Dump}
+use Rattle.rh_cli.specs.declared.ask.Subcommand.TheVariants.{Run, RunPaced, Replay, Dump}
 use Rattle.rh_cli.specs.declared.ending.Ending.{Ending}
 use Rattle.rh_cli.specs.declared.ending.Ending.TheVariants.{Done, WrongHistory}
 use Rattle.rh_cli.specs.declared.fault.LineFault.{LineFault}
@@ -68,10 +71,12 @@ pub memory_is_3 : (fault : LineFault) → (status_of fault ≡ 3) ↔ (fault ≡
 memory_is_3 (faults.Arguments error) = (λ is. absurd (arguments_are_not_3 (kind_of error) is), λ is. cc)
 memory_is_3 faults.NoText = (λ is. absurd (omega (arith, is)), λ is. cc)
 memory_is_3 faults.Incomplete = (λ is. absurd (omega (arith, is)), λ is. cc)
+memory_is_3 faults.Mark = (λ is. absurd (omega (arith, is)), λ is. cc)
 memory_is_3 (faults.Trace fault) = (λ is. absurd (omega (arith, is)), λ is. cc)
 memory_is_3 (faults.History fault) = (λ is. absurd (omega (arith, is)), λ is. cc)
 memory_is_3 (faults.Dump fault) = (λ is. absurd (omega (arith, is)), λ is. cc)
 memory_is_3 (faults.Heap fault) = (λ is. absurd (omega (arith, is)), λ is. cc)
+memory_is_3 (faults.Pace why) = (λ is. absurd (omega (arith, is)), λ is. cc)
 memory_is_3 faults.Open = (λ is. absurd (omega (arith, is)), λ is. cc)
 memory_is_3 faults.Read = (λ is. absurd (omega (arith, is)), λ is. cc)
 memory_is_3 faults.Write = (λ is. absurd (omega (arith, is)), λ is. cc)
@@ -80,14 +85,16 @@ memory_is_3 faults.OutOfMemory = (λ is. refl, λ is. refl)
 
 -- a fault with 2 is one of the command line
 pub only_the_line_is_2 : (fault : LineFault) → status_of fault ≡ 2
-    → (fault ≡ faults.NoText) ⊎ ((fault ≡ faults.Incomplete) ⊎ ((error : ClapError) × (fault ≡ faults.Arguments error)))
-only_the_line_is_2 (faults.Arguments error) is = inr (inr (error, refl))
+    → (fault ≡ faults.NoText) ⊎ ((fault ≡ faults.Incomplete) ⊎ ((fault ≡ faults.Mark) ⊎ ((error : ClapError) × (fault ≡ faults.Arguments error))))
+only_the_line_is_2 (faults.Arguments error) is = inr (inr (inr (error, refl)))
 only_the_line_is_2 faults.NoText is = inl refl
 only_the_line_is_2 faults.Incomplete is = inr (inl refl)
+only_the_line_is_2 faults.Mark is = inr (inr (inl refl))
 only_the_line_is_2 (faults.Trace fault) is = absurd (omega (arith, is))
 only_the_line_is_2 (faults.History fault) is = absurd (omega (arith, is))
 only_the_line_is_2 (faults.Dump fault) is = absurd (omega (arith, is))
 only_the_line_is_2 (faults.Heap fault) is = absurd (omega (arith, is))
+only_the_line_is_2 (faults.Pace why) is = absurd (omega (arith, is))
 only_the_line_is_2 faults.Open is = absurd (omega (arith, is))
 only_the_line_is_2 faults.Read is = absurd (omega (arith, is))
 only_the_line_is_2 faults.Write is = absurd (omega (arith, is))
@@ -105,10 +112,12 @@ pub only_help_is_0 : (fault : LineFault) → status_of fault ≡ 0
 only_help_is_0 (faults.Arguments error) is = (error, refl, help_of_0 (kind_of error) is)
 only_help_is_0 faults.NoText is = absurd (omega (arith, is))
 only_help_is_0 faults.Incomplete is = absurd (omega (arith, is))
+only_help_is_0 faults.Mark is = absurd (omega (arith, is))
 only_help_is_0 (faults.Trace fault) is = absurd (omega (arith, is))
 only_help_is_0 (faults.History fault) is = absurd (omega (arith, is))
 only_help_is_0 (faults.Dump fault) is = absurd (omega (arith, is))
 only_help_is_0 (faults.Heap fault) is = absurd (omega (arith, is))
+only_help_is_0 (faults.Pace why) is = absurd (omega (arith, is))
 only_help_is_0 faults.Open is = absurd (omega (arith, is))
 only_help_is_0 faults.Read is = absurd (omega (arith, is))
 only_help_is_0 faults.Write is = absurd (omega (arith, is))
@@ -156,6 +165,22 @@ run_of_fault : (due : Result (List ℕ × Summary) RunFault) (fault : RunFault) 
 run_of_fault due fault (Ok summary) status old new is ends own = absurd (let done = ends.0 in cc)
 run_of_fault due fault (Err other) status old new is ends own =
     elim (run_fault_is_1_or_3 other) [ inl one ↦ inl (own ∙ one) | inr three ↦ inr (own ∙ three) ]
+
+paced_fault_is_1_or_3 : (fault : PacedFault) → (paced_status fault ≡ 1) ⊎ (paced_status fault ≡ 3)
+paced_fault_is_1_or_3 paced_faults.Read = inl refl
+paced_fault_is_1_or_3 paced_faults.Long = inl refl
+paced_fault_is_1_or_3 (paced_faults.Trace fault) = inl refl
+paced_fault_is_1_or_3 (paced_faults.New fault) = inl refl
+paced_fault_is_1_or_3 (paced_faults.Pace why) = inl refl
+paced_fault_is_1_or_3 paced_faults.Write = inl refl
+paced_fault_is_1_or_3 paced_faults.OutOfMemory = inr refl
+
+-- the status after a paced run is one of 0, 1 and 3
+paced_is_0_1_or_3 : (outcome : Result Summary PacedFault) (status : ℕ) → IsPacedStatus outcome status → (status ≡ 0) ⊎ ((status ≡ 1) ⊎ (status ≡ 3))
+paced_is_0_1_or_3 (Ok summary) status (inl is) = inl is
+paced_is_0_1_or_3 (Ok summary) status (inr is) = inr (inl is)
+paced_is_0_1_or_3 (Err fault) status is =
+    elim (paced_fault_is_1_or_3 fault) [ inl one ↦ inr (inl (is ∙ one)) | inr three ↦ inr (inr (is ∙ three)) ]
 
 -- a check ends with no other fault than those that come once the command line is understood
 replay_fault_is_1_or_3 : (input : List ℕ) (fault : LineFault) (old new : Option (List ℕ)) → ReplayEnds input (Err fault) old new → (status_of fault ≡ 1) ⊎ (status_of fault ≡ 3)
@@ -264,6 +289,7 @@ late_of_four status (inr (inr is)) = (omega (arith, is), λ two. omega (arith, i
 -- what a subcommand ends with is at most 4 and isn't 2
 pub concludes_late : (subcommand : Subcommand) (input : List ℕ) (status : ℕ) (old new : Option (List ℕ)) → Concludes subcommand input status old new → IsLateStatus status
 concludes_late Run input status old new c = late_of_three status (run_is_0_1_or_3 c.0 status c.2)
+concludes_late (RunPaced mark) input status old new c = late_of_three status (paced_is_0_1_or_3 c.0 status c.2)
 concludes_late Replay input status old new c = late_of_four status (replay_is_0_1_3_or_4 input c.0 status old new c.1 c.2)
 concludes_late Dump input status old new c = late_of_three status (count_is_0_1_or_3 input c.0 status old new c.1 c.2)
 
@@ -289,6 +315,7 @@ concludes_dump_3 input old new c = count_is_3 input c.0 old new c.1 c.2
 pub concludes_4 : (subcommand : Subcommand) (input : List ℕ) (old new : Option (List ℕ)) → Concludes subcommand input 4 old new → (subcommand ≡ Replay)
     × ((h : HistoryState) × (at : ℕ) × (expected : Result Reply Refusal) × IsJudged input h (Wrong at expected) × Appends old new (report_text h (Wrong at expected)))
 concludes_4 Run input old new c = absurd (not_2_or_4 4 4 (inr refl) (run_is_0_1_or_3 c.0 4 c.2) refl)
+concludes_4 (RunPaced mark) input old new c = absurd (not_2_or_4 4 4 (inr refl) (paced_is_0_1_or_3 c.0 4 c.2) refl)
 concludes_4 Replay input old new c = (refl, replay_is_4 input c.0 old new c.1 c.2)
 concludes_4 Dump input old new c = absurd (not_2_or_4 4 4 (inr refl) (count_is_0_1_or_3 input c.0 4 old new c.1 c.2) refl)
 

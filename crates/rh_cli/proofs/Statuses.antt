@@ -55,10 +55,12 @@ pub fault_at_most_3 : (fault : LineFault) → status_of fault ≤ 3
 fault_at_most_3 (faults.Arguments error) = omega (arith, arguments_at_most_2 (kind_of error))
 fault_at_most_3 faults.NoText = omega arith
 fault_at_most_3 faults.Incomplete = omega arith
+fault_at_most_3 faults.Mark = omega arith
 fault_at_most_3 (faults.Trace fault) = omega arith
 fault_at_most_3 (faults.History fault) = omega arith
 fault_at_most_3 (faults.Dump fault) = omega arith
 fault_at_most_3 (faults.Heap fault) = omega arith
+fault_at_most_3 (faults.Pace why) = omega arith
 fault_at_most_3 faults.Open = omega arith
 fault_at_most_3 faults.Read = omega arith
 fault_at_most_3 faults.Write = omega arith

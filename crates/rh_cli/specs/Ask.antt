@@ -1,9 +1,14 @@
 -- The command line of the program, as clap knows it.
-use Rattle.std.specs.Prelude.{List, Bool, true, Option, Some, None, codes}
+use Rattle.std.specs.Prelude.{ℕ, List, Bool, true, false, if◌then◌else◌, Option, Some, None, Result, Ok, Err, codes}
+use Rattle.std.specs.Str.{bytes_eq}
+use Rattle.rh_text.specs.Number.{number_of}
+use Rattle.clap.specs.declared.builder.action.ArgAction.TheVariants.{SetTrue}
 use Rattle.clap.specs.Words.{App, Row, Rule, Text, new_app, new_rule, with_rule, with_subcommand, subcommand_of, first_of, takes}
 use Rattle.rh_cli.specs.declared.ask.Subcommand.{Subcommand}
-use Rattle.rh_cli.specs.declared.ask.Subcommand.TheVariants.{Run, Replay, Dump}
+use Rattle.rh_cli.specs.declared.ask.Subcommand.TheVariants.{Run, RunPaced, Replay, Dump}
 use Rattle.rh_cli.specs.declared.ask.Ask.{Ask}
+use Rattle.rh_cli.specs.declared.fault.LineFault.{LineFault}
+use Rattle.rh_cli.specs.declared.fault.LineFault.TheVariants as faults
 
 -- the file, which is required
 abbrev pub file_rule : Rule
@@ -12,6 +17,17 @@ file_rule = record (new_rule (codes "FILE")) { required = true }
 -- a command of this name that takes a file, as `run FILE`
 abbrev pub file_app : Text → App
 file_app name = with_rule (new_app name) file_rule
+
+-- the options of `run`: a flag, and one with a value
+abbrev pub paced_rule : Rule
+paced_rule = record (new_rule (codes "paced")) { long = Some (codes "paced"); action = Some SetTrue }
+
+abbrev pub mark_rule : Rule
+mark_rule = record (new_rule (codes "mark")) { long = Some (codes "mark"); value_names = 1 }
+
+-- the command `run`: a file, and these options
+abbrev pub run_app : App
+run_app = with_rule (with_rule (file_app (codes "run")) paced_rule) mark_rule
 
 -- the program: a version, and a command that is required
 abbrev pub rheap_top : App
@@ -22,35 +38,57 @@ rheap_top =
 -- the program with its commands
 abbrev pub rheap_app : App
 rheap_app =
-    let with_run = with_subcommand rheap_top (file_app (codes "run")).top
+    let with_run = with_subcommand rheap_top run_app.top
     in let with_replay = with_subcommand with_run (file_app (codes "replay")).top
     in with_subcommand with_replay (file_app (codes "dump")).top
 
--- a command's name and its file, where both are there
-abbrev pub with_file : Text → Option Text → Option (Text × Text)
-with_file name None = None
-with_file name (Some file) = Some (name, file)
+-- whether the value of the flag says that it was set
+abbrev pub is_set : Option Text → Bool
+is_set None = false
+is_set (Some text) = bytes_eq text (codes "true")
 
--- the command and the file that a parse holds: the command that it found, and the first value of
--- its file
-abbrev pub command_and_file_in : Option (Text × List Row) → Option (Text × Text)
-command_and_file_in None = None
-command_and_file_in (Some found) = with_file found.0 (first_of (codes "FILE") found.1)
+-- a run at a mark that was read, or the fault where it is no number
+abbrev pub run_at : Option ℕ → Result Subcommand LineFault
+run_at None = Err faults.Mark
+run_at (Some mark) = Ok (RunPaced (Some mark))
+
+-- the run that is asked for, paced or not, and by a mark or not; a mark is for paced runs alone
+abbrev pub run_asked : Bool → Option Text → Result Subcommand LineFault
+run_asked false None = Ok Run
+run_asked false (Some text) = Err faults.Mark
+run_asked true None = Ok (RunPaced None)
+run_asked true (Some text) = run_at (number_of text)
+
+-- the command of this name with these options, which `run` alone has
+abbrev pub command_named : Text → Bool → Option Text → Result Subcommand LineFault
+command_named name is_paced mark =
+    if bytes_eq name (codes "run") then run_asked is_paced mark
+    else (if bytes_eq name (codes "replay") then Ok Replay
+    else (if bytes_eq name (codes "dump") then Ok Dump else Err faults.Incomplete))
+
+-- a command with its file, or what is missing
+abbrev pub with_file : Result Subcommand LineFault → Option Text → Result (Subcommand × Text) LineFault
+with_file command None = Err faults.Incomplete
+with_file (Err fault) (Some file) = Err fault
+with_file (Ok command) (Some file) = Ok (command, file)
+
+-- the command and the file that a parse holds: the command that it found, with its options, and the
+-- first value of its file; or the fault of the options, or that one is missing
+abbrev pub command_and_file_in : Option (Text × List Row) → Result (Subcommand × Text) LineFault
+command_and_file_in None = Err faults.Incomplete
+command_and_file_in (Some found) =
+    with_file
+    (command_named found.0 (is_set (first_of (codes "paced") found.1)) (first_of (codes "mark") found.1))
+    (first_of (codes "FILE") found.1)
 
 -- the command and the file that clap's parse of the arguments holds
-unfoldable pub command_and_file_of : List Text → Option (Text × Text)
+unfoldable pub command_and_file_of : List Text → Result (Subcommand × Text) LineFault
 command_and_file_of arguments = command_and_file_in (subcommand_of rheap_app arguments)
 
 -- whether clap takes the arguments
 unfoldable pub is_taken : List Text → Bool
 is_taken arguments = takes rheap_app arguments
 
--- how a command is spelled
-abbrev pub name_of : Subcommand → Text
-name_of Run = codes "run"
-name_of Replay = codes "replay"
-name_of Dump = codes "dump"
-
 -- the command and the file of a request
-abbrev pub command_and_file : Ask → Text × Text
-command_and_file ask = (name_of ask.subcommand, ask.file.now)
+abbrev pub command_and_file : Ask → Subcommand × Text
+command_and_file ask = (ask.subcommand, ask.file.now)

@@ -5,8 +5,9 @@ use Rattle.rh_trace.specs.declared.run_fault.RunFault.{RunFault}
 use Rattle.rh_trace.specs.declared.run_fault.RunFault.TheVariants as faults
 use Rattle.rh_trace.specs.Run.{Ends, run_of}
 use Rattle.rh_cli.specs.declared.ask.Subcommand.{Subcommand}
-use Rattle.rh_cli.specs.declared.ask.Subcommand.TheVariants.{Run, Replay, Dump}
+use Rattle.rh_cli.specs.declared.ask.Subcommand.TheVariants.{Run, RunPaced, Replay, Dump}
 use Rattle.rh_cli.specs.Count.{ConcludesCount}
+use Rattle.rh_cli.specs.Paced.{ConcludesPaced}
 use Rattle.rh_cli.specs.Replay.{ConcludesReplay}
 
 -- the status after a fault of the run: 3 for want of memory, else 1
@@ -33,5 +34,6 @@ ConcludesRun due status old new =
 -- what a subcommand does with this input ended with this status, and with these bytes written
 abbrev pub Concludes : Subcommand → List ℕ → ℕ → Option (List ℕ) → Option (List ℕ) → Type 0
 Concludes Run input status old new = ConcludesRun (run_of input) status old new
+Concludes (RunPaced mark) input status old new = ConcludesPaced mark input status old new
 Concludes Replay input status old new = ConcludesReplay input status old new
 Concludes Dump input status old new = ConcludesCount input status old new

@@ -19,10 +19,12 @@ abbrev pub status_of : LineFault → ℕ
 status_of (faults.Arguments error) = arguments_status (kind_of error)
 status_of faults.NoText = 2
 status_of faults.Incomplete = 2
+status_of faults.Mark = 2
 status_of (faults.Trace fault) = 1
 status_of (faults.History fault) = 1
 status_of (faults.Dump fault) = 1
 status_of (faults.Heap fault) = 1
+status_of (faults.Pace why) = 1
 status_of faults.Open = 1
 status_of faults.Read = 1
 status_of faults.Write = 1
@@ -41,6 +43,7 @@ IsLateStatus status = (status ≤ 4) × (status ≢ 2)
 abbrev pub IsArgumentsFault : LineFault → Type 0
 IsArgumentsFault (faults.Arguments error) = ⊤
 IsArgumentsFault faults.Incomplete = ⊤
+IsArgumentsFault faults.Mark = ⊤
 IsArgumentsFault faults.OutOfMemory = ⊤
 IsArgumentsFault fault = ⊥
 
@@ -49,6 +52,7 @@ abbrev pub IsEarlyFault : LineFault → Type 0
 IsEarlyFault (faults.Arguments error) = ⊤
 IsEarlyFault faults.NoText = ⊤
 IsEarlyFault faults.Incomplete = ⊤
+IsEarlyFault faults.Mark = ⊤
 IsEarlyFault faults.Open = ⊤
 IsEarlyFault faults.OutOfMemory = ⊤
 IsEarlyFault fault = ⊥

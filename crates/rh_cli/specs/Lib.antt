@@ -2,4 +2,5 @@ pub mod Ask
 pub mod Count
 pub mod Drive
 pub mod Fault
+pub mod Paced
 pub mod Replay

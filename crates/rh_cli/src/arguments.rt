@@ -1,19 +1,19 @@
 //! The arguments of the program.
 
-ghost use Rattle.std.specs.Prelude.{◌≡◌, ◌≢◌, map, false, Some, IsTrue, IfSome, IfNone, IfOk, IfErr, codes};
+ghost use Rattle.std.specs.Prelude.{◌≡◌, ◌⊎◌, map, option_map, false, Ok, Err, IsTrue, IfOk, IfErr, codes};
 ghost use Rattle.clap.specs.declared.builder.command.Command.TheViews.{out-Command as fields_of};
 ghost use Rattle.clap.specs.Words.{kind_of, app_of, subcommand_rows_of};
-ghost use Rattle.rh_cli.specs.Ask.{command_and_file, command_and_file_in, command_and_file_of, file_app, rheap_app, is_taken, name_of};
+ghost use Rattle.rh_cli.specs.Ask.{command_and_file, command_and_file_in, command_and_file_of, command_named, file_app, run_app, rheap_app, is_set, is_taken, run_asked};
 ghost use Rattle.rh_cli.specs.Fault.{IsArgumentsFault};
 ghost use Rattle.rh_cli.specs.declared.ask.Ask.{Ask};
-ghost use Rattle.rh_cli.specs.declared.ask.Subcommand.{Subcommand as SubcommandOf};
 
 use crate::ask::{Ask, Subcommand};
 use crate::fault::LineFault;
 use crate::help;
 use crate::version::VERSION;
 use clap::error::ErrorKind;
-use clap::{Arg, ArgMatches, Command};
+use clap::{Arg, ArgAction, ArgMatches, Command};
+use rh_text::read_number;
 use std::alloc::{AllocError, Global};
 
 /// The command line as clap knows it.
@@ -32,11 +32,20 @@ fn command_line<'a>(alloc: Global) -> Result<Command<'a>, AllocError>
 
 /// The command `run` as clap knows it.
 fn run_command<'a>(alloc: Global) -> Result<Command<'a>, AllocError>
-    ensures app { IfOk result (λ command. app_of command ≡ file_app (codes "run")) }
+    ensures app { IfOk result (λ command. app_of command ≡ run_app) }
     ensures local { IfOk result (λ command. (fields_of command).has_globals ≡ false) }
 {
     let about = "Runs a trace, and prints an answer for each of its lines";
-    file_command(alloc, "run", about, help::RUN)
+    let paced = Arg::new(alloc, "paced")
+        .long("paced")
+        .action(ArgAction::SetTrue)
+        .help("Runs a trace of commands alone, on a heap that collects by itself");
+    let mark = Arg::new(alloc, "mark").long("mark").value_name("N").help(
+        "With --paced: a cycle begins where fewer than N words are free",
+    );
+    file_command(alloc, "run", about, help::RUN)?
+        .arg(paced)?
+        .arg(mark)
 }
 
 /// The command `replay` as clap knows it.
@@ -82,24 +91,26 @@ fn file_command<'a>(
 /// # Errors
 ///
 /// `Arguments` where clap refuses them, or they ask for help or the version; `Incomplete` where
-/// clap takes them and they hold no command or no file; `OutOfMemory` where memory was refused.
+/// clap takes them and they hold no command or no file; `Mark` where `run` has `--mark` without
+/// `--paced`, or with a value that is no number below 2^32; `OutOfMemory` where memory was refused.
 pub fn read_words<'a>(alloc: Global, arguments: &'a [&'a str]) -> Result<Ask<'a>, LineFault>
     // The request has the command and the file that clap's parse of the arguments holds.
     ensures asked { IfOk result (λ ask.
-        command_and_file_of (map (λ a. a.now) arguments.now) ≡ Some (command_and_file ask)) }
+        command_and_file_of (map (λ a. a.now) arguments.now) ≡ Ok (command_and_file ask)) }
     // Arguments that clap takes, and that hold a request, are refused for want of memory alone.
     ensures refused { IfErr result (λ fault. IsTrue (is_taken (map (λ a. a.now) arguments.now))
         → (ask : Ask)
-        → command_and_file_of (map (λ a. a.now) arguments.now) ≡ Some (command_and_file ask)
+        → command_and_file_of (map (λ a. a.now) arguments.now) ≡ Ok (command_and_file ask)
         → fault ≡ LineFault.OutOfMemory) }
+    // What clap takes and is refused is told as what its parse holds instead, or memory was refused.
+    ensures due { IfErr result (λ fault. IsTrue (is_taken (map (λ a. a.now) arguments.now))
+        → (fault ≡ LineFault.OutOfMemory)
+        ⊎ (command_and_file_of (map (λ a. a.now) arguments.now) ≡ Err fault)) }
     // No other fault comes.
     ensures kinds { IfErr result (λ fault. IsArgumentsFault fault) }
 {
     let matches = matches_of(alloc, arguments)?;
-    match ask_of(&matches) {
-        Some(ask) => Ok(ask),
-        None => Err(LineFault::Incomplete),
-    }
+    ask_of(&matches)
 }
 
 /// Clap's matches of the arguments.
@@ -118,35 +129,66 @@ fn matches_of<'a>(alloc: Global, arguments: &'a [&'a str]) -> Result<ArgMatches<
     }
 }
 
-/// The request that clap's matches hold, where they hold one.
-fn ask_of<'a>(matches: &ArgMatches<'a>) -> Option<Ask<'a>>
-    ensures found { IfSome result (λ ask.
-        command_and_file_in (subcommand_rows_of matches.now) ≡ Some (command_and_file ask)) }
-    ensures none { IfNone result ((ask : Ask)
-        → command_and_file_in (subcommand_rows_of matches.now) ≢ Some (command_and_file ask)) }
+/// The request that clap's matches hold, or the fault that they hold instead.
+fn ask_of<'a>(matches: &ArgMatches<'a>) -> Result<Ask<'a>, LineFault>
+    ensures found { IfOk result (λ ask.
+        command_and_file_in (subcommand_rows_of matches.now) ≡ Ok (command_and_file ask)) }
+    ensures none { IfErr result (λ fault.
+        command_and_file_in (subcommand_rows_of matches.now) ≡ Err fault) }
+    ensures kinds { IfErr result (λ fault. IsArgumentsFault fault) }
 {
-    let (name, values) = matches.subcommand()?;
-    let file = values.get_str("FILE")?;
-    let subcommand = subcommand_named(name)?;
-    Some(Ask { subcommand, file })
+    let Some((name, values)) = matches.subcommand() else {
+        return Err(LineFault::Incomplete);
+    };
+    let Some(file) = values.get_str("FILE") else {
+        return Err(LineFault::Incomplete);
+    };
+    let is_paced = is_set(values.get_str("paced"));
+    let subcommand = command_named(name, is_paced, values.get_str("mark"))?;
+    Ok(Ask { subcommand, file })
 }
 
-/// The command that is spelled so.
-#[tactic(auto, using(crate::proofs::ClapMatches::no_other_name))]
-fn subcommand_named(name: &str) -> Option<Subcommand>
-    ensures found { IfSome result (λ subcommand. name_of subcommand ≡ name.now) }
-    ensures none { IfNone result ((subcommand : SubcommandOf) → name_of subcommand ≢ name.now) }
+/// Whether the value of a flag says that it was set.
+fn is_set(value: Option<&str>) -> bool
+    ensures { result ≡ is_set (option_map (λ t. t.now) value.entry) }
+{
+    match value {
+        Some(text) => text == "true",
+        None => false,
+    }
+}
+
+/// The command of this name with these options, which `run` alone has.
+fn command_named(name: &str, is_paced: bool, mark: Option<&str>) -> Result<Subcommand, LineFault>
+    ensures named { result ≡ command_named name.now is_paced (option_map (λ t. t.now) mark.entry) }
+    ensures kinds { IfErr result (λ fault. IsArgumentsFault fault) }
 {
     if name == "run" {
-        return Some(Subcommand::Run);
+        return run_asked(is_paced, mark);
     }
     if name == "replay" {
-        return Some(Subcommand::Replay);
+        return Ok(Subcommand::Replay);
     }
     if name == "dump" {
-        return Some(Subcommand::Dump);
+        return Ok(Subcommand::Dump);
     }
-    None
+    Err(LineFault::Incomplete)
+}
+
+/// The run that is asked for. A mark is for paced runs alone.
+fn run_asked(is_paced: bool, mark: Option<&str>) -> Result<Subcommand, LineFault>
+    ensures asked { result ≡ run_asked is_paced (option_map (λ t. t.now) mark.entry) }
+    ensures kinds { IfErr result (λ fault. IsArgumentsFault fault) }
+{
+    match mark {
+        None if is_paced => Ok(Subcommand::RunPaced { mark: None }),
+        None => Ok(Subcommand::Run),
+        Some(text) if is_paced => match read_number(text.as_bytes()) {
+            Some(number) => Ok(Subcommand::RunPaced { mark: Some(number) }),
+            None => Err(LineFault::Mark),
+        },
+        Some(_) => Err(LineFault::Mark),
+    }
 }
 
 /// The fault that an error of clap's is.

@@ -5,6 +5,11 @@
 pub enum Subcommand {
     /// Run the trace in it.
     Run,
+    /// Run the commands in it on a heap that collects by itself.
+    RunPaced {
+        /// The free words below which a cycle begins. Without a mark the pace is one that keeps up.
+        mark: Option<u32>,
+    },
     /// Check the history in it, and report on it.
     Replay,
     /// Count what the dump in it has.

@@ -10,6 +10,7 @@ use crate::ask::{Ask, Subcommand};
 use crate::counting::count;
 use crate::ending::Ending;
 use crate::fault::LineFault;
+use crate::pacing::run_by_mark;
 use crate::replaying::replay;
 use crate::running::run;
 use std::alloc::Allocator;
@@ -61,6 +62,7 @@ fn act<A: Allocator + Copy, R: Read, O: Write>(
 {
     match subcommand {
         Subcommand::Run => run(alloc, reader, out),
+        Subcommand::RunPaced { mark } => run_by_mark(alloc, reader, out, mark),
         Subcommand::Replay => replay(alloc, reader, out),
         Subcommand::Dump => count(alloc, reader, out),
     }

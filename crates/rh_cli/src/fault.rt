@@ -6,6 +6,7 @@ ghost use Rattle.rh_cli.specs.Fault.{status_of};
 
 use rh_core::ConfigFault;
 use rh_dump::DumpFault;
+use rh_pace::PaceError;
 use rh_replay::HistoryFault;
 use rh_trace::TraceFault;
 use std::alloc::{AllocError, AllocFailed};
@@ -23,6 +24,9 @@ pub enum LineFault {
     /// The arguments name no command or no file.
     #[error("rheap: no command and file")]
     Incomplete,
+    /// `--mark` stands without `--paced`, or its value isn't a number of words, 0 to 4,294,967,295.
+    #[error("rheap: --mark needs --paced and a number of words, 0 to 4294967295")]
+    Mark,
     /// The file is no trace.
     #[error("rheap: {0}")]
     Trace(TraceFault),
@@ -35,6 +39,9 @@ pub enum LineFault {
     /// No heap is made with the sizes that the file asks for.
     #[error("rheap: heap: {0}")]
     Heap(ConfigFault),
+    /// No pace keeps up in a heap of these sizes with what a trace asks for.
+    #[error("rheap: pace: {0}")]
+    Pace(PaceError),
     /// The file can't be opened.
     #[error("rheap: open failed")]
     Open,
@@ -62,7 +69,8 @@ impl LineFault {
     {
         match self {
             LineFault::Arguments(error) if !error.use_stderr() => 0,
-            LineFault::Arguments(_) | LineFault::NoText | LineFault::Incomplete => 2,
+            LineFault::Arguments(_) | LineFault::NoText | LineFault::Incomplete | LineFault::Mark =>
+                2,
             LineFault::OutOfMemory => 3,
             _ => 1,
         }

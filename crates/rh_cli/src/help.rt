@@ -44,6 +44,11 @@ most 15 of a to z, 0 to 9 and _. What can't be done is answered `refused NAME`, 
 the run goes on. Two heaps are the same graph exactly where their dumps are the same text: cut them
 out and use cmp.
 
+With --paced the heap collects by itself, a part of a cycle with each command, and the trace has
+commands alone: a line of a cycle or a listing is the fault Word. A cycle begins where fewer than N
+words are free, as --mark N says; without it at a mark that keeps up with the biggest object that
+the trace allocates, where that can be.
+
 Statuses:
   0  done; a refused line is an answer, and no failure
   1  a fault in the file, or it can't be opened or read, or a write failed
@@ -55,6 +60,8 @@ On failure standard error has one line, as `rheap: line 3: Cut` or `rheap: heap:
                  or Tray; a history or a dump given to `run` is the fault Header
   heap: NAME     the first of these that is out of range: BadSpace (WORDS), BadRatio (RATIO),
                  BadRoots (OWNERS or SLOTS), BadLog (LOG)
+  pace: NAME     with --paced and without --mark: RatioTooLow, the RATIO is below 4, or TooSmall
+                 need N, WORDS is below N
   open failed    the file isn't there, or may not be read
   read failed    it is a folder, or its device failed
   write failed   standard output is closed or full, or its device failed

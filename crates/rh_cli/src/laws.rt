@@ -1,6 +1,6 @@
 //! Laws of the definitions alone. Each function does nothing: its contract is the law.
 
-ghost use Rattle.std.specs.Prelude.{◌≡◌, ◌≢◌, ◌≤◌, ◌⊎◌, ◌↔◌, ℕ, ◌++◌, List, [], ◌∷◌, length, Option, Some, Result, Ok, Err, IsTrue, false, codes, decimal};
+ghost use Rattle.std.specs.Prelude.{◌≡◌, ◌≢◌, ◌≤◌, ◌⊎◌, ◌↔◌, ℕ, ◌++◌, List, [], ◌∷◌, length, Option, Some, None, Result, Ok, Err, IsTrue, false, codes, decimal};
 ghost use Rattle.std.specs.List.{flat_map};
 ghost use Rattle.std.specs.Io.KnownBytes.{Appends, Keeps};
 ghost use Rattle.clap.specs.Words.{kind_of};
@@ -72,10 +72,11 @@ pub fn status_2_says_that_the_command_line_is_not_understood()
     ensures never { (subcommand : SubcommandOf) (input : List ℕ) (status : ℕ)
         (old new : Option (List ℕ)) → Concludes subcommand input status old new → status ≢ 2 }
     ensures only { (fault : FaultOf) → status_of fault ≡ 2
-        → (fault ≡ FaultOf.NoText) ⊎ ((fault ≡ FaultOf.Incomplete)
-        ⊎ ((error : ClapError) × (fault ≡ FaultOf.Arguments error))) }
+        → (fault ≡ FaultOf.NoText) ⊎ ((fault ≡ FaultOf.Incomplete) ⊎ ((fault ≡ FaultOf.Mark)
+        ⊎ ((error : ClapError) × (fault ≡ FaultOf.Arguments error)))) }
     ensures no_text { status_of FaultOf.NoText ≡ 2 }
     ensures incomplete { status_of FaultOf.Incomplete ≡ 2 }
+    ensures mark { status_of FaultOf.Mark ≡ 2 }
     // What clap refuses has 2, unless it asks for help or the version, which is no mistake.
     ensures asked { (error : ClapError)
         → (kind_of error ≡ DisplayHelp) ⊎ (kind_of error ≡ DisplayVersion)
@@ -119,13 +120,26 @@ pub fn status_4_says_a_wrong_history()
 /// isn't taken.
 pub fn worked_command_lines()
     ensures run { command_and_file_of (codes "rheap" ∷ codes "run" ∷ codes "x" ∷ [])
-        ≡ Some (codes "run", codes "x") }
+        ≡ Ok (SubcommandOf.Run, codes "x") }
     ensures replay { command_and_file_of (codes "rheap" ∷ codes "replay" ∷ codes "x" ∷ [])
-        ≡ Some (codes "replay", codes "x") }
+        ≡ Ok (SubcommandOf.Replay, codes "x") }
     ensures dump { command_and_file_of (codes "rheap" ∷ codes "dump" ∷ codes "x" ∷ [])
-        ≡ Some (codes "dump", codes "x") }
+        ≡ Ok (SubcommandOf.Dump, codes "x") }
     ensures input { command_and_file_of (codes "rheap" ∷ codes "run" ∷ codes "-" ∷ [])
-        ≡ Some (codes "run", codes "-") }
+        ≡ Ok (SubcommandOf.Run, codes "-") }
+    ensures paced { command_and_file_of
+        (codes "rheap" ∷ codes "run" ∷ codes "x" ∷ codes "--paced" ∷ [])
+        ≡ Ok (SubcommandOf.RunPaced None, codes "x") }
+    ensures mark { command_and_file_of (codes "rheap" ∷ codes "run" ∷ codes "--paced"
+        ∷ codes "--mark" ∷ codes "7" ∷ codes "x" ∷ [])
+        ≡ Ok (SubcommandOf.RunPaced (Some 7), codes "x") }
+    ensures mark_alone { command_and_file_of
+        (codes "rheap" ∷ codes "run" ∷ codes "x" ∷ codes "--mark=7" ∷ []) ≡ Err FaultOf.Mark }
+    ensures no_number { command_and_file_of
+        (codes "rheap" ∷ codes "run" ∷ codes "x" ∷ codes "--paced" ∷ codes "--mark=07" ∷ [])
+        ≡ Err FaultOf.Mark }
+    ensures paced_replay { false
+        ≡ is_taken (codes "rheap" ∷ codes "replay" ∷ codes "x" ∷ codes "--paced" ∷ []) }
     ensures taken { IsTrue (is_taken (codes "rheap" ∷ codes "run" ∷ codes "x" ∷ [])) }
     ensures bare { is_taken (codes "rheap" ∷ []) ≡ false }
     ensures no_file { is_taken (codes "rheap" ∷ codes "run" ∷ []) ≡ false }

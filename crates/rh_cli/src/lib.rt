@@ -9,6 +9,7 @@ mod ending;
 mod fault;
 mod help;
 pub mod laws;
+mod pacing;
 mod program;
 mod replaying;
 mod running;

@@ -1,6 +1,6 @@
 //! The program from its command line to its status.
 
-ghost use Rattle.std.specs.Prelude.{◌≡◌, ◌≢◌, ◌≤◌, ◌⊎◌, ◌↔◌, map, Some, Err, IsTrue, IfOk, IfErr, codes};
+ghost use Rattle.std.specs.Prelude.{◌≡◌, ◌≢◌, ◌≤◌, ◌⊎◌, ◌↔◌, map, Ok, Err, IsTrue, IfOk, IfErr, codes};
 ghost use Rattle.std.specs.Io.Buffered.{writer_inner};
 ghost use Rattle.std.specs.IoError.{error_kind};
 ghost use Rattle.std.specs.String.{string_bytes};
@@ -103,13 +103,13 @@ fn with_arguments<'a, R: Files + Input + Print + AllocGlobal, E: Write>(
 ) -> Result<u8, LineFault>
     // A status comes only where clap's parse of the arguments holds a request.
     ensures asked { IfOk result (λ status. (ask : AskOf)
-        × (command_and_file_of (map (λ a. a.now) arguments.now) ≡ Some (command_and_file ask))) }
+        × (command_and_file_of (map (λ a. a.now) arguments.now) ≡ Ok (command_and_file ask))) }
     ensures late { IfOk result (λ status. IsLateStatus status) }
     // Arguments that clap takes, and that hold a request, are carried out unless memory was refused
     // or the file can't be opened.
     ensures refused { IfErr result (λ fault. IsTrue (is_taken (map (λ a. a.now) arguments.now))
         → (ask : AskOf)
-        → command_and_file_of (map (λ a. a.now) arguments.now) ≡ Some (command_and_file ask)
+        → command_and_file_of (map (λ a. a.now) arguments.now) ≡ Ok (command_and_file ask)
         → (fault ≡ LineFault.Open) ⊎ (fault ≡ LineFault.OutOfMemory)) }
     ensures early { IfErr result (λ fault. IsEarlyFault fault) }
 {

@@ -118,6 +118,44 @@ const CALLS: &[(&[&[u8]], u8, &[u8], &[u8])] = &[
     ),
 ];
 
+/// What is told of a mark that can't be taken.
+const MARK_FAULT: &[u8] = b"rheap: --mark needs --paced and a number of words, 0 to 4294967295\n";
+
+/// Paced runs of the same trace, which has no room for a pace, or has it by a mark.
+const PACED: &[(&[&[u8]], u8, &[u8], &[u8])] = &[
+    (&[b"rheap", b"run", b"-", b"--mark", b"3"], 2, b"", MARK_FAULT),
+    (
+        &[b"rheap", b"run", b"-", b"--paced", b"--mark", b"03"],
+        2,
+        b"",
+        MARK_FAULT,
+    ),
+    (
+        &[b"rheap", b"run", b"-", b"--paced", b"--mark=4294967296"],
+        2,
+        b"",
+        MARK_FAULT,
+    ),
+    (
+        &[b"rheap", b"run", b"-", b"--paced", b"--mark"],
+        2,
+        b"",
+        b"error: ",
+    ),
+    (
+        &[b"rheap", b"dump", b"-", b"--paced"],
+        2,
+        b"",
+        b"error: unexpected",
+    ),
+    (
+        &[b"rheap", b"run", b"/dev/null", b"--paced"],
+        1,
+        b"",
+        b"rheap: line 1: Empty\n",
+    ),
+];
+
 /// The same where standard output is closed.
 const CLOSED: &[(&[&[u8]], u8, &[u8], &[u8])] = &[
     (&[b"rheap", b"--version"], 1, b"", b"rheap: write failed\n"),
@@ -135,6 +173,9 @@ fn calls_of_the_program(rt: HostRuntime) {
     for call in CALLS {
         expect_played(&rt, &rt, false, call);
     }
+    for call in PACED {
+        expect_played(&rt, &rt, false, call);
+    }
     for call in CLOSED {
         expect_played(&rt, &rt, true, call);
     }
@@ -142,7 +183,7 @@ fn calls_of_the_program(rt: HostRuntime) {
 
 #[test]
 fn faults_before_a_run_are_told(rt: HostRuntime) {
-    let table: [(LineFault, u8, &[u8]); 3] = [
+    let table: [(LineFault, u8, &[u8]); 4] = [
         (LineFault::Open, 1, b"rheap: open failed\n"),
         (
             LineFault::NoText,
@@ -150,6 +191,7 @@ fn faults_before_a_run_are_told(rt: HostRuntime) {
             b"rheap: the command line is no text\n",
         ),
         (LineFault::Incomplete, 2, b"rheap: no command and file\n"),
+        (LineFault::Mark, 2, MARK_FAULT),
     ];
     for (fault, status, text) in table {
         let mut err = Vec::new(rt.alloc());

@@ -20,3 +20,6 @@ returns-clause-asked c = λ error is. help_is_0 (kind_of error) is
 
 pub returns-clause-refused : goal.returns-clause-refused
 returns-clause-refused c = λ error help version. no_help_is_2 (kind_of error) help version
+
+pub returns-clause-mark : goal.returns-clause-mark
+returns-clause-mark c = refl

@@ -1,5 +1,7 @@
 use Rattle.std.proofs.Common.{refl}
 use Rattle.clap.proofs.OnLiterals.{clap_on_literals}
+use Rattle.std.specs.Fmt.{digits}
+use Rattle.rh_text.specs.Number.{number_of}
 use Rattle.rh_cli.specs.Ask.{command_and_file_of, is_taken}
 use Rattle.rh_cli.proofs.laws.worked_command_lines.Goals as goal
 
@@ -38,3 +40,23 @@ returns-clause-unknown c = refl
 pub returns-clause-two_files : goal.returns-clause-two_files
 unfolding is_taken clap_on_literals
 returns-clause-two_files c = refl
+
+pub returns-clause-paced : goal.returns-clause-paced
+unfolding command_and_file_of number_of digits clap_on_literals
+returns-clause-paced c = refl
+
+pub returns-clause-mark : goal.returns-clause-mark
+unfolding command_and_file_of number_of digits clap_on_literals
+returns-clause-mark c = refl
+
+pub returns-clause-mark_alone : goal.returns-clause-mark_alone
+unfolding command_and_file_of number_of digits clap_on_literals
+returns-clause-mark_alone c = refl
+
+pub returns-clause-no_number : goal.returns-clause-no_number
+unfolding command_and_file_of number_of digits clap_on_literals
+returns-clause-no_number c = refl
+
+pub returns-clause-paced_replay : goal.returns-clause-paced_replay
+unfolding is_taken clap_on_literals
+returns-clause-paced_replay c = refl
