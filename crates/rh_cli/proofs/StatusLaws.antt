@@ -24,7 +24,8 @@ use Rattle.rh_trace.specs.declared.summary.Summary.{Summary}
 use Rattle.rh_cli.specs.Count.{CountEnds, IsCountStatus, counts_line}
 use Rattle.rh_cli.specs.Drive.{Concludes, IsRunStatus, run_status}
 use Rattle.rh_cli.specs.Fault.{arguments_status, ending_status, status_of, IsLateStatus}
-use Rattle.rh_cli.specs.Paced.{IsPacedStatus, paced_status}
+use Rattle.rh_paced_trace.specs.Run.{Ends as PacedEnds}
+use Rattle.rh_cli.specs.Paced.{ConcludesPaced, IsPacedStatus, paced_status}
 use Rattle.rh_paced_trace.specs.declared.fault.PacedFault.{PacedFault}
 use Rattle.rh_paced_trace.specs.declared.fault.PacedFault.TheVariants as paced_faults
 use Rattle.rh_cli.specs.Replay.{IsJudged, IsReplayStatus, ReplayEnds}
@@ -340,3 +341,31 @@ history_of_fault input fault (Err other) status old new is ends own =
 
 pub concludes_replay_fault : (input : List ℕ) (fault : HistoryFault) (status : ℕ) (old new : Option (List ℕ)) → history_of input ≡ Err fault → Concludes Replay input status old new → (status ≡ 1) ⊎ (status ≡ 3)
 concludes_replay_fault input fault status old new is c = history_of_fault input fault c.0 status old new is c.1 c.2
+
+-- a paced run that was refused memory has written nothing
+paced_memory_keeps : (mark : Option ℕ) (input : List ℕ) (fault : PacedFault) (old new : Option (List ℕ)) → PacedEnds mark input (Err fault) old new → 3 ≡ paced_status fault → Keeps old new
+paced_memory_keeps mark input paced_faults.Read old new ends is = absurd (omega (arith, is))
+paced_memory_keeps mark input paced_faults.Long old new ends is = absurd (omega (arith, is))
+paced_memory_keeps mark input (paced_faults.Trace fault) old new ends is = absurd (omega (arith, is))
+paced_memory_keeps mark input (paced_faults.New fault) old new ends is = absurd (omega (arith, is))
+paced_memory_keeps mark input (paced_faults.Pace why) old new ends is = absurd (omega (arith, is))
+paced_memory_keeps mark input paced_faults.Write old new ends is = absurd (omega (arith, is))
+paced_memory_keeps mark input paced_faults.OutOfMemory old new ends is = ends
+
+paced_is_3 : (mark : Option ℕ) (input : List ℕ) (outcome : Result Summary PacedFault) (old new : Option (List ℕ)) → PacedEnds mark input outcome old new → IsPacedStatus outcome 3 → Keeps old new
+paced_is_3 mark input (Ok summary) old new ends (inl is) = absurd (omega (arith, is))
+paced_is_3 mark input (Ok summary) old new ends (inr is) = absurd (omega (arith, is))
+paced_is_3 mark input (Err fault) old new ends is = paced_memory_keeps mark input fault old new ends is
+
+paced_is_0 : (mark : Option ℕ) (input : List ℕ) (outcome : Result Summary PacedFault) (old new : Option (List ℕ)) → PacedEnds mark input outcome old new → IsPacedStatus outcome 0
+    → (summary : Summary) × PacedEnds mark input (Ok summary) old new
+paced_is_0 mark input (Ok summary) old new ends is = (summary, ends)
+paced_is_0 mark input (Err fault) old new ends is =
+    elim (paced_fault_is_1_or_3 fault) [ inl one ↦ absurd (omega (arith, is, one)) | inr three ↦ absurd (omega (arith, is, three)) ]
+
+-- a paced run ends with 0 where it came to its end
+pub concludes_paced_0 : (mark : Option ℕ) (input : List ℕ) (old new : Option (List ℕ)) → ConcludesPaced mark input 0 old new → (summary : Summary) × PacedEnds mark input (Ok summary) old new
+concludes_paced_0 mark input old new c = paced_is_0 mark input c.0 old new c.1 c.2
+
+pub concludes_paced_3 : (mark : Option ℕ) (input : List ℕ) (old new : Option (List ℕ)) → ConcludesPaced mark input 3 old new → Keeps old new
+concludes_paced_3 mark input old new c = paced_is_3 mark input c.0 old new c.1 c.2

@@ -20,6 +20,9 @@ ghost use Rattle.rh_replay.specs.Report.{report_text};
 ghost use Rattle.rh_trace.specs.Run.{StopsBeforeTotal, run_of};
 ghost use Rattle.rh_trace.specs.declared.run_fault.RunFault.{RunFault as RunFaultOf};
 ghost use Rattle.rh_trace.specs.declared.summary.Summary.{Summary as SummaryOf};
+ghost use Rattle.rh_core.specs.runs.Programs.{CommandAnswers};
+ghost use Rattle.rh_syntax.specs.Spelling.{Script};
+ghost use Rattle.rh_paced_trace.specs.Run.{IsPlainRun, AreSumsOf, output_of};
 ghost use Rattle.rh_cli.specs.Ask.{command_and_file_of, is_taken};
 ghost use Rattle.rh_cli.specs.Count.{counts_line};
 ghost use Rattle.rh_cli.specs.Drive.{Concludes, run_status};
@@ -29,8 +32,15 @@ ghost use Rattle.rh_cli.specs.declared.ask.Subcommand.{Subcommand as SubcommandO
 ghost use Rattle.rh_cli.specs.declared.ending.Ending.{Ending as EndingOf};
 ghost use Rattle.rh_cli.specs.declared.fault.LineFault.{LineFault as FaultOf};
 
+use rh_core::laws::heaps_answer_as_plain_heaps;
+use rh_core::laws::holds::what_collectors_do_adds_up;
+use rh_core::laws::runs::{
+    a_new_heap_is_well_formed, an_event_answers_as_the_plain_heap,
+    every_event_keeps_a_heap_well_formed,
+};
 use rh_dump::laws::what_is_spelled_is_read;
 use rh_dump::limits::MAX_DUMP_BYTES;
+use std::alloc::Global;
 
 /// 0 says that all was done: a run answered its whole trace, a history is legal and its report is
 /// written, or the counts of a dump's graph are.
@@ -94,6 +104,8 @@ pub fn status_3_says_want_of_memory()
         → (run_status fault ≡ 3) ↔ (fault ≡ RunFaultOf.OutOfMemory) }
     ensures run { (input : List ℕ) (old new : Option (List ℕ))
         → Concludes SubcommandOf.Run input 3 old new → StopsBeforeTotal (run_of input) old new }
+    ensures paced { (mark : Option ℕ) (input : List ℕ) (old new : Option (List ℕ))
+        → Concludes (SubcommandOf.RunPaced mark) input 3 old new → Keeps old new }
     ensures replay { (input : List ℕ) (old new : Option (List ℕ))
         → Concludes SubcommandOf.Replay input 3 old new → Keeps old new }
     ensures dump { (input : List ℕ) (old new : Option (List ℕ))
@@ -147,6 +159,24 @@ pub fn worked_command_lines()
     ensures two_files { false
         ≡ is_taken (codes "rheap" ∷ codes "run" ∷ codes "x" ∷ codes "y" ∷ []) }
 {}
+
+/// What a paced run prints, where it ends with 0, is what a heap answers that never moves its
+/// objects: the input spells a trace of commands alone, and the text is a line for each answer and
+/// the sums of these. An answer may be a refusal by a limit; the plain heap then leaves its command
+/// out. So whatever the mark is, a collection is seen in refusals by a limit and in the sums alone.
+pub fn a_paced_run_answers_as_the_plain_heap()
+    ensures { (mark : Option ℕ) (input : List ℕ) (old new : Option (List ℕ))
+        → Concludes (SubcommandOf.RunPaced mark) input 0 old new
+        → (script : Script) × (answers : CommandAnswers) × (summary : SummaryOf)
+        × IsPlainRun script answers (Some input) (Some []) × AreSumsOf answers summary
+        × Appends old new (output_of answers summary) }
+{
+    heaps_answer_as_plain_heaps();
+    a_new_heap_is_well_formed();
+    an_event_answers_as_the_plain_heap::<Global>();
+    every_event_keeps_a_heap_well_formed::<Global>();
+    what_collectors_do_adds_up::<Global>();
+}
 
 /// What is counted of the text of a graph is how many roots and how many objects the graph has, and
 /// the line says them in this order.

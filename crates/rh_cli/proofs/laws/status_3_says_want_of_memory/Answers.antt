@@ -1,4 +1,4 @@
-use Rattle.rh_cli.proofs.StatusLaws.{memory_is_3, run_memory_is_3, concludes_run_3, concludes_replay_3, concludes_dump_3}
+use Rattle.rh_cli.proofs.StatusLaws.{memory_is_3, run_memory_is_3, concludes_paced_3, concludes_run_3, concludes_replay_3, concludes_dump_3}
 use Rattle.rh_cli.proofs.laws.status_3_says_want_of_memory.Goals as goal
 
 pub returns-clause-fault : goal.returns-clause-fault
@@ -9,6 +9,9 @@ returns-clause-run_fault c = run_memory_is_3
 
 pub returns-clause-run : goal.returns-clause-run
 returns-clause-run c = concludes_run_3
+
+pub returns-clause-paced : goal.returns-clause-paced
+returns-clause-paced c = concludes_paced_3
 
 pub returns-clause-replay : goal.returns-clause-replay
 returns-clause-replay c = concludes_replay_3
