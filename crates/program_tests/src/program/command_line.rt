@@ -121,9 +121,14 @@ const CALLS: &[(&[&[u8]], u8, &[u8], &[u8])] = &[
 /// What is told of a mark that can't be taken.
 const MARK_FAULT: &[u8] = b"rheap: --mark needs --paced and a number of words, 0 to 4294967295\n";
 
-/// Paced runs of the same trace, which has no room for a pace, or has it by a mark.
+/// What the options of a paced run come to that can't be taken, and an empty trace.
 const PACED: &[(&[&[u8]], u8, &[u8], &[u8])] = &[
-    (&[b"rheap", b"run", b"-", b"--mark", b"3"], 2, b"", MARK_FAULT),
+    (
+        &[b"rheap", b"run", b"-", b"--mark", b"3"],
+        2,
+        b"",
+        MARK_FAULT,
+    ),
     (
         &[b"rheap", b"run", b"-", b"--paced", b"--mark", b"03"],
         2,
