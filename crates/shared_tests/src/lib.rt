@@ -1,12 +1,16 @@
-//! Tests of the heap that threads share, by its public calls.
+//! Tests of the heap that threads share, and of its replicators, by their public calls.
 #![tactic(auto)]
 
 #[cfg(test)]
 mod closing;
 #[cfg(test)]
+mod crews;
+#[cfg(test)]
 mod expectations;
 #[cfg(test)]
 mod kept;
+#[cfg(test)]
+mod replicators;
 #[cfg(test)]
 mod starts;
 #[cfg(test)]

@@ -1,0 +1,199 @@
+//! Replicators on their rings, all on one thread.
+
+use crate::expectations::{expect_equal, expect_refusals, expect_texts};
+use refusing::refused_in_turn;
+use rh_layout::Value;
+use rh_partial::{Item, Piece};
+use rh_replicator::{Gate, NotStarted, Replicator, RunEnd, Stepped, run};
+use rh_rings::{Link, Settled, new_link};
+use std::alloc::{Allocator, Global};
+use std::process::Abort;
+use std::sync::atomic::AtomicBool;
+use std::test::Fail;
+
+/// New rings to the replicator of this number and back, and that replicator.
+pub fn rings_of<R: AllocGlobal + Abort>(rt: &R, number: u32) -> (Link, Replicator) {
+    let Ok((link, ends)) = new_link(rt.alloc(), number) else {
+        panic!(rt; "memory is ample")
+    };
+    (link, Replicator::new(rt.alloc(), ends))
+}
+
+/// A piece of this epoch with so many items, each of a place of its own, with this number.
+pub fn piece_of(epoch: u64, items: u32, number: u64) -> Piece {
+    let mut piece = Piece::new(epoch);
+    for field in 0..items {
+        let item = Item {
+            object: 0,
+            field,
+            number,
+            value: Value::Nil,
+        };
+        let _ = piece.push(item);
+    }
+    piece
+}
+
+/// Pushes a piece, unless the ring has no place. Answers whether it had.
+pub fn push<A: Allocator + Copy>(link: &mut Link<A>, piece: Piece) -> bool {
+    let place = link.has_place();
+    if place {
+        link.push(piece);
+    }
+    place
+}
+
+/// The epoch of the replica that waits, how many entries it has, and the number of its first.
+fn waiting<A: Allocator + Copy>(link: &Link<A>) -> Option<(u64, usize, u64)> {
+    let replica = link.waiting()?;
+    if replica.is_empty() {
+        return Some((replica.epoch(), 0, 0));
+    }
+    Some((replica.epoch(), replica.len(), replica.entry(0).number))
+}
+
+#[test]
+fn pieces_of_one_place_are_folded_together(rt: HostRuntime) {
+    let (mut link, mut replicator) = rings_of(&rt, 0);
+    for number in 1..=5 {
+        assert!(rt; push(&mut link, piece_of(7, 1, number)));
+    }
+    expect_equal(&rt, replicator.step(), Stepped::Folded(4));
+    expect_equal(&rt, replicator.step(), Stepped::Folded(1));
+    expect_equal(&rt, replicator.step(), Stepped::Idle);
+    assert!(rt; link.pop());
+    expect_equal(&rt, waiting(&link), Some((7, 1, 4)));
+    // One waits, so no other is popped.
+    assert!(rt; !link.pop());
+    link.forget();
+    expect_equal(&rt, waiting(&link), None);
+    assert!(rt; link.pop());
+    expect_equal(&rt, waiting(&link), Some((7, 1, 5)));
+}
+
+#[test]
+fn another_epoch_and_too_many_items_end_a_fold(rt: HostRuntime) {
+    let (mut link, mut replicator) = rings_of(&rt, 0);
+    assert!(rt; push(&mut link, piece_of(1, 1, 1)));
+    assert!(rt; push(&mut link, piece_of(1, 2, 1)));
+    assert!(rt; push(&mut link, piece_of(2, 40, 1)));
+    assert!(rt; push(&mut link, piece_of(2, 24, 1)));
+    assert!(rt; push(&mut link, piece_of(2, 1, 1)));
+    expect_equal(&rt, replicator.step(), Stepped::Folded(2));
+    expect_equal(&rt, replicator.step(), Stepped::Folded(2));
+    expect_equal(&rt, replicator.step(), Stepped::Folded(1));
+    expect_equal(&rt, replicator.step(), Stepped::Idle);
+}
+
+#[test]
+fn a_ring_has_eight_places_each_way(rt: HostRuntime) {
+    let (mut link, mut replicator) = rings_of(&rt, 0);
+    for epoch in 1..=8 {
+        assert!(rt; push(&mut link, piece_of(epoch, 1, 1)));
+    }
+    assert!(rt; !push(&mut link, piece_of(9, 1, 1)));
+    for _ in 0..8u32 {
+        expect_equal(&rt, replicator.step(), Stepped::Folded(1));
+    }
+    assert!(rt; push(&mut link, piece_of(9, 1, 1)));
+    expect_equal(&rt, replicator.step(), Stepped::RingFull);
+    assert!(rt; link.pop());
+    expect_equal(&rt, replicator.step(), Stepped::Folded(1));
+}
+
+#[test]
+fn what_went_through_is_settled(rt: HostRuntime) -> Result<(), Fail> {
+    let Ok((mut link, ends)) = new_link(rt.alloc(), 3) else {
+        return Err(Fail::from("memory is ample"));
+    };
+    expect_equal(&rt, ends.replicator(), 3);
+    let done = ends.finish().ok_or("the heap's ends are there")?;
+    expect_equal(&rt, done.replicator(), 3);
+    let settled = Settled {
+        received: 0,
+        left: 0,
+    };
+    expect_equal(&rt, link.settle(done), settled);
+    Ok(())
+}
+
+/// Whether memory for the rings or for a step was refused. The step after such a one begins with
+/// the same pieces.
+fn step_is_refused<A: Allocator + Copy>(alloc: A) -> bool {
+    let Ok((mut link, ends)) = new_link(alloc, 0) else {
+        return true;
+    };
+    let mut replicator = Replicator::new(alloc, ends);
+    push(&mut link, piece_of(1, 1, 1));
+    push(&mut link, piece_of(1, 1, 2));
+    replicator.step() == Stepped::OutOfMemory && replicator.step() == Stepped::Folded(2)
+}
+
+#[test]
+fn refused_memory_is_told(rt: HostRuntime) {
+    let steps = refused_in_turn(rt.alloc(), |memory| step_is_refused(memory));
+    expect_refusals(&rt, steps, 5);
+    expect_texts(&rt, &[(NotStarted, "memory or a thread was refused")]);
+}
+
+/// A gate that always passes, and counts.
+#[derive(Clone, Copy, Debug, PartialEq, Eq)]
+struct Counting {
+    asked: u32,
+    idle: u32,
+    folded: u32,
+}
+
+impl Gate for Counting {
+    ghost passes = { λ before answer after. Unit {0} };
+
+    ghost tells = { λ before stepped after. Unit {0} };
+
+    fn pass(&mut self) -> bool {
+        self.asked = self.asked.saturating_add(1);
+        true
+    }
+
+    fn did(&mut self, stepped: &Stepped) {
+        match stepped {
+            Stepped::Idle => self.idle = self.idle.saturating_add(1),
+            Stepped::Folded(_) => self.folded = self.folded.saturating_add(1),
+            Stepped::RingFull | Stepped::OutOfMemory => {}
+        }
+    }
+}
+
+const NONE_ASKED: Counting = Counting {
+    asked: 0,
+    idle: 0,
+    folded: 0,
+};
+
+#[test]
+fn a_run_looks_whether_it_is_stopped_first(rt: HostRuntime) {
+    let (_link, mut replicator) = rings_of(&rt, 0);
+    let mut gate = NONE_ASKED;
+    let end = run(&mut replicator, &mut gate, &AtomicBool::new(true), 3);
+    expect_equal(&rt, (end, gate), (RunEnd::Stopped, NONE_ASKED));
+}
+
+#[test]
+fn a_run_spends_its_turns(rt: HostRuntime) {
+    let (mut link, mut replicator) = rings_of(&rt, 0);
+    let mut gate = NONE_ASKED;
+    let end = run(&mut replicator, &mut gate, &AtomicBool::new(false), 3);
+    let idle = Counting {
+        asked: 3,
+        idle: 3,
+        folded: 0,
+    };
+    expect_equal(&rt, (end, gate), (RunEnd::TurnsSpent, idle));
+    assert!(rt; push(&mut link, piece_of(1, 1, 1)));
+    let end = run(&mut replicator, &mut gate, &AtomicBool::new(false), 2);
+    let folded = Counting {
+        asked: 5,
+        idle: 4,
+        folded: 1,
+    };
+    expect_equal(&rt, (end, gate), (RunEnd::TurnsSpent, folded));
+}
