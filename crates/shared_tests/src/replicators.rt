@@ -1,7 +1,9 @@
 //! Replicators on their rings, all on one thread.
 
-use crate::expectations::{expect_equal, expect_refusals, expect_texts};
-use refusing::refused_in_turn;
+ghost use Rattle.std.specs.Prelude.{◌≡◌};
+
+use crate::expectations::{expect_equal, expect_texts};
+use refusing::{RefusingAllocator, refused_in_turn};
 use rh_layout::Value;
 use rh_partial::{Item, Piece};
 use rh_replicator::{Gate, NotStarted, Replicator, RunEnd, Stepped, run};
@@ -35,7 +37,10 @@ pub fn piece_of(epoch: u64, items: u32, number: u64) -> Piece {
 }
 
 /// Pushes a piece, unless the ring has no place. Answers whether it had.
-pub fn push<A: Allocator + Copy>(link: &mut Link<A>, piece: Piece) -> bool {
+pub fn push<A: Allocator + Copy>(link: &mut Link<A>, piece: Piece) -> bool
+    ensures pieces { link.new.ring.pieces_ring ≡ link.old.ring.pieces_ring }
+    ensures replicas { link.new.ring.replicas_ring ≡ link.old.ring.replicas_ring }
+{
     let place = link.has_place();
     if place {
         link.push(piece);
@@ -44,7 +49,7 @@ pub fn push<A: Allocator + Copy>(link: &mut Link<A>, piece: Piece) -> bool {
 }
 
 /// The epoch of the replica that waits, how many entries it has, and the number of its first.
-fn waiting<A: Allocator + Copy>(link: &Link<A>) -> Option<(u64, usize, u64)> {
+pub fn waiting<A: Allocator + Copy>(link: &Link<A>) -> Option<(u64, usize, u64)> {
     let replica = link.waiting()?;
     if replica.is_empty() {
         return Some((replica.epoch(), 0, 0));
@@ -117,22 +122,62 @@ fn what_went_through_is_settled(rt: HostRuntime) -> Result<(), Fail> {
     Ok(())
 }
 
-/// Whether memory for the rings or for a step was refused. The step after such a one begins with
-/// the same pieces.
-fn step_is_refused<A: Allocator + Copy>(alloc: A) -> bool {
-    let Ok((mut link, ends)) = new_link(alloc, 0) else {
-        return true;
+#[test]
+fn what_is_left_in_the_rings_is_settled_too(rt: HostRuntime) -> Result<(), Fail> {
+    let Ok((mut link, ends)) = new_link(rt.alloc(), 5) else {
+        return Err(Fail::from("memory is ample"));
     };
-    let mut replicator = Replicator::new(alloc, ends);
+    let mut replicator = Replicator::new(rt.alloc(), ends);
+    assert!(rt; push(&mut link, piece_of(1, 1, 1)));
+    assert!(rt; push(&mut link, piece_of(2, 1, 2)));
+    assert!(rt; push(&mut link, piece_of(3, 1, 3)));
+    assert!(rt; push(&mut link, piece_of(4, 1, 4)));
+    expect_equal(&rt, replicator.step(), Stepped::Folded(1));
+    expect_equal(&rt, replicator.step(), Stepped::Folded(1));
+    expect_equal(&rt, replicator.step(), Stepped::Folded(1));
+    assert!(rt; link.pop());
+    let done = replicator.finish().ok_or("the heap's ends are there")?;
+    expect_equal(&rt, done.replicator(), 5);
+    let settled = Settled {
+        received: 1,
+        left: 2,
+    };
+    expect_equal(&rt, link.settle(done), settled);
+    expect_equal(&rt, waiting(&link), Some((1, 1, 1)));
+    Ok(())
+}
+
+#[test]
+fn no_end_is_finished_without_a_heap(rt: HostRuntime) {
+    let (link, replicator) = rings_of(&rt, 0);
+    drop(link);
+    assert!(rt; replicator.finish().is_none());
+}
+
+/// Whether a step, on rings from memory that is ample, met want of memory. The step after such a
+/// one folds the pieces that were there.
+fn step_is_refused<A: Allocator + Copy>(ample: A, memory: A) -> bool {
+    let Ok((mut link, ends)) = new_link(ample, 0) else {
+        return false;
+    };
+    let mut replicator = Replicator::new(memory, ends);
     push(&mut link, piece_of(1, 1, 1));
     push(&mut link, piece_of(1, 1, 2));
-    replicator.step() == Stepped::OutOfMemory && replicator.step() == Stepped::Folded(2)
+    let stepped = replicator.step();
+    if stepped != Stepped::OutOfMemory {
+        return stepped != Stepped::Folded(2);
+    }
+    let folded = replicator.step() == Stepped::Folded(2) && link.pop();
+    folded && waiting(&link) == Some((1, 1, 2))
 }
 
 #[test]
 fn refused_memory_is_told(rt: HostRuntime) {
-    let steps = refused_in_turn(rt.alloc(), |memory| step_is_refused(memory));
-    expect_refusals(&rt, steps, 5);
+    let links = refused_in_turn(rt.alloc(), |memory| new_link(memory, 0).is_err());
+    expect_equal(&rt, links, Ok(4));
+    let ample = RefusingAllocator::new(rt.alloc(), 0);
+    let steps = refused_in_turn(rt.alloc(), |memory| step_is_refused(&ample, memory));
+    expect_equal(&rt, steps, Ok(1));
     expect_texts(&rt, &[(NotStarted, "memory or a thread was refused")]);
 }
 
