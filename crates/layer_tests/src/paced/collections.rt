@@ -1,11 +1,13 @@
 //! Collections on demand.
 
-use crate::commands::alloc;
+use crate::commands::{alloc, store};
 use crate::expectations::expect_equal;
 use crate::paced::calls::{SIZES, STEPS, play, small_heap};
 use rh_core::{Config, Flipped};
-use rh_layout::{Command, Refusal, Reply, RootId};
+use rh_layout::{Command, Operand, Refusal, Reply, RootId};
 use rh_pace::{Did, EpochsSpent};
+
+const A: RootId = RootId { owner: 1, slot: 0 };
 
 const D: RootId = RootId { owner: 0, slot: 1 };
 
@@ -72,6 +74,23 @@ fn insisting_where_the_heap_is_full(rt: HostRuntime) {
     expect_equal(&rt, (heap.stat().flips, heap.stat().free), (3, 0));
     // What D named is unreachable now, but for the first collection.
     expect_equal(&rt, heap.insist(1, &alloc(D, 0)), Ok(Reply::Object(0)));
+}
+
+/// A store that finds the log full is made once the heap was collected, which empties the log.
+#[test]
+fn insisting_where_the_log_is_full(rt: HostRuntime) {
+    let mut heap = small_heap(&rt, rt.alloc(), SIZES);
+    for step in STEPS.iter().take(3) {
+        let _ = heap.command(1, &step.0);
+    }
+    let store = store(A, 0, Operand::Int(5));
+    for _ in 0..SIZES.log_limit {
+        expect_equal(&rt, heap.command(1, &store), Ok(Reply::Done));
+    }
+    expect_equal(&rt, heap.command(1, &store), Err(Refusal::LogFull));
+    expect_equal(&rt, heap.insist(1, &store), Ok(Reply::Done));
+    let stat = heap.stat();
+    expect_equal(&rt, (stat.cycle, stat.flips, stat.number), (false, 1, 5));
 }
 
 /// Where the epoch is the last one nothing is collected.
