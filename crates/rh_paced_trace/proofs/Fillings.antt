@@ -1,5 +1,5 @@
 -- What is told of a filling pace tells all of it.
-use Rattle.std.proofs.Common.{◌≡◌, ℕ, ◌+◌, ◌<◌, ◌≤◌, Result, Ok, Err, inl, inr, refl, arith}
+use Rattle.std.proofs.Common.{◌≡◌, ℕ, ◌+◌, ◌<◌, ◌≤◌, Result, Ok, Err, inl, inr, refl}
 use Rattle.std.specs.Prelude.{◌↔◌, IfOk, IsOk}
 use Rattle.std.proofs.lemmas.Bool.{cases_lt}
 use Rattle.rh_pace.specs.declared.errors.PaceError.{PaceError}

@@ -1,8 +1,11 @@
 -- What a paced run writes are the answers of a plain heap.
-use Rattle.std.proofs.Common.{◌≡◌, ℕ, ◌≤◌, List, [], ◌∷◌, length, Option, Some, None, Result, Ok, Err, refl, sym, ap, subst}
+use Rattle.std.proofs.Common.{◌≡◌, ℕ, false, inl, inr, List, [], ◌∷◌, Option, None, Result, Ok, Err, refl, sym, ap, subst, ◌∙◌}
 use Rattle.std.specs.Prelude.{IfOk, IsErrOf}
 use Rattle.std.specs.Io.KnownBytes.{Appends, Consumes, Keeps}
+use Rattle.std.proofs.lemmas.List.Elements.{All-head, All-tail}
 use Rattle.rh_layout.specs.declared.command.Command.{Command}
+use Rattle.rh_layout.specs.declared.command.Reply.{Reply}
+use Rattle.rh_layout.specs.declared.refusal.Refusal.{Refusal}
 use Rattle.rh_model.specs.Plain.{PlainHeap, empty_plain, step}
 use Rattle.rh_mutator.specs.declared.config.Config.{Config}
 use Rattle.rh_mutator.specs.Config.{fault_of}
@@ -18,7 +21,7 @@ use Rattle.rh_core.specs.Shading.{shade_step}
 use Rattle.rh_core.specs.declared.event.Event.{Event}
 use Rattle.rh_core.specs.declared.event.Event.TheVariants as events
 use Rattle.rh_core.specs.runs.Collected.{IsCollected}
-use Rattle.rh_core.specs.runs.Programs.{CommandAnswers}
+use Rattle.rh_core.specs.runs.Programs.{CommandAnswers, AreUnlimited}
 use Rattle.rh_core.specs.runs.Run as runs
 use Rattle.rh_core.specs.runs.Run.{event_step}
 use Rattle.rh_text.specs.Output.{AppendsLess}
@@ -31,8 +34,12 @@ use Rattle.rh_pace.specs.Paced.{PacedState, after_answer, paced_step, with_comma
 use Rattle.rh_paced_trace.specs.declared.fault.PacedFault.{PacedFault}
 use Rattle.rh_paced_trace.specs.declared.fault.PacedFault.TheVariants as faults
 use Rattle.rh_paced_trace.specs.Lines.{Commands, commands_in}
-use Rattle.rh_paced_trace.specs.Run.{answers_to, new_run, output_of, sum_of, text_of, IsRun, Ends, AreTransparent, IsPlainRun, AreSumsOf}
+use Rattle.rh_paced_trace.specs.Run.{answers_to, new_run, output_of, sum_of, IsRun, Ends, AreTransparent, IsPlainRun, AreSumsOf}
 use Rattle.rh_paced_trace.proofs.CollectorWork.{WorkLaws, answered}
+
+-- no limit refused by the answer
+abbrev IsUnlimited : Result Reply Refusal → Type 0
+IsUnlimited answer = is_limit_answer answer ≡ false
 
 -- a well-formed heap that stands for a plain heap
 abbrev IsPlain : HeapState → PlainHeap → Type 0
@@ -40,7 +47,7 @@ IsPlain h p = IsWellFormed h × StandsFor h.mutators p
 
 -- what the laws of a heap say of it and the plain heap that it stands for
 pub record PlainLaws (A : Type 0) : Type 0 where
-  pub work : WorkLaws A
+  pub work : WorkLaws (IsCollected A)
   pub new : (c : Config) → fault_of c ≡ None → IsWellFormed (new_heap c)
   pub begins : (c : Config) → StandsFor (new_heap c).mutators (empty_plain c.owners c.slots)
   pub steps : (h : HeapState) → IsWellFormed h → (p : PlainHeap) → StandsFor h.mutators p → (event : Event A)
@@ -76,6 +83,26 @@ laws_of none both begin shade hold flip idle well stands new begins steps keeps 
   stands = stands;
 }
 
+-- an answer by which no limit refused is the plain heap's
+unlimited : (answer plain_answer : Result Reply Refusal) → AnswersAs answer plain_answer → is_limit_answer answer ≡ false → answer ≡ plain_answer
+unlimited answer plain_answer (inl same) within = same.1
+unlimited answer plain_answer (inr limited) within = absurd (let full = limited.0 in cc)
+
+-- Answers of which each is a plain heap's, and by which no limit refused, are the same.
+pub alike : (commands : Commands) (p : PlainHeap) (first second : CommandAnswers) → AreTransparent p commands first → AreTransparent p commands second → AreUnlimited first → AreUnlimited second → first ≡ second
+alike [] p [] [] one other within also = refl
+alike [] p [] (b ∷ bs) one other within also = absurd other
+alike [] p (a ∷ left) second one other within also = absurd one
+alike (owned ∷ others) p [] second one other within also = absurd one
+alike (owned ∷ others) p (a ∷ left) [] one other within also = absurd other
+alike (owned ∷ others) p (a ∷ left) (b ∷ bs) one other within also =
+    let here = unlimited a (step p owned.0 owned.1).1 one.0 (All-head IsUnlimited a left within) in
+    let there = unlimited b (step p owned.0 owned.1).1 other.0 (All-head IsUnlimited b bs also) in
+    let same : a ≡ b = here ∙ sym there in
+    let later = subst (λ (answer : Result Reply Refusal). AreTransparent (plain_unless (is_limit_answer answer) p owned.0 owned.1) others bs) (sym same) other.1 in
+    let rest = alike others (plain_unless (is_limit_answer a) p owned.0 owned.1) left bs one.1 later (All-tail IsUnlimited a left within) (All-tail IsUnlimited b bs also) in
+    ap (λ (answer : Result Reply Refusal). answer ∷ left) same ∙ ap (λ (answers : CommandAnswers). b ∷ answers) rest
+
 module _ {A : Type 0} (laws : PlainLaws A) where
   -- a command is answered as by the plain heap, and the heap goes on to stand for it
   one : (s : PacedState) (p : PlainHeap) → IsPlain s.heap p → (owner : ℕ) (command : Command)
@@ -96,6 +123,18 @@ module _ {A : Type 0} (laws : PlainLaws A) where
   transparent (owned ∷ others) s p plain =
       let first = one s p plain owned.0 owned.1 in
       (first.0, transparent others (paced_step s owned.0 owned.1).0 (plain_unless (is_limit_answer (paced_step s owned.0 owned.1).1) p owned.0 owned.1) first.1)
+
+  -- so two runs at any paces are answered alike, where no limit refused
+  pub unseen : (script : Script) → fault_of (config_of script.header) ≡ None → (first second : Pace)
+      → AreUnlimited (answers_to (new_run script first) (commands_in script.requests)) → AreUnlimited (answers_to (new_run script second) (commands_in script.requests))
+      → answers_to (new_run script first) (commands_in script.requests) ≡ answers_to (new_run script second) (commands_in script.requests)
+  unseen script sizes first second within also =
+      let c = config_of script.header in
+      let p = empty_plain script.header.owners script.header.slots in
+      let plain : IsPlain (new_heap c) p = (laws.new c sizes, laws.begins c) in
+      let commands = commands_in script.requests in
+      alike commands p (answers_to (new_run script first) commands) (answers_to (new_run script second) commands)
+      (transparent commands (new_run script first) p plain) (transparent commands (new_run script second) p plain) within also
 
   -- what a run is answered
   abbrev answers_of : Script → Pace → CommandAnswers

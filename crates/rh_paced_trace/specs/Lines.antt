@@ -1,5 +1,5 @@
 -- The commands of a trace, its lines that are none, and the biggest object that it asks for.
-use Rattle.std.specs.Prelude.{ℕ, ◌+◌, min, max, List, [], ◌∷◌, Option, Some, None, Result, Ok, Err}
+use Rattle.std.specs.Prelude.{◌≡◌, ℕ, ◌+◌, min, max, true, false, All, List, [], ◌∷◌, take, slice_get, IsSomeAnd, Option, Some, None, Result, Ok, Err}
 use Rattle.rh_layout.specs.declared.command.Command.{Command}
 use Rattle.rh_layout.specs.declared.command.Command.TheVariants.{Alloc, Load, Store, Copy, Same, Drop}
 use Rattle.rh_syntax.specs.declared.fault.Kind.TheVariants.{Word}
@@ -8,6 +8,7 @@ use Rattle.rh_syntax.specs.declared.request.Request.{Request}
 use Rattle.rh_syntax.specs.declared.request.Request.TheVariants as requests
 use Rattle.rh_syntax.specs.Reading.{fault_at}
 use Rattle.rh_syntax.specs.Spelling.{Script}
+use Rattle.rh_trace.specs.Events.{is_command}
 
 -- commands, each with its owner
 abbrev pub Commands : Type 0
@@ -44,3 +45,15 @@ words_asked (Drop root) = 0
 abbrev pub biggest_of : Commands → ℕ
 biggest_of [] = 2
 biggest_of (owned ∷ others) = max (words_asked owned.1) (biggest_of others)
+
+-- Laws.
+
+-- all requests are commands
+abbrev pub AreCommands : List Request → Type 0
+AreCommands requests = All (λ request. is_command request ≡ true) requests
+
+-- the request at i, from 0, is no command, and those before it are
+abbrev pub IsFirstOther : List Request → ℕ → Type 0
+IsFirstOther requests i =
+    IsSomeAnd (slice_get requests i) (λ request. is_command request ≡ false)
+    × AreCommands (take i requests)

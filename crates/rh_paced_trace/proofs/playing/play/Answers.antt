@@ -1,12 +1,9 @@
-use Rattle.std.proofs.Common.{◌≡◌, ◌+◌, ap, subst, sym, ◌∙◌, arith, drop}
+use Rattle.std.proofs.Common.{ap, subst, sym, ◌∙◌, arith}
 use Rattle.std.specs.Io.KnownBytes.{Appends}
 use Rattle.std.proofs.lemmas.Result.{err_from_is_err_and}
 use Rattle.rh_text.specs.IoLog.{MadeSince}
 use Rattle.rh_text.specs.Output.{AppendsLess}
-use Rattle.rh_text.specs.lemmas.Appends.{Appends-at}
-use Rattle.rh_trace.specs.Answers.{total_line}
-use Rattle.rh_paced_trace.specs.Lines.{commands_in}
-use Rattle.rh_paced_trace.proofs.InTurn.{Left, next_at, cut_at, skip_at, done_at, cut_total_at, bit_le}
+use Rattle.rh_paced_trace.proofs.InTurn.{next_at, cut_at, skip_at, done_at, cut_total_at, bit_le}
 use Rattle.rh_paced_trace.proofs.playing.play.Goals as goal
 use Rattle.rh_paced_trace.proofs.playing.play.Goals.{in-Command+in_ok-is_refused, in_default}
 

@@ -1,4 +1,4 @@
-use Rattle.std.proofs.Common.{◌≡◌, List, None, Some, Ok, Err, refl, ap, subst, sym, ◌∙◌}
+use Rattle.std.proofs.Common.{◌≡◌, List, None, Ok, Err, ap, subst, sym, ◌∙◌}
 use Rattle.std.specs.Io.KnownBytes.{Appends}
 use Rattle.rh_mutator.specs.declared.config.Config.{Config}
 use Rattle.rh_mutator.specs.Config.{fault_of}
@@ -7,7 +7,6 @@ use Rattle.rh_text.specs.Output.{AppendsLess}
 use Rattle.rh_text.specs.lemmas.Appends.{Keeps-same}
 use Rattle.rh_syntax.specs.declared.line.Header.{Header}
 use Rattle.rh_syntax.specs.declared.request.Request.{Request}
-use Rattle.rh_syntax.specs.Spelling.{Script}
 use Rattle.rh_trace.specs.Run.{config_of}
 use Rattle.rh_pace.specs.Paced.{PacedState, paced_heap}
 use Rattle.rh_paced_trace.specs.Lines.{commands_in, other_fault}

@@ -1,0 +1,119 @@
+//! Laws of the definitions alone. Each function does nothing: its contract is the law.
+
+ghost use Rattle.std.specs.Prelude.{◌≡◌, ◌↔◌, ◌⊎◌, ◌+◌, ◌≤◌, ℕ, List, [], length, map, min, take, count_by, slice_get, false, Some, None};
+ghost use Rattle.rh_layout.specs.declared.command.Command.{Command as CommandOf};
+ghost use Rattle.rh_layout.specs.declared.command.RootId.{RootId};
+ghost use Rattle.rh_mutator.specs.Config.{fault_of};
+ghost use Rattle.rh_core.specs.runs.Programs.{AreUnlimited};
+ghost use Rattle.rh_syntax.specs.declared.fault.Kind.TheVariants.{Word};
+ghost use Rattle.rh_syntax.specs.declared.fault.TraceFault.{TraceFault as FaultOf};
+ghost use Rattle.rh_syntax.specs.declared.request.Request.{Request as RequestOf};
+ghost use Rattle.rh_syntax.specs.Reading.{fault_at};
+ghost use Rattle.rh_syntax.specs.Spelling.{Script};
+ghost use Rattle.rh_trace.specs.Events.{is_command};
+ghost use Rattle.rh_trace.specs.Run.{config_of};
+ghost use Rattle.rh_pace.specs.declared.pace.Pace.{Pace as PaceOf};
+ghost use Rattle.rh_pace.specs.Paced.{PacedState};
+ghost use Rattle.rh_pace.specs.Programs.{paced_answers};
+ghost use Rattle.rh_paced_trace.specs.Lines.{AreCommands, Commands, IsFirstOther, biggest_of, commands_in, other_fault};
+ghost use Rattle.rh_paced_trace.specs.Run.{answers_to, new_run, state_after, sum_of, summary_to};
+
+use rh_core::laws::cycles::{
+    a_cycle_begins_with_nothing_placed, a_flip_ends_the_cycle,
+    a_flip_is_refused_exactly_where_its_cycle_is_not_closed,
+};
+use rh_core::laws::deals::a_deal_looks_at_as_many_as_it_may;
+use rh_core::laws::gives::{a_give_leaves_the_cycle, a_shade_leaves_the_cycle};
+use rh_core::laws::holds::what_collectors_do_adds_up;
+use rh_core::laws::idle_work::idle_words_add_up;
+use rh_core::laws::runs::{
+    a_new_heap_is_well_formed, an_event_answers_as_the_plain_heap,
+    every_event_keeps_a_heap_well_formed,
+};
+use rh_core::laws::{a_command_leaves_the_cycle, heaps_answer_as_plain_heaps};
+use std::alloc::Global;
+
+/// The commands of a trace are those of its lines that are commands, in order: each comes behind as
+/// many as lines before its own are commands, and there are no others. So a trace of commands alone
+/// is these, line by line.
+pub fn the_commands_of_a_trace_stand_in_the_order_of_its_lines()
+    ensures placed { (requests : List RequestOf) (i owner : ℕ) (command : CommandOf)
+        → slice_get requests i ≡ Some (RequestOf.Command owner command)
+        → slice_get (commands_in requests) (count_by is_command (take i requests))
+        ≡ Some (owner, command) }
+    ensures count { (requests : List RequestOf)
+        → length (commands_in requests) ≡ count_by is_command requests }
+    ensures alone { (requests : List RequestOf) → AreCommands requests
+        → map (λ owned. RequestOf.Command owned.0 owned.1) (commands_in requests) ≡ requests }
+{}
+
+/// Of a trace with a line that is no command the first such line is told, with the fault Word. The
+/// request at i stands on line i + 2.
+pub fn the_first_line_that_is_no_command_is_told()
+    ensures told { (requests : List RequestOf) (fault : FaultOf)
+        → (other_fault 2 requests ≡ Some fault)
+        ↔ ((i : ℕ) × IsFirstOther requests i × (fault ≡ fault_at (i + 2) Word)) }
+    ensures none { (requests : List RequestOf)
+        → (other_fault 2 requests ≡ None) ↔ AreCommands requests }
+{}
+
+/// The biggest object of a trace has as many words as the largest that a line allocates, its fields
+/// and 2: none has more, and one has as many, unless all have 2, or there is none. An allocation of
+/// more than 4,095 fields, which every heap refuses, counts as one of 4,095.
+pub fn the_biggest_object_is_the_largest_that_a_line_allocates()
+    ensures bound { (requests : List RequestOf) (i owner : ℕ) (dst : RootId) (fields : ℕ)
+        → slice_get requests i ≡ Some (RequestOf.Command owner (CommandOf.Alloc dst fields))
+        → min fields 4095 + 2 ≤ biggest_of (commands_in requests) }
+    ensures reached { (requests : List RequestOf) → (biggest_of (commands_in requests) ≡ 2)
+        ⊎ ((i : ℕ) × (owner : ℕ) × (dst : RootId) × (fields : ℕ)
+        × (slice_get requests i ≡ Some (RequestOf.Command owner (CommandOf.Alloc dst fields)))
+        × (biggest_of (commands_in requests) ≡ min fields 4095 + 2)) }
+    ensures range { (requests : List RequestOf) → (2 ≤ biggest_of (commands_in requests))
+        × (biggest_of (commands_in requests) ≤ 4097) }
+{}
+
+/// Each cycle that ends begins the next epoch, and is one flip of the sums: so these tell how many
+/// cycles ended in the run, which a new heap begins in epoch 1.
+pub fn a_summary_counts_the_cycles_that_ended()
+    ensures flips { (s : PacedState) (commands : Commands)
+        → (summary_to s commands).flips + s.heap.epoch
+        ≡ s.heap.flips + (state_after s commands).heap.epoch }
+    ensures run { (script : Script) (pace : PaceOf)
+        → (sum_of script pace).flips + 1
+        ≡ (state_after (new_run script pace) (commands_in script.requests)).heap.epoch }
+{
+    a_command_leaves_the_cycle();
+    a_cycle_begins_with_nothing_placed();
+    a_shade_leaves_the_cycle();
+    a_deal_looks_at_as_many_as_it_may();
+    a_give_leaves_the_cycle();
+    idle_words_add_up();
+    a_flip_ends_the_cycle();
+    a_flip_is_refused_exactly_where_its_cycle_is_not_closed();
+}
+
+/// A trace of commands is a program that looks at no answer, and insists on no command: the next
+/// command is that of the next line. So of its run all holds that is promised of every program on a
+/// paced heap.
+pub fn a_trace_is_a_program()
+    ensures { (s : PacedState) (commands : Commands) → answers_to s commands
+        ≡ paced_answers (λ so_far. slice_get commands (length so_far)) (λ so_far. false)
+        (length commands) s [] }
+{}
+
+/// No trace sees at which pace its heap collects: at any two paces its answers are the same, where
+/// no limit refused in either run.
+pub fn the_pace_is_seen_in_refusals_by_a_limit_alone()
+    ensures { (script : Script) → fault_of (config_of script.header) ≡ None
+        → (first second : PaceOf)
+        → AreUnlimited (answers_to (new_run script first) (commands_in script.requests))
+        → AreUnlimited (answers_to (new_run script second) (commands_in script.requests))
+        → answers_to (new_run script first) (commands_in script.requests)
+        ≡ answers_to (new_run script second) (commands_in script.requests) }
+{
+    heaps_answer_as_plain_heaps();
+    a_new_heap_is_well_formed();
+    an_event_answers_as_the_plain_heap::<Global>();
+    every_event_keeps_a_heap_well_formed::<Global>();
+    what_collectors_do_adds_up::<Global>();
+}
