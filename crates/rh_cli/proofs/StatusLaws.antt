@@ -24,7 +24,9 @@ use Rattle.rh_trace.specs.declared.summary.Summary.{Summary}
 use Rattle.rh_cli.specs.Count.{CountEnds, IsCountStatus, counts_line}
 use Rattle.rh_cli.specs.Drive.{Concludes, IsRunStatus, run_status}
 use Rattle.rh_cli.specs.Fault.{arguments_status, ending_status, status_of, IsLateStatus}
-use Rattle.rh_paced_trace.specs.Run.{Ends as PacedEnds}
+use Rattle.rh_syntax.specs.Spelling.{Script}
+use Rattle.rh_pace.specs.declared.pace.Pace.{Pace}
+use Rattle.rh_paced_trace.specs.Run.{Ends as PacedEnds, IsRun, text_of as paced_text_of}
 use Rattle.rh_cli.specs.Paced.{ConcludesPaced, IsPacedStatus, paced_status}
 use Rattle.rh_paced_trace.specs.declared.fault.PacedFault.{PacedFault}
 use Rattle.rh_paced_trace.specs.declared.fault.PacedFault.TheVariants as paced_faults
@@ -369,3 +371,45 @@ concludes_paced_0 mark input old new c = paced_is_0 mark input c.0 old new c.1 c
 
 pub concludes_paced_3 : (mark : Option ℕ) (input : List ℕ) (old new : Option (List ℕ)) → ConcludesPaced mark input 3 old new → Keeps old new
 concludes_paced_3 mark input old new c = paced_is_3 mark input c.0 old new c.1 c.2
+
+-- so its whole text is written, and it is one of a trace of commands at its pace
+pub concludes_paced_run : (mark : Option ℕ) (input : List ℕ) (old new : Option (List ℕ)) → ConcludesPaced mark input 0 old new
+    → (script : Script) × (pace : Pace) × IsRun mark input script pace × Appends old new (paced_text_of script pace)
+concludes_paced_run mark input old new c =
+    let done = concludes_paced_0 mark input old new c in
+    (done.1.0, done.1.1, done.1.2, done.1.4)
+
+-- of a paced run's faults want of memory alone has 3
+pub paced_memory_is_3 : (fault : PacedFault) → (paced_status fault ≡ 3) ↔ (fault ≡ paced_faults.OutOfMemory)
+paced_memory_is_3 paced_faults.Read = (λ is. absurd (omega (arith, is)), λ is. cc)
+paced_memory_is_3 paced_faults.Long = (λ is. absurd (omega (arith, is)), λ is. cc)
+paced_memory_is_3 (paced_faults.Trace fault) = (λ is. absurd (omega (arith, is)), λ is. cc)
+paced_memory_is_3 (paced_faults.New fault) = (λ is. absurd (omega (arith, is)), λ is. cc)
+paced_memory_is_3 (paced_faults.Pace why) = (λ is. absurd (omega (arith, is)), λ is. cc)
+paced_memory_is_3 paced_faults.Write = (λ is. absurd (omega (arith, is)), λ is. cc)
+paced_memory_is_3 paced_faults.OutOfMemory = (λ is. refl, λ is. refl)
+
+-- the input is a trace of commands that has a pace
+abbrev pub CanRun : Option ℕ → List ℕ → Type 0
+CanRun mark input = (script : Script) × (pace : Pace) × IsRun mark input script pace
+
+paced_unwritten : (mark : Option ℕ) (input : List ℕ) (outcome : Result Summary PacedFault) (old new : Option (List ℕ)) → ¬ CanRun mark input → PacedEnds mark input outcome old new → Keeps old new
+paced_unwritten mark input (Ok summary) old new none ends = absurd (none (ends.0, ends.1, ends.2))
+paced_unwritten mark input (Err paced_faults.Write) old new none ends = absurd (none (ends.0, ends.1, ends.2))
+paced_unwritten mark input (Err paced_faults.Long) old new none ends = ends.1
+paced_unwritten mark input (Err (paced_faults.Trace fault)) old new none ends = ends.2
+paced_unwritten mark input (Err (paced_faults.New fault)) old new none ends = ends.3
+paced_unwritten mark input (Err (paced_faults.Pace why)) old new none ends = ends.4
+paced_unwritten mark input (Err paced_faults.Read) old new none ends = ends
+paced_unwritten mark input (Err paced_faults.OutOfMemory) old new none ends = ends
+
+paced_of_fault : (mark : Option ℕ) (input : List ℕ) (outcome : Result Summary PacedFault) (status : ℕ) (old new : Option (List ℕ)) → ¬ CanRun mark input
+    → PacedEnds mark input outcome old new → IsPacedStatus outcome status → (status ≡ 1) ⊎ (status ≡ 3)
+paced_of_fault mark input (Ok summary) status old new none ends own = absurd (none (ends.0, ends.1, ends.2))
+paced_of_fault mark input (Err fault) status old new none ends own =
+    elim (paced_fault_is_1_or_3 fault) [ inl one ↦ inl (own ∙ one) | inr three ↦ inr (own ∙ three) ]
+
+-- what can't be run has one of these, and nothing is written
+pub concludes_paced_fault : (mark : Option ℕ) (input : List ℕ) (status : ℕ) (old new : Option (List ℕ)) → ¬ CanRun mark input → ConcludesPaced mark input status old new
+    → ((status ≡ 1) ⊎ (status ≡ 3)) × Keeps old new
+concludes_paced_fault mark input status old new none c = (paced_of_fault mark input c.0 status old new none c.1 c.2, paced_unwritten mark input c.0 old new none c.1)

@@ -22,11 +22,14 @@ ghost use Rattle.rh_trace.specs.declared.run_fault.RunFault.{RunFault as RunFaul
 ghost use Rattle.rh_trace.specs.declared.summary.Summary.{Summary as SummaryOf};
 ghost use Rattle.rh_core.specs.runs.Programs.{CommandAnswers};
 ghost use Rattle.rh_syntax.specs.Spelling.{Script};
-ghost use Rattle.rh_paced_trace.specs.Run.{IsPlainRun, AreSumsOf, output_of};
+ghost use Rattle.rh_pace.specs.declared.pace.Pace.{Pace as PaceOf};
+ghost use Rattle.rh_paced_trace.specs.declared.fault.PacedFault.{PacedFault as PacedFaultOf};
+ghost use Rattle.rh_paced_trace.specs.Run.{IsPlainRun, IsRun, AreSumsOf, output_of, text_of};
 ghost use Rattle.rh_cli.specs.Ask.{command_and_file_of, is_taken};
 ghost use Rattle.rh_cli.specs.Count.{counts_line};
 ghost use Rattle.rh_cli.specs.Drive.{Concludes, run_status};
 ghost use Rattle.rh_cli.specs.Fault.{ending_status, status_of};
+ghost use Rattle.rh_cli.specs.Paced.{paced_status};
 ghost use Rattle.rh_cli.specs.Replay.{IsJudged};
 ghost use Rattle.rh_cli.specs.declared.ask.Subcommand.{Subcommand as SubcommandOf};
 ghost use Rattle.rh_cli.specs.declared.ending.Ending.{Ending as EndingOf};
@@ -42,12 +45,16 @@ use rh_dump::laws::what_is_spelled_is_read;
 use rh_dump::limits::MAX_DUMP_BYTES;
 use std::alloc::Global;
 
-/// 0 says that all was done: a run answered its whole trace, a history is legal and its report is
-/// written, or the counts of a dump's graph are.
+/// 0 says that all was done: a run answered its whole trace, a paced run its whole trace of commands
+/// at its pace, a history is legal and its report is written, or the counts of a dump's graph are.
 pub fn status_0_says_done()
     ensures run { (input : List ℕ) (old new : Option (List ℕ))
         → Concludes SubcommandOf.Run input 0 old new
         → (run : List ℕ × SummaryOf) × (run_of input ≡ Ok run) × Appends old new run.0 }
+    ensures paced { (mark : Option ℕ) (input : List ℕ) (old new : Option (List ℕ))
+        → Concludes (SubcommandOf.RunPaced mark) input 0 old new
+        → (script : Script) × (pace : PaceOf) × IsRun mark input script pace
+        × Appends old new (text_of script pace) }
     ensures replay { (input : List ℕ) (old new : Option (List ℕ))
         → Concludes SubcommandOf.Replay input 0 old new
         → (h : HistoryState) × (count : ℕ) × IsJudged input h (VerdictOf.Legal count)
@@ -63,11 +70,16 @@ pub fn status_0_says_done()
 {}
 
 /// What isn't a trace, a history or a dump ends with 1, or with 3 where memory was refused before
-/// its fault was found.
+/// its fault was found. So does a paced run of what is no trace of commands, or of one whose sizes
+/// make no heap, or for which there is no pace, and nothing is written then.
 pub fn a_faulty_input_ends_with_1_or_3()
     ensures run { (input : List ℕ) (fault : RunFaultOf) (status : ℕ) (old new : Option (List ℕ))
         → run_of input ≡ Err fault → Concludes SubcommandOf.Run input status old new
         → (status ≡ 1) ⊎ (status ≡ 3) }
+    ensures paced { (mark : Option ℕ) (input : List ℕ) (status : ℕ) (old new : Option (List ℕ))
+        → ¬ ((script : Script) × (pace : PaceOf) × IsRun mark input script pace)
+        → Concludes (SubcommandOf.RunPaced mark) input status old new
+        → ((status ≡ 1) ⊎ (status ≡ 3)) × Keeps old new }
     ensures replay { (input : List ℕ) (fault : HistoryFaultOf) (status : ℕ)
         (old new : Option (List ℕ)) → history_of input ≡ Err fault
         → Concludes SubcommandOf.Replay input status old new → (status ≡ 1) ⊎ (status ≡ 3) }
@@ -102,6 +114,8 @@ pub fn status_3_says_want_of_memory()
     ensures fault { (fault : FaultOf) → (status_of fault ≡ 3) ↔ (fault ≡ FaultOf.OutOfMemory) }
     ensures run_fault { (fault : RunFaultOf)
         → (run_status fault ≡ 3) ↔ (fault ≡ RunFaultOf.OutOfMemory) }
+    ensures paced_fault { (fault : PacedFaultOf)
+        → (paced_status fault ≡ 3) ↔ (fault ≡ PacedFaultOf.OutOfMemory) }
     ensures run { (input : List ℕ) (old new : Option (List ℕ))
         → Concludes SubcommandOf.Run input 3 old new → StopsBeforeTotal (run_of input) old new }
     ensures paced { (mark : Option ℕ) (input : List ℕ) (old new : Option (List ℕ))

@@ -1,4 +1,4 @@
-use Rattle.rh_cli.proofs.StatusLaws.{concludes_run_fault, concludes_replay_fault, concludes_dump_fault}
+use Rattle.rh_cli.proofs.StatusLaws.{concludes_run_fault, concludes_replay_fault, concludes_dump_fault, concludes_paced_fault}
 use Rattle.rh_cli.proofs.laws.a_faulty_input_ends_with_1_or_3.Goals as goal
 
 pub returns-clause-run : goal.returns-clause-run
@@ -9,3 +9,6 @@ returns-clause-replay c = concludes_replay_fault
 
 pub returns-clause-dump : goal.returns-clause-dump
 returns-clause-dump c = concludes_dump_fault
+
+pub returns-clause-paced : goal.returns-clause-paced
+returns-clause-paced c = concludes_paced_fault

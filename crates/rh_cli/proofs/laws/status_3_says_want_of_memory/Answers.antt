@@ -1,4 +1,4 @@
-use Rattle.rh_cli.proofs.StatusLaws.{memory_is_3, run_memory_is_3, concludes_paced_3, concludes_run_3, concludes_replay_3, concludes_dump_3}
+use Rattle.rh_cli.proofs.StatusLaws.{memory_is_3, run_memory_is_3, concludes_paced_3, concludes_run_3, concludes_replay_3, concludes_dump_3, paced_memory_is_3}
 use Rattle.rh_cli.proofs.laws.status_3_says_want_of_memory.Goals as goal
 
 pub returns-clause-fault : goal.returns-clause-fault
@@ -18,3 +18,6 @@ returns-clause-replay c = concludes_replay_3
 
 pub returns-clause-dump : goal.returns-clause-dump
 returns-clause-dump c = concludes_dump_3
+
+pub returns-clause-paced_fault : goal.returns-clause-paced_fault
+returns-clause-paced_fault c = paced_memory_is_3
