@@ -52,6 +52,11 @@ fn root(slot: u8) -> RootId {
     }
 }
 
+/// The number that a byte stands for, from -128 on.
+fn number(byte: u8) -> i64 {
+    i64::from(byte) - if byte < 128 { 0 } else { 256 }
+}
+
 /// What an answer adds to the checksum.
 #[inline]
 fn code_of(reply: Reply) -> u64 {
@@ -75,23 +80,16 @@ fn play_one(heap: &mut PacedHeap, operation: &[u8], sum: u64) -> Result<u64, Ref
     let &[kind, a, b, c] = operation else {
         return Ok(sum);
     };
-    let operand = match kind {
-        0 => {
-            heap.alloc(OWNER, root(a), b.into())?;
-            return Ok(sum);
-        }
+    match kind {
+        0 => heap.alloc(OWNER, root(a), b.into())?,
         1 => return Ok(with_answer(sum, heap.load(OWNER, root(a), root(b), c.into())?)),
-        2 => Operand::Nil,
-        3 => Operand::Int(i64::from(c) - if c < 128 { 0 } else { 256 }),
-        4 => Operand::Root(root(c)),
+        2 => heap.store(OWNER, root(a), b.into(), Operand::Nil)?,
+        3 => heap.store(OWNER, root(a), b.into(), Operand::Int(number(c)))?,
+        4 => heap.store(OWNER, root(a), b.into(), Operand::Root(root(c)))?,
         5 => return Ok(with_answer(sum, heap.copy(OWNER, root(a), root(b))?)),
         6 => return Ok(with_answer(sum, heap.same(OWNER, root(a), root(b))?)),
-        _ => {
-            heap.drop(OWNER, root(a))?;
-            return Ok(sum);
-        }
+        _ => heap.drop(OWNER, root(a))?,
     };
-    heap.store(OWNER, root(a), b.into(), operand)?;
     Ok(sum)
 }
 
