@@ -12,7 +12,7 @@ use rh_pace::PacedHeap;
 use std::alloc::Global;
 use std::io::{Input, Read};
 use std::rt::Clock;
-use std::time::{CpuClock, Instant};
+use std::time::CpuClock;
 
 /// The owner whose roots the stream names, and its slots.
 const OWNER: u32 = 1;
@@ -112,6 +112,14 @@ fn clear(heap: &mut PacedHeap) -> Option<()> {
     Some(())
 }
 
+/// The nanoseconds that the clock shows; nothing where it failed.
+#[inline]
+fn now(rt: &impl Clock) -> Option<u64> {
+    let time = rt.monotonic().ok()?;
+    let seconds = time.as_secs().wrapping_mul(1_000_000_000);
+    Some(seconds.wrapping_add(time.subsec_nanos().into()))
+}
+
 /// Plays all operations once, with each batch noted. Answers what it came to; nothing where one was
 /// refused or a clock failed.
 fn play(
@@ -123,17 +131,17 @@ fn play(
     clear(heap)?;
     let cycles = heap.stat().flips;
     let processor = rt.process_cpu_time().ok()?;
-    let began = Instant::now(rt).ok()?;
-    let (mut last, mut sum) = (0, 0);
+    let began = now(rt)?;
+    let (mut last, mut sum) = (began, 0);
     for batch in operations.chunks(BATCH_BYTES) {
         sum = play_batch(heap, batch, sum)?;
-        let now = u64::try_from(began.elapsed(rt).ok()?.as_nanos()).ok()?;
+        let now = now(rt)?;
         latency.note(now.saturating_sub(last));
         last = now;
     }
     let used = rt.process_cpu_time().ok()?.checked_sub(processor)?;
     Some(Played {
-        nanoseconds: last,
+        nanoseconds: last.saturating_sub(began),
         processor: u64::try_from(used.as_nanos()).ok()?,
         cycles: heap.stat().flips.wrapping_sub(cycles),
         sum,
