@@ -5,7 +5,7 @@ use Rattle.std.proofs.lemmas.Bool.{and_parts, ltb-true, ltb-false, leb-true, leb
 use Rattle.std.proofs.lemmas.List.{at_drop_more}
 use Rattle.std.proofs.lemmas.List.Elements.{filter-append}
 use Rattle.rh_replay.specs.declared.call.Call.{Call}
-use Rattle.rh_shared.specs.Shares.{HistoryDiffersAt, MutatorState, calls_of, due_to, have_owners_below, lesser_of, lesser_stranger, mutator_count, share_of, IsFirstDifference, IsLeastStranger, IsOneEach}
+use Rattle.rh_shared.specs.Shares.{HistoryDiffersAt, MutatorState, calls_of, due_to, first_mutators, have_owners_below, lesser_of, lesser_stranger, new_mutator, mutator_count, share_of, IsFirstDifference, IsLeastStranger, IsOneEach}
 
 -- Calls of an owner.
 
@@ -304,3 +304,37 @@ stranger-none owners ms calls each same none o = by_test (nat_lt o owners) refl
     by_test : (b : Bool) → nat_lt o owners ≡ b → share_of o ms ≡ calls_of o calls
     by_test true e = same o (ltb-true o owners e)
     by_test false e = let past = ltb-false o owners e in share-stranger owners o ms each past ∙ sym (none o past)
+
+-- New mutators.
+
+count-append : (o : ℕ) (ms : List MutatorState) (m : MutatorState) → mutator_count o (ms ++ m ∷ []) ≡ mutator_count o ms + cond (m.owner == o) 1 0
+count-append o [] m = by_test (m.owner == o)
+  where
+    by_test : (b : Bool) → cond b (1 + 0) 0 ≡ 0 + cond b 1 0
+    by_test true = refl
+    by_test false = refl
+count-append o (n ∷ ms) m = by_test (n.owner == o) (count-append o ms m)
+  where
+    by_test : (b : Bool) → mutator_count o (ms ++ m ∷ []) ≡ mutator_count o ms + cond (m.owner == o) 1 0
+        → cond b (1 + mutator_count o (ms ++ m ∷ [])) (mutator_count o (ms ++ m ∷ [])) ≡ cond b (1 + mutator_count o ms) (mutator_count o ms) + cond (m.owner == o) 1 0
+    by_test true e = omega (arith, e)
+    by_test false e = e
+
+-- those of the first n owners are one each
+pub first_mutators-one_each : (owners slots limit n : ℕ) → IsOneEach n (first_mutators owners slots limit n)
+first_mutators-one_each owners slots limit zero o = sym (due-past 0 o (omega arith))
+first_mutators-one_each owners slots limit (suc n) o =
+    count-append o (first_mutators owners slots limit n) (new_mutator owners slots limit n) ∙ due-more n o (mutator_count o (first_mutators owners slots limit n)) (first_mutators-one_each owners slots limit n o) (n == o) refl
+  where
+    due-more : (n o count : ℕ) → count ≡ due_to n o → (b : Bool) → (n == o) ≡ b → count + cond b 1 0 ≡ due_to (suc n) o
+    due-more n o count is true e =
+        let same = eqb-true n o e in
+        omega (arith, is, due-past n o (omega (arith, same)), due-within (suc n) o (omega (arith, same)))
+    due-more n o count is false e = by_order (nat_lt o n) refl
+      where
+        by_order : (b : Bool) → nat_lt o n ≡ b → count + 0 ≡ due_to (suc n) o
+        by_order true less = omega (arith, is, due-within n o (ltb-true o n less), due-within (suc n) o (omega (arith, ltb-true o n less)))
+        by_order false past =
+            let apart : n ≡ o → ⊥ = λ same. cc (e, eq-eqb n o same) in
+            let beyond : suc n ≤ o = omega (arith, ltb-false o n past, apart) in
+            omega (arith, is, due-past n o (ltb-false o n past), due-past (suc n) o beyond)

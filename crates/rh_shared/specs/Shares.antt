@@ -32,7 +32,7 @@ first_mutators owners slots limit (suc n) =
     first_mutators owners slots limit n ++ new_mutator owners slots limit n ∷ []
 
 -- one mutator for each owner of a heap that starts, in order
-abbrev pub new_mutators : StartState → List MutatorState
+abbrev pub new_mutators : {A : Type 0} → StartState A → List MutatorState
 new_mutators s = first_mutators s.heap.mutators.config.owners s.heap.mutators.config.slots
     s.config.history s.heap.mutators.config.owners
 

@@ -1,0 +1,56 @@
+//! Laws of calls and of new mutators. Each function does nothing: its contract is the law.
+
+ghost use Rattle.std.specs.Prelude.{◌≡◌, ℕ, ◌<◌, true, false, length, Ok, Err};
+ghost use Rattle.rh_layout.specs.Refusal.{is_limit};
+ghost use Rattle.rh_layout.specs.declared.command.Command.{Command};
+ghost use Rattle.rh_layout.specs.declared.command.Reply.{Reply};
+ghost use Rattle.rh_layout.specs.declared.refusal.Refusal.{Refusal};
+ghost use Rattle.rh_core.specs.Commands.{heap_step};
+ghost use Rattle.rh_shared.specs.declared.kept.CallError.TheVariants as call_errors;
+ghost use Rattle.rh_shared.specs.Kept.{KeptState, kept_call, with_noted};
+ghost use Rattle.rh_shared.specs.Shares.{IsOneEach, first_mutators};
+ghost use Rattle.rh_shared.specs.Collector.{with_heap};
+ghost use Rattle.rh_shared.specs.Increment.{increment, Met};
+
+use rh_core::laws::refused_commands_change_nothing;
+use std::alloc::Allocator;
+
+/// A call of a full history changes nothing. Else a call that the heap accepts is followed by one
+/// increment of the heap after it, and noted with its reply; one that the heap refuses changes
+/// nothing but the history, in which it is noted unless it was refused for a limit, and no
+/// increment follows it.
+pub fn a_call_is_noted_unless_a_limit_refused_it<A: Allocator + Copy>()
+    ensures full { (met : Met) (k : KeptState A) (owner : ℕ) (command : Command)
+        → length k.recorder.history.calls ≡ k.recorder.limit
+        → kept_call met k owner command ≡ (k, Err call_errors.TraceFull) }
+    ensures accepted { (met : Met) (k : KeptState A) (owner : ℕ) (command : Command)
+        → length k.recorder.history.calls < k.recorder.limit → (reply : Reply)
+        → (heap_step k.collector.heap owner command).1 ≡ Ok reply
+        → (let after = with_heap k.collector (heap_step k.collector.heap owner command).0 in
+        kept_call met k owner command ≡ (
+          with_noted (record k {
+            collector = (increment met after).0;
+            last = (increment met after).1;
+          }) owner command (Ok reply),
+          Ok reply,
+        )) }
+    ensures refused { (met : Met) (k : KeptState A) (owner : ℕ) (command : Command)
+        → length k.recorder.history.calls < k.recorder.limit → (refusal : Refusal)
+        → (heap_step k.collector.heap owner command).1 ≡ Err refusal
+        → is_limit refusal ≡ false
+        → kept_call met k owner command
+        ≡ (with_noted k owner command (Err refusal), Err (call_errors.Heap refusal)) }
+    ensures limited { (met : Met) (k : KeptState A) (owner : ℕ) (command : Command)
+        → length k.recorder.history.calls < k.recorder.limit → (refusal : Refusal)
+        → (heap_step k.collector.heap owner command).1 ≡ Err refusal
+        → is_limit refusal ≡ true
+        → kept_call met k owner command ≡ (k, Err (call_errors.Heap refusal)) }
+{
+    refused_commands_change_nothing();
+}
+
+/// The mutators that a shared heap is made with are one for each owner.
+pub fn new_mutators_are_one_each()
+    ensures { (owners slots limit : ℕ)
+        → IsOneEach owners (first_mutators owners slots limit owners) }
+{}
