@@ -1,0 +1,3 @@
+pub mod OwnLines
+pub mod FreshEnds
+pub mod Ending

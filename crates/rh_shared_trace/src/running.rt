@@ -1,0 +1,176 @@
+//! A trace of commands, run on a shared heap with mutators and replicators in threads.
+
+ghost use Rattle.std.specs.Prelude.{◌≡◌, ◌≤◌, List, ℕ, length, false, IsErrOf, IfSome};
+ghost use Rattle.std.specs.Io.KnownBytes.{Consumes, Keeps};
+ghost use Rattle.rh_text.specs.IoLog.{AreSpent, AreSpentSince, CountsDown};
+ghost use Rattle.rh_shared_trace.specs.Run.{Ends};
+
+use crate::fault::SharedRunFault;
+use crate::lines::line_fault;
+use crate::options::{RunOptions, shared_config_of};
+use crate::playing::{Unplayed, play};
+use crate::writing::write_checked;
+use rh_layout::limits::MAX_INPUT_BYTES;
+use rh_shared::{Start, StartError};
+use rh_syntax::{ParseError, parse};
+use rh_text::{InputFault, IoLog, read_all};
+use rh_trace::config_of;
+use std::alloc::Allocator;
+use std::io;
+use std::sync::Wait;
+use std::thread::Threads;
+
+/// Runs the trace of commands that the input spells.
+fn run_input<A, R, W>(
+    rt: &R,
+    alloc: A,
+    input: &[u8],
+    options: RunOptions,
+    writer: &mut W,
+    writes: &mut IoLog,
+) -> Result<(), SharedRunFault>
+where
+    A: Allocator + Copy + Send,
+    R: Threads + Wait + Sync,
+    W: io::Write,
+    requires few { length input.now ≤ MAX_INPUT_BYTES }
+    requires none_failed { writes.old.failed ≡ false }
+    ensures ends { Ends options input.now result (W.contents writer.old) (W.contents writer.new) }
+    ensures never_read { ¬ IsErrOf result SharedRunFault.Read }
+    ensures failed { IsErrOf result SharedRunFault.Write → AreSpent writes.new }
+    ensures none_failed { ¬ IsErrOf result SharedRunFault.Write → writes.new.failed ≡ false }
+    ensures spent { IsErrOf result SharedRunFault.Write → AreSpentSince writes.old writes.new }
+{
+    let trace = match parse(alloc, input) {
+        Ok(trace) => trace,
+        Err(ParseError::Fault(fault)) => return Err(SharedRunFault::Trace(fault)),
+        Err(ParseError::OutOfMemory) => return Err(SharedRunFault::OutOfMemory),
+    };
+    // Only for the proof: there are few lines.
+    let _ = trace.len();
+    let header = trace.header();
+    if let Some(fault) = line_fault(header.owners, trace.requests()) {
+        return Err(SharedRunFault::Trace(fault));
+    }
+    let start = match Start::new(alloc, config_of(header), shared_config_of(header, options)) {
+        Ok(start) => start,
+        Err(StartError::Config(fault)) => return Err(SharedRunFault::New(fault)),
+        Err(StartError::Shared(fault)) => return Err(SharedRunFault::Shared(fault)),
+        Err(StartError::OutOfMemory) => return Err(SharedRunFault::OutOfMemory),
+    };
+    match play(rt, alloc, start, trace.requests()) {
+        Ok(kept) => write_checked(alloc, &trace, kept.history(), writer, writes),
+        Err(Unplayed::HistoryDiffers) => Err(SharedRunFault::HistoryDiffers),
+        Err(Unplayed::OutOfMemory) => Err(SharedRunFault::OutOfMemory),
+    }
+}
+
+/// Reads a trace of commands whole, plays its lines on a shared heap, and writes the history of the
+/// calls. Each owner's lines are played in order by its mutator, in a thread of its own, with
+/// replicators in threads of their own beside them; a call that is refused is passed over. A trace
+/// has at most 16,777,216 bytes, and must end within 33,554,432 reads.
+///
+/// What is written is the text of a legal history of as many owners and slots as the trace says.
+/// Each owner's lines stand in it in order, each once, with their answers; left out are only those
+/// that a limit may have refused, which are allocations and stores, and any once the history has
+/// 65,536 calls. In which order the calls of two owners stand isn't said, and two runs may differ
+/// in it. It waits for the threads.
+///
+/// # Errors
+///
+/// Of the faults of the input and of what was asked for the first is answered: `Long`, then `Trace`,
+/// then `New`, then `Shared`. `Read` comes where, before more than 16,777,216 bytes came, a read
+/// failed or was one too many, `OutOfMemory` where memory or a thread was refused, `HistoryDiffers`
+/// where the history isn't as is said above. Nothing was written after any of these. `Write` comes
+/// where a write failed or 33,554,432 writes of one line didn't come to its end; then a prefix of
+/// such a text was written. `run_shared_logged` says of Read and Write that they come nowhere else.
+pub fn run_shared<A, R, I, W>(
+    rt: &R,
+    alloc: A,
+    reader: &mut I,
+    writer: &mut W,
+    options: RunOptions,
+) -> Result<(), SharedRunFault>
+where
+    A: Allocator + Copy + Send,
+    R: Threads + Wait + Sync,
+    I: io::Read,
+    W: io::Write,
+    // For a reader that tells its bytes: how a run of the bytes that it had ends.
+    ensures told { IfSome (I.remaining reader.old) (λ input. Ends options input result
+        (W.contents writer.old) (W.contents writer.new)) }
+    // How a run of the bytes that were taken ends; which these are is known of a reader that tells
+    // its bytes.
+    ensures read { (input : List ℕ)
+        × Consumes (I.remaining reader.old) (I.remaining reader.new) input
+        × Ends options input result (W.contents writer.old) (W.contents writer.new) }
+    // Read is answered only before too many bytes were taken: else it is Long.
+    ensures few_read { IsErrOf result SharedRunFault.Read → (input : List ℕ)
+        × Consumes (I.remaining reader.old) (I.remaining reader.new) input
+        × (length input ≤ MAX_INPUT_BYTES) }
+{
+    run_shared_logged(
+        rt,
+        alloc,
+        reader,
+        &mut IoLog::new(),
+        writer,
+        &mut IoLog::new(),
+        options,
+    )
+}
+
+/// Runs a trace of commands as `run_shared` does, and tells in `reads` and `writes` whether a read
+/// and whether a write failed, and how many were made.
+///
+/// # Errors
+///
+/// As `run_shared`.
+pub fn run_shared_logged<A, R, I, W>(
+    rt: &R,
+    alloc: A,
+    reader: &mut I,
+    reads: &mut IoLog,
+    writer: &mut W,
+    writes: &mut IoLog,
+    options: RunOptions,
+) -> Result<(), SharedRunFault>
+where
+    A: Allocator + Copy + Send,
+    R: Threads + Wait + Sync,
+    I: io::Read,
+    W: io::Write,
+    requires no_read_failed { reads.old.failed ≡ false }
+    requires no_write_failed { writes.old.failed ≡ false }
+    // As of `run_shared`.
+    ensures told { IfSome (I.remaining reader.old) (λ input. Ends options input result
+        (W.contents writer.old) (W.contents writer.new)) }
+    ensures read { (input : List ℕ)
+        × Consumes (I.remaining reader.old) (I.remaining reader.new) input
+        × Ends options input result (W.contents writer.old) (W.contents writer.new) }
+    ensures few_read { IsErrOf result SharedRunFault.Read → (input : List ℕ)
+        × Consumes (I.remaining reader.old) (I.remaining reader.new) input
+        × (length input ≤ MAX_INPUT_BYTES) }
+    // Read is answered only where a read failed or none was left, and no read failed where it
+    // isn't.
+    ensures read_failed { IsErrOf result SharedRunFault.Read → AreSpent reads.new }
+    ensures no_read_failed { ¬ IsErrOf result SharedRunFault.Read → reads.new.failed ≡ false }
+    // Each read that was made took one of those that were left.
+    ensures reads_counted { CountsDown reads.old.left reads.old reads.new }
+    // Write is answered only where a write failed or none was left, and no write failed where it
+    // isn't.
+    ensures write_failed { IsErrOf result SharedRunFault.Write → AreSpent writes.new }
+    ensures no_write_failed { ¬ IsErrOf result SharedRunFault.Write
+        → writes.new.failed ≡ false }
+    // Where it is refused and no write failed, at least 33,554,432 were made in this call, unless
+    // the count of calls is full. That each text has its own is `send`'s to say.
+    ensures writes_spent { IsErrOf result SharedRunFault.Write
+        → AreSpentSince writes.old writes.new }
+{
+    match read_all(alloc, reader, reads) {
+        Ok(input) => run_input(rt, alloc, &input, options, writer, writes),
+        Err(InputFault::Read) => Err(SharedRunFault::Read),
+        Err(InputFault::Long) => Err(SharedRunFault::Long),
+        Err(InputFault::OutOfMemory) => Err(SharedRunFault::OutOfMemory),
+    }
+}
