@@ -7,7 +7,7 @@ use Rattle.std.specs.Box.{box_value}
 use Rattle.clap.proofs.WalkLemmas.{first_value-rows}
 use Rattle.clap.proofs.OnLiterals.{clap_on_literals}
 use Rattle.rh_cli.specs.declared.fault.LineFault.TheVariants as faults
-use Rattle.rh_cli.specs.Ask.{command_and_file_in, command_and_file_of, command_named, is_set, with_file, rheap_app, is_taken}
+use Rattle.rh_cli.specs.Ask.{command_and_file_in, command_and_file_of, command_named, options_in, with_file, rheap_app, is_taken, Options}
 
 abbrev both : {X : Type 0} → (X → Text) → (X → List Row) → X → Text × List Row
 both name rows x = (name x, rows x)
@@ -24,20 +24,60 @@ no_rows : {X : Type 0} (name : X → Text) (rows : X → List Row) (o : Option X
 no_rows name rows None e = refl
 no_rows name rows (Some x) e = absurd cc
 
--- what three values of the same matches hold
-from_values : (rows : List Row) (n : Text) (file paced mark : Option Text) → file ≡ first_of (codes "FILE") rows → paced ≡ first_of (codes "paced") rows → mark ≡ first_of (codes "mark") rows
-    → command_and_file_in (Some (labelled n rows)) ≡ with_file (command_named n (is_set paced) mark) file
-from_values rows n file paced mark f p m = rw f (rw p (rw m refl))
+-- the options are those that the rows hold
+pub record AreHeld (rows : List Row) (given : Options) : Type 0 where
+  pub paced : given.paced ≡ first_of (codes "paced") rows
+  pub mark : given.mark ≡ first_of (codes "mark") rows
+  pub replicators : given.replicators ≡ first_of (codes "replicators") rows
+  pub idle : given.idle ≡ first_of (codes "idle") rows
+
+-- the same, of matches
+pub record AreMatched (values : ArgMatches) (given : Options) : Type 0 where
+  pub paced : given.paced ≡ first_value (found_of values) (codes "paced")
+  pub mark : given.mark ≡ first_value (found_of values) (codes "mark")
+  pub replicators : given.replicators ≡ first_value (found_of values) (codes "replicators")
+  pub idle : given.idle ≡ first_value (found_of values) (codes "idle")
+
+-- the options that matches hold
+abbrev pub options_of : ArgMatches → Options
+options_of values = record {
+  paced = first_value (found_of values) (codes "paced");
+  mark = first_value (found_of values) (codes "mark");
+  replicators = first_value (found_of values) (codes "replicators");
+  idle = first_value (found_of values) (codes "idle");
+}
+
+pub all_matched : (values : ArgMatches) → AreMatched values (options_of values)
+all_matched values = record { paced = refl; mark = refl; replicators = refl; idle = refl }
+
+held_by_matches : (values : ArgMatches) (given : Options) → AreMatched values given → AreHeld (rows_of (found_of values)) given
+held_by_matches values given m =
+    let found = found_of values in record {
+      paced = m.paced ∙ first_value-rows found (codes "paced");
+      mark = m.mark ∙ first_value-rows found (codes "mark");
+      replicators = m.replicators ∙ first_value-rows found (codes "replicators");
+      idle = m.idle ∙ first_value-rows found (codes "idle");
+    }
+
+held_options : (rows : List Row) (given : Options) → AreHeld rows given → options_in rows ≡ given
+held_options rows given held =
+    sym (rw held.paced (rw held.mark (rw held.replicators (rw held.idle refl))))
+
+-- what a file and options of the same matches hold
+from_values : (rows : List Row) (n : Text) (file : Option Text) (given : Options) → file ≡ first_of (codes "FILE") rows → AreHeld rows given
+    → command_and_file_in (Some (labelled n rows)) ≡ with_file (command_named n given) file
+from_values rows n file given f held =
+    rw f (ap (λ o. with_file (command_named n o) (first_of (codes "FILE") rows)) (held_options rows given held))
 
 -- a subcommand with this name and these matches is held with the file and the options that they have
-pub command_and_file_in-matches : (m : ArgMatches) (n : Text) (values : ArgMatches) (file paced mark : Option Text) → Some n ≡ subcommand_name_of m
+pub command_and_file_in-matches : (m : ArgMatches) (n : Text) (values : ArgMatches) (file : Option Text) (given : Options) → Some n ≡ subcommand_name_of m
     → Some (rows_of (found_of values)) ≡ option_map (λ (p : Text × List Row). p.1) (subcommand_rows_of m)
-    → file ≡ first_value (found_of values) (codes "FILE") → paced ≡ first_value (found_of values) (codes "paced") → mark ≡ first_value (found_of values) (codes "mark")
-    → command_and_file_in (subcommand_rows_of m) ≡ with_file (command_named n (is_set paced) mark) file
-command_and_file_in-matches m n values file paced mark name rows is paced_is mark_is =
+    → file ≡ first_value (found_of values) (codes "FILE") → AreMatched values given
+    → command_and_file_in (subcommand_rows_of m) ≡ with_file (command_named n given) file
+command_and_file_in-matches m n values file given name rows is matched =
     let found = found_of values in
     let entered = rows_are (λ b. (out-SubCommand (box_value b)).name.now) (λ b. rows_of (found_of (out-SubCommand (box_value b)).matches)) (out-ArgMatches m).subcommand n (rows_of found) name rows in
-    ap command_and_file_in entered ∙ from_values (rows_of found) n file paced mark (is ∙ first_value-rows found (codes "FILE")) (paced_is ∙ first_value-rows found (codes "paced")) (mark_is ∙ first_value-rows found (codes "mark"))
+    ap command_and_file_in entered ∙ from_values (rows_of found) n file given (is ∙ first_value-rows found (codes "FILE")) (held_by_matches values given matched)
 
 -- no subcommand is held where the matches have none
 pub command_and_file_in-none : (m : ArgMatches) → None ≡ subcommand_name_of m → command_and_file_in (subcommand_rows_of m) ≡ Err faults.Incomplete

@@ -9,7 +9,13 @@ use Rattle.rh_trace.specs.Run.{StopsBeforeTotal, Ends, text_of, run_of}
 use Rattle.rh_paced_trace.specs.declared.fault.PacedFault.{PacedFault}
 use Rattle.rh_paced_trace.specs.declared.fault.PacedFault.TheVariants as paced_faults
 use Rattle.rh_paced_trace.specs.Run.{Ends as PacedEnds, text_of as paced_text_of}
+use Rattle.rh_replay.specs.Spelling.{spelling}
+use Rattle.rh_shared_trace.specs.declared.fault.SharedRunFault.{SharedRunFault}
+use Rattle.rh_shared_trace.specs.declared.fault.SharedRunFault.TheVariants as shared_faults
+use Rattle.rh_shared_trace.specs.declared.options.RunOptions.{RunOptions}
+use Rattle.rh_shared_trace.specs.Run.{Ends as SharedEnds}
 use Rattle.rh_cli.specs.Drive.{ConcludesRun, IsRunStatus}
+use Rattle.rh_cli.specs.Shared.{ConcludesShared, IsSharedStatus}
 use Rattle.rh_cli.specs.Paced.{ConcludesPaced, IsPacedStatus}
 
 Keeps-kept : (old mid new : Option (List ℕ)) → Keeps old mid → Keeps mid new → Keeps old new
@@ -63,3 +69,21 @@ PacedEnds-flushed mark input (Err paced_faults.OutOfMemory) old mid new e k = Ke
 pub ConcludesPaced-told : (mark : Option ℕ) (known : Option (List ℕ)) (r : Result Summary PacedFault) (status : ℕ) (old mid new : Option (List ℕ)) → IfSome known (λ input. PacedEnds mark input r old mid) → Keeps mid new → IsPacedStatus r status → IfSome known (λ input. ConcludesPaced mark input status old new)
 ConcludesPaced-told mark None r status old mid new e k s = tt
 ConcludesPaced-told mark (Some input) r status old mid new e k s = (r, PacedEnds-flushed mark input r old mid new e k, s)
+
+-- and of a shared run
+pub SharedEnds-flushed : (options : RunOptions) (input : List ℕ) (r : Result (Unit {0}) SharedRunFault) (old mid new : Option (List ℕ)) → SharedEnds options input r old mid → Keeps mid new → SharedEnds options input r old new
+SharedEnds-flushed options input (Ok done) old mid new e k =
+    (e.0, e.1, e.2, e.3, Appends-kept old mid new (spelling e.1) e.4 k)
+SharedEnds-flushed options input (Err shared_faults.Write) old mid new e k =
+    (e.0, e.1, e.2, e.3, AppendsLess-kept old mid new (spelling e.1) e.4 k)
+SharedEnds-flushed options input (Err shared_faults.Long) old mid new e k = (e.0, Keeps-kept old mid new e.1 k)
+SharedEnds-flushed options input (Err (shared_faults.Trace fault)) old mid new e k = (e.0, e.1, Keeps-kept old mid new e.2 k)
+SharedEnds-flushed options input (Err (shared_faults.New fault)) old mid new e k = (e.0, e.1, e.2, Keeps-kept old mid new e.3 k)
+SharedEnds-flushed options input (Err (shared_faults.Shared fault)) old mid new e k = (e.0, e.1, e.2, e.3, Keeps-kept old mid new e.4 k)
+SharedEnds-flushed options input (Err shared_faults.HistoryDiffers) old mid new e k = (e.0, e.1, Keeps-kept old mid new e.2 k)
+SharedEnds-flushed options input (Err shared_faults.Read) old mid new e k = Keeps-kept old mid new e k
+SharedEnds-flushed options input (Err shared_faults.OutOfMemory) old mid new e k = Keeps-kept old mid new e k
+
+pub ConcludesShared-told : (options : RunOptions) (known : Option (List ℕ)) (r : Result (Unit {0}) SharedRunFault) (status : ℕ) (old mid new : Option (List ℕ)) → IfSome known (λ input. SharedEnds options input r old mid) → Keeps mid new → IsSharedStatus r status → IfSome known (λ input. ConcludesShared options input status old new)
+ConcludesShared-told options None r status old mid new e k s = tt
+ConcludesShared-told options (Some input) r status old mid new e k s = (r, SharedEnds-flushed options input r old mid new e k, s)

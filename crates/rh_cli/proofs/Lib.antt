@@ -2,6 +2,8 @@ pub mod ClapMatches
 pub mod Counted
 pub mod Flushed
 pub mod Inputs
+pub mod SharedStatuses
 pub mod StatusLaws
 pub mod Statuses
+pub mod ThreadsHistory
 pub mod WorkedCounts

@@ -30,9 +30,10 @@ use Rattle.rh_paced_trace.specs.Run.{Ends as PacedEnds, IsRun, text_of as paced_
 use Rattle.rh_cli.specs.Paced.{ConcludesPaced, IsPacedStatus, paced_status}
 use Rattle.rh_paced_trace.specs.declared.fault.PacedFault.{PacedFault}
 use Rattle.rh_paced_trace.specs.declared.fault.PacedFault.TheVariants as paced_faults
+use Rattle.rh_cli.proofs.SharedStatuses.{shared_is_0_1_3_or_4, shared_is_4}
 use Rattle.rh_cli.specs.Replay.{IsJudged, IsReplayStatus, ReplayEnds}
 use Rattle.rh_cli.specs.declared.ask.Subcommand.{Subcommand}
-use Rattle.rh_cli.specs.declared.ask.Subcommand.TheVariants.{Run, RunPaced, Replay, Dump}
+use Rattle.rh_cli.specs.declared.ask.Subcommand.TheVariants.{Run, RunPaced, Threads, Replay, Dump}
 use Rattle.rh_cli.specs.declared.ending.Ending.{Ending}
 use Rattle.rh_cli.specs.declared.ending.Ending.TheVariants.{Done, WrongHistory}
 use Rattle.rh_cli.specs.declared.fault.LineFault.{LineFault}
@@ -75,10 +76,14 @@ memory_is_3 (faults.Arguments error) = (λ is. absurd (arguments_are_not_3 (kind
 memory_is_3 faults.NoText = (λ is. absurd (omega (arith, is)), λ is. cc)
 memory_is_3 faults.Incomplete = (λ is. absurd (omega (arith, is)), λ is. cc)
 memory_is_3 faults.Mark = (λ is. absurd (omega (arith, is)), λ is. cc)
+memory_is_3 faults.Replicators = (λ is. absurd (omega (arith, is)), λ is. cc)
+memory_is_3 faults.Idle = (λ is. absurd (omega (arith, is)), λ is. cc)
 memory_is_3 (faults.Trace fault) = (λ is. absurd (omega (arith, is)), λ is. cc)
 memory_is_3 (faults.History fault) = (λ is. absurd (omega (arith, is)), λ is. cc)
 memory_is_3 (faults.Dump fault) = (λ is. absurd (omega (arith, is)), λ is. cc)
 memory_is_3 (faults.Heap fault) = (λ is. absurd (omega (arith, is)), λ is. cc)
+memory_is_3 (faults.Shared fault) = (λ is. absurd (omega (arith, is)), λ is. cc)
+memory_is_3 faults.HistoryDiffers = (λ is. absurd (omega (arith, is)), λ is. cc)
 memory_is_3 (faults.Pace why) = (λ is. absurd (omega (arith, is)), λ is. cc)
 memory_is_3 faults.Open = (λ is. absurd (omega (arith, is)), λ is. cc)
 memory_is_3 faults.Read = (λ is. absurd (omega (arith, is)), λ is. cc)
@@ -86,19 +91,49 @@ memory_is_3 faults.Write = (λ is. absurd (omega (arith, is)), λ is. cc)
 memory_is_3 faults.TooLong = (λ is. absurd (omega (arith, is)), λ is. cc)
 memory_is_3 faults.OutOfMemory = (λ is. refl, λ is. refl)
 
+-- what clap refuses has another status than 4
+arguments_are_not_4 : (kind : ErrorKind) → arguments_status kind ≡ 4 → ⊥
+arguments_are_not_4 DisplayHelp is = omega (arith, is)
+arguments_are_not_4 DisplayVersion is = omega (arith, is)
+arguments_are_not_4 kind is = omega (arith, is)
+
+pub differs_is_4 : (fault : LineFault) → (status_of fault ≡ 4) ↔ (fault ≡ faults.HistoryDiffers)
+differs_is_4 (faults.Arguments error) = (λ is. absurd (arguments_are_not_4 (kind_of error) is), λ is. cc)
+differs_is_4 faults.NoText = (λ is. absurd (omega (arith, is)), λ is. cc)
+differs_is_4 faults.Incomplete = (λ is. absurd (omega (arith, is)), λ is. cc)
+differs_is_4 faults.Mark = (λ is. absurd (omega (arith, is)), λ is. cc)
+differs_is_4 faults.Replicators = (λ is. absurd (omega (arith, is)), λ is. cc)
+differs_is_4 faults.Idle = (λ is. absurd (omega (arith, is)), λ is. cc)
+differs_is_4 (faults.Trace fault) = (λ is. absurd (omega (arith, is)), λ is. cc)
+differs_is_4 (faults.History fault) = (λ is. absurd (omega (arith, is)), λ is. cc)
+differs_is_4 (faults.Dump fault) = (λ is. absurd (omega (arith, is)), λ is. cc)
+differs_is_4 (faults.Heap fault) = (λ is. absurd (omega (arith, is)), λ is. cc)
+differs_is_4 (faults.Shared fault) = (λ is. absurd (omega (arith, is)), λ is. cc)
+differs_is_4 (faults.Pace why) = (λ is. absurd (omega (arith, is)), λ is. cc)
+differs_is_4 faults.Open = (λ is. absurd (omega (arith, is)), λ is. cc)
+differs_is_4 faults.Read = (λ is. absurd (omega (arith, is)), λ is. cc)
+differs_is_4 faults.Write = (λ is. absurd (omega (arith, is)), λ is. cc)
+differs_is_4 faults.TooLong = (λ is. absurd (omega (arith, is)), λ is. cc)
+differs_is_4 faults.OutOfMemory = (λ is. absurd (omega (arith, is)), λ is. cc)
+differs_is_4 faults.HistoryDiffers = (λ is. refl, λ is. refl)
+
 -- a fault with 2 is one of the command line
 pub only_the_line_is_2 : (fault : LineFault) → status_of fault ≡ 2
-    → (fault ≡ faults.NoText) ⊎ ((fault ≡ faults.Incomplete) ⊎ ((fault ≡ faults.Mark) ⊎ ((error : ClapError) × (fault ≡ faults.Arguments error))))
-only_the_line_is_2 (faults.Arguments error) is = inr (inr (inr (error, refl)))
+    → (fault ≡ faults.NoText) ⊎ ((fault ≡ faults.Incomplete) ⊎ ((fault ≡ faults.Mark) ⊎ ((fault ≡ faults.Replicators) ⊎ ((fault ≡ faults.Idle) ⊎ ((error : ClapError) × (fault ≡ faults.Arguments error))))))
+only_the_line_is_2 (faults.Arguments error) is = inr (inr (inr (inr (inr (error, refl)))))
 only_the_line_is_2 faults.NoText is = inl refl
 only_the_line_is_2 faults.Incomplete is = inr (inl refl)
 only_the_line_is_2 faults.Mark is = inr (inr (inl refl))
+only_the_line_is_2 faults.Replicators is = inr (inr (inr (inl refl)))
+only_the_line_is_2 faults.Idle is = inr (inr (inr (inr (inl refl))))
 only_the_line_is_2 (faults.Trace fault) is = absurd (omega (arith, is))
 only_the_line_is_2 (faults.History fault) is = absurd (omega (arith, is))
 only_the_line_is_2 (faults.Dump fault) is = absurd (omega (arith, is))
 only_the_line_is_2 (faults.Heap fault) is = absurd (omega (arith, is))
+only_the_line_is_2 (faults.Shared fault) is = absurd (omega (arith, is))
 only_the_line_is_2 (faults.Pace why) is = absurd (omega (arith, is))
 only_the_line_is_2 faults.Open is = absurd (omega (arith, is))
+only_the_line_is_2 faults.HistoryDiffers is = absurd (omega (arith, is))
 only_the_line_is_2 faults.Read is = absurd (omega (arith, is))
 only_the_line_is_2 faults.Write is = absurd (omega (arith, is))
 only_the_line_is_2 faults.TooLong is = absurd (omega (arith, is))
@@ -116,10 +151,14 @@ only_help_is_0 (faults.Arguments error) is = (error, refl, help_of_0 (kind_of er
 only_help_is_0 faults.NoText is = absurd (omega (arith, is))
 only_help_is_0 faults.Incomplete is = absurd (omega (arith, is))
 only_help_is_0 faults.Mark is = absurd (omega (arith, is))
+only_help_is_0 faults.Replicators is = absurd (omega (arith, is))
+only_help_is_0 faults.Idle is = absurd (omega (arith, is))
 only_help_is_0 (faults.Trace fault) is = absurd (omega (arith, is))
 only_help_is_0 (faults.History fault) is = absurd (omega (arith, is))
 only_help_is_0 (faults.Dump fault) is = absurd (omega (arith, is))
 only_help_is_0 (faults.Heap fault) is = absurd (omega (arith, is))
+only_help_is_0 (faults.Shared fault) is = absurd (omega (arith, is))
+only_help_is_0 faults.HistoryDiffers is = absurd (omega (arith, is))
 only_help_is_0 (faults.Pace why) is = absurd (omega (arith, is))
 only_help_is_0 faults.Open is = absurd (omega (arith, is))
 only_help_is_0 faults.Read is = absurd (omega (arith, is))
@@ -293,6 +332,7 @@ late_of_four status (inr (inr is)) = (omega (arith, is), λ two. omega (arith, i
 pub concludes_late : (subcommand : Subcommand) (input : List ℕ) (status : ℕ) (old new : Option (List ℕ)) → Concludes subcommand input status old new → IsLateStatus status
 concludes_late Run input status old new c = late_of_three status (run_is_0_1_or_3 c.0 status c.2)
 concludes_late (RunPaced mark) input status old new c = late_of_three status (paced_is_0_1_or_3 c.0 status c.2)
+concludes_late (Threads replicators idle) input status old new c = late_of_four status (shared_is_0_1_3_or_4 c.0 status c.2)
 concludes_late Replay input status old new c = late_of_four status (replay_is_0_1_3_or_4 input c.0 status old new c.1 c.2)
 concludes_late Dump input status old new c = late_of_three status (count_is_0_1_or_3 input c.0 status old new c.1 c.2)
 
@@ -315,11 +355,14 @@ concludes_replay_3 input old new c = replay_is_3 input c.0 old new c.1 c.2
 pub concludes_dump_3 : (input : List ℕ) (old new : Option (List ℕ)) → Concludes Dump input 3 old new → Keeps old new
 concludes_dump_3 input old new c = count_is_3 input c.0 old new c.1 c.2
 
-pub concludes_4 : (subcommand : Subcommand) (input : List ℕ) (old new : Option (List ℕ)) → Concludes subcommand input 4 old new → (subcommand ≡ Replay)
-    × ((h : HistoryState) × (at : ℕ) × (expected : Result Reply Refusal) × IsJudged input h (Wrong at expected) × Appends old new (report_text h (Wrong at expected)))
+pub concludes_4 : (subcommand : Subcommand) (input : List ℕ) (old new : Option (List ℕ)) → Concludes subcommand input 4 old new
+    → ((subcommand ≡ Replay) × ((h : HistoryState) × (at : ℕ) × (expected : Result Reply Refusal) × IsJudged input h (Wrong at expected) × Appends old new (report_text h (Wrong at expected))))
+    ⊎ ((replicators : ℕ) × (idle : ℕ) × (subcommand ≡ Threads replicators idle) × Keeps old new)
 concludes_4 Run input old new c = absurd (not_2_or_4 4 4 (inr refl) (run_is_0_1_or_3 c.0 4 c.2) refl)
 concludes_4 (RunPaced mark) input old new c = absurd (not_2_or_4 4 4 (inr refl) (paced_is_0_1_or_3 c.0 4 c.2) refl)
-concludes_4 Replay input old new c = (refl, replay_is_4 input c.0 old new c.1 c.2)
+concludes_4 (Threads replicators idle) input old new c =
+    inr (replicators, idle, refl, shared_is_4 (record { replicators = replicators; idle = idle }) input c.0 old new c.1 c.2)
+concludes_4 Replay input old new c = inl (refl, replay_is_4 input c.0 old new c.1 c.2)
 concludes_4 Dump input old new c = absurd (not_2_or_4 4 4 (inr refl) (count_is_0_1_or_3 input c.0 4 old new c.1 c.2) refl)
 
 pub concludes_run_fault : (input : List ℕ) (fault : RunFault) (status : ℕ) (old new : Option (List ℕ)) → run_of input ≡ Err fault → Concludes Run input status old new → (status ≡ 1) ⊎ (status ≡ 3)

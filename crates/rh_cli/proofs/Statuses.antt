@@ -1,5 +1,5 @@
 -- What statuses tell apart.
-use Rattle.std.proofs.Common.{◌≡◌, ◌≤◌, ◌⊎◌, ◌↔◌, inl, inr, ℕ, refl, sym, arith}
+use Rattle.std.proofs.Common.{◌≡◌, ◌≢◌, ◌≤◌, ◌⊎◌, ◌↔◌, inl, inr, ℕ, refl, sym, arith}
 use Rattle.rh_replay.specs.declared.checking.Verdict.{Verdict}
 use Rattle.rh_replay.specs.declared.checking.Verdict.TheVariants.{Legal, Wrong}
 use Rattle.std.specs.Prelude.{Ok}
@@ -13,12 +13,20 @@ use Rattle.rh_cli.specs.declared.fault.LineFault.TheVariants as faults
 use Rattle.rh_cli.specs.Fault.{arguments_status, status_of, ending_status, IsLateStatus}
 use Rattle.rh_cli.specs.Replay.{IsReplayStatus}
 
--- a fault that comes once the command line is understood ends with another status than 0 and 4
-pub late_is_told : (status own : ℕ) → status ≡ own → (own ≡ 1) ⊎ (own ≡ 3) → (status ≡ 0) ⊎ (status ≡ 4) → ⊥
-late_is_told status own is (inl one) (inl quiet) = omega (arith, is, one, quiet)
-late_is_told status own is (inl one) (inr quiet) = omega (arith, is, one, quiet)
-late_is_told status own is (inr three) (inl quiet) = omega (arith, is, three, quiet)
-late_is_told status own is (inr three) (inr quiet) = omega (arith, is, three, quiet)
+-- a fault that any subcommand may end with has another status than 0 and 4
+usual_is_told : (status own : ℕ) → status ≡ own → (own ≡ 1) ⊎ (own ≡ 3) → (status ≡ 0) ⊎ (status ≡ 4) → ⊥
+usual_is_told status own is (inl one) (inl quiet) = omega (arith, is, one, quiet)
+usual_is_told status own is (inl one) (inr quiet) = omega (arith, is, one, quiet)
+usual_is_told status own is (inr three) (inl quiet) = omega (arith, is, three, quiet)
+usual_is_told status own is (inr three) (inr quiet) = omega (arith, is, three, quiet)
+
+-- a fault that comes once the command line is understood has another status than 0, and than 4
+-- where this holds
+pub late_is_told : (X : Type 0) (status own : ℕ) → status ≡ own → ((own ≡ 1) ⊎ (own ≡ 3)) ⊎ (own ≡ 4) → (X → own ≢ 4) → (status ≡ 0) ⊎ ((status ≡ 4) × X) → ⊥
+late_is_told X status own is (inl usual) check (inl quiet) = usual_is_told status own is usual (inl quiet)
+late_is_told X status own is (inl usual) check (inr quiet) = usual_is_told status own is usual (inr quiet.0)
+late_is_told X status own is (inr four) check (inl quiet) = omega (arith, is, four, quiet)
+late_is_told X status own is (inr four) check (inr quiet) = check quiet.1 four
 
 -- whatever the verdict, a failed flush is 1
 pub failed_flush : (verdict : Verdict) → IsReplayStatus (Ok verdict) 1
@@ -26,7 +34,7 @@ failed_flush (Legal count) = inr refl
 failed_flush (Wrong at expected) = inr refl
 
 abbrev late_is_not_0_or_4 : (own n : ℕ) → (n ≡ 0) ⊎ (n ≡ 4) → (own ≡ 1) ⊎ (own ≡ 3) → own ≡ n → ⊥
-late_is_not_0_or_4 own n quiet late is = late_is_told n own (sym is) late quiet
+late_is_not_0_or_4 own n quiet late is = usual_is_told n own (sym is) late quiet
 
 -- such a fault isn't the end of a check that told something of the history
 pub late_is_not_0 : (own : ℕ) (X : Type 0) → (own ≡ 1) ⊎ (own ≡ 3) → (own ≡ 0) ↔ (⊥ × X)
@@ -41,28 +49,33 @@ late_of_ending Done status is = (omega (arith, is), λ two. omega (arith, is, tw
 late_of_ending WrongHistory status is = (omega (arith, is), λ two. omega (arith, is, two))
 
 -- nor is that of a fault that comes once the command line is understood
-pub late_of_fault : (status own : ℕ) → status ≡ own → (own ≡ 1) ⊎ (own ≡ 3) → IsLateStatus status
-late_of_fault status own is (inl one) = (omega (arith, is, one), λ two. omega (arith, is, one, two))
-late_of_fault status own is (inr three) = (omega (arith, is, three), λ two. omega (arith, is, three, two))
+pub late_of_fault : (status own : ℕ) → status ≡ own → ((own ≡ 1) ⊎ (own ≡ 3)) ⊎ (own ≡ 4) → IsLateStatus status
+late_of_fault status own is (inl (inl one)) = (omega (arith, is, one), λ two. omega (arith, is, one, two))
+late_of_fault status own is (inl (inr three)) = (omega (arith, is, three), λ two. omega (arith, is, three, two))
+late_of_fault status own is (inr four) = (omega (arith, is, four), λ two. omega (arith, is, four, two))
 
 arguments_at_most_2 : (kind : ErrorKind) → arguments_status kind ≤ 2
 arguments_at_most_2 DisplayHelp = omega arith
 arguments_at_most_2 DisplayVersion = omega arith
 arguments_at_most_2 kind = omega arith
 
--- no fault has a status above 3
-pub fault_at_most_3 : (fault : LineFault) → status_of fault ≤ 3
-fault_at_most_3 (faults.Arguments error) = omega (arith, arguments_at_most_2 (kind_of error))
-fault_at_most_3 faults.NoText = omega arith
-fault_at_most_3 faults.Incomplete = omega arith
-fault_at_most_3 faults.Mark = omega arith
-fault_at_most_3 (faults.Trace fault) = omega arith
-fault_at_most_3 (faults.History fault) = omega arith
-fault_at_most_3 (faults.Dump fault) = omega arith
-fault_at_most_3 (faults.Heap fault) = omega arith
-fault_at_most_3 (faults.Pace why) = omega arith
-fault_at_most_3 faults.Open = omega arith
-fault_at_most_3 faults.Read = omega arith
-fault_at_most_3 faults.Write = omega arith
-fault_at_most_3 faults.TooLong = omega arith
-fault_at_most_3 faults.OutOfMemory = omega arith
+-- no fault has a status above 4
+pub fault_at_most_4 : (fault : LineFault) → status_of fault ≤ 4
+fault_at_most_4 (faults.Arguments error) = omega (arith, arguments_at_most_2 (kind_of error))
+fault_at_most_4 faults.NoText = omega arith
+fault_at_most_4 faults.Incomplete = omega arith
+fault_at_most_4 faults.Mark = omega arith
+fault_at_most_4 faults.Replicators = omega arith
+fault_at_most_4 faults.Idle = omega arith
+fault_at_most_4 (faults.Trace fault) = omega arith
+fault_at_most_4 (faults.History fault) = omega arith
+fault_at_most_4 (faults.Dump fault) = omega arith
+fault_at_most_4 (faults.Heap fault) = omega arith
+fault_at_most_4 (faults.Shared fault) = omega arith
+fault_at_most_4 faults.HistoryDiffers = omega arith
+fault_at_most_4 (faults.Pace why) = omega arith
+fault_at_most_4 faults.Open = omega arith
+fault_at_most_4 faults.Read = omega arith
+fault_at_most_4 faults.Write = omega arith
+fault_at_most_4 faults.TooLong = omega arith
+fault_at_most_4 faults.OutOfMemory = omega arith

@@ -1,11 +1,11 @@
 -- The command line of the program, as clap knows it.
-use Rattle.std.specs.Prelude.{ℕ, List, Bool, true, false, if◌then◌else◌, Option, Some, None, Result, Ok, Err, codes}
+use Rattle.std.specs.Prelude.{ℕ, nat_le, List, Bool, true, false, if◌then◌else◌, Option, Some, None, Result, Ok, Err, codes}
 use Rattle.std.specs.Str.{bytes_eq}
 use Rattle.rh_text.specs.Number.{number_of}
 use Rattle.clap.specs.declared.builder.action.ArgAction.TheVariants.{SetTrue}
 use Rattle.clap.specs.Words.{App, Row, Rule, Text, new_app, new_rule, with_rule, with_subcommand, subcommand_of, first_of, takes}
 use Rattle.rh_cli.specs.declared.ask.Subcommand.{Subcommand}
-use Rattle.rh_cli.specs.declared.ask.Subcommand.TheVariants.{Run, RunPaced, Replay, Dump}
+use Rattle.rh_cli.specs.declared.ask.Subcommand.TheVariants.{Run, RunPaced, Threads, Replay, Dump}
 use Rattle.rh_cli.specs.declared.ask.Ask.{Ask}
 use Rattle.rh_cli.specs.declared.fault.LineFault.{LineFault}
 use Rattle.rh_cli.specs.declared.fault.LineFault.TheVariants as faults
@@ -29,6 +29,18 @@ mark_rule = record (new_rule (codes "mark")) { long = Some (codes "mark"); value
 abbrev pub run_app : App
 run_app = with_rule (with_rule (file_app (codes "run")) paced_rule) mark_rule
 
+-- the options of `threads`, each with a value
+abbrev pub replicators_rule : Rule
+replicators_rule =
+    record (new_rule (codes "replicators")) { long = Some (codes "replicators"); value_names = 1 }
+
+abbrev pub idle_rule : Rule
+idle_rule = record (new_rule (codes "idle")) { long = Some (codes "idle"); value_names = 1 }
+
+-- the command `threads`: a file, and these options
+abbrev pub threads_app : App
+threads_app = with_rule (with_rule (file_app (codes "threads")) replicators_rule) idle_rule
+
 -- the program: a version, and a command that is required
 abbrev pub rheap_top : App
 rheap_top =
@@ -39,7 +51,8 @@ rheap_top =
 abbrev pub rheap_app : App
 rheap_app =
     let with_run = with_subcommand rheap_top run_app.top
-    in let with_replay = with_subcommand with_run (file_app (codes "replay")).top
+    in let with_threads = with_subcommand with_run threads_app.top
+    in let with_replay = with_subcommand with_threads (file_app (codes "replay")).top
     in with_subcommand with_replay (file_app (codes "dump")).top
 
 -- whether the value of the flag says that it was set
@@ -59,12 +72,41 @@ run_asked false (Some text) = Err faults.Mark
 run_asked true None = Ok (RunPaced None)
 run_asked true (Some text) = run_at (number_of text)
 
--- the command of this name with these options, which `run` alone has
-abbrev pub command_named : Text → Bool → Option Text → Result Subcommand LineFault
-command_named name is_paced mark =
-    if bytes_eq name (codes "run") then run_asked is_paced mark
+-- the number, if it is one and no more than the most
+abbrev pub at_most : ℕ → Option ℕ → Option ℕ
+at_most most None = None
+at_most most (Some n) = if nat_le n most then Some n else None
+
+-- the number that is given, if it is no more than the most, or the usual one where none is given
+abbrev pub number_within : ℕ → ℕ → Option Text → Option ℕ
+number_within usual most None = Some usual
+number_within usual most (Some text) = at_most most (number_of text)
+
+-- a run in threads with these numbers, or the fault of the first that is none
+abbrev pub threads_with : Option ℕ → Option ℕ → Result Subcommand LineFault
+threads_with None idle = Err faults.Replicators
+threads_with (Some replicators) None = Err faults.Idle
+threads_with (Some replicators) (Some idle) = Ok (Threads replicators idle)
+
+-- the run in threads that is asked for: 2 replicators and no idle words, where it isn't said
+abbrev pub threads_asked : Option Text → Option Text → Result Subcommand LineFault
+threads_asked replicators idle =
+    threads_with (number_within 2 8 replicators) (number_within 0 65535 idle)
+
+-- the values of the options of all commands, as far as they are given
+pub record Options : Type 0 where
+  pub paced : Option Text
+  pub mark : Option Text
+  pub replicators : Option Text
+  pub idle : Option Text
+
+-- the command of this name with its options, of those that are given
+abbrev pub command_named : Text → Options → Result Subcommand LineFault
+command_named name given =
+    if bytes_eq name (codes "run") then run_asked (is_set given.paced) given.mark
+    else (if bytes_eq name (codes "threads") then threads_asked given.replicators given.idle
     else (if bytes_eq name (codes "replay") then Ok Replay
-    else (if bytes_eq name (codes "dump") then Ok Dump else Err faults.Incomplete))
+    else (if bytes_eq name (codes "dump") then Ok Dump else Err faults.Incomplete)))
 
 -- a command with its file, or what is missing
 abbrev pub with_file : Result Subcommand LineFault → Option Text → Result (Subcommand × Text) LineFault
@@ -72,14 +114,21 @@ with_file command None = Err faults.Incomplete
 with_file (Err fault) (Some file) = Err fault
 with_file (Ok command) (Some file) = Ok (command, file)
 
+-- the options that the rows of a parse hold: of each the first value
+abbrev pub options_in : List Row → Options
+options_in rows = record {
+  paced = first_of (codes "paced") rows;
+  mark = first_of (codes "mark") rows;
+  replicators = first_of (codes "replicators") rows;
+  idle = first_of (codes "idle") rows;
+}
+
 -- the command and the file that a parse holds: the command that it found, with its options, and the
 -- first value of its file; or the fault of the options, or that one is missing
 abbrev pub command_and_file_in : Option (Text × List Row) → Result (Subcommand × Text) LineFault
 command_and_file_in None = Err faults.Incomplete
 command_and_file_in (Some found) =
-    with_file
-    (command_named found.0 (is_set (first_of (codes "paced") found.1)) (first_of (codes "mark") found.1))
-    (first_of (codes "FILE") found.1)
+    with_file (command_named found.0 (options_in found.1)) (first_of (codes "FILE") found.1)
 
 -- the command and the file that clap's parse of the arguments holds
 unfoldable pub command_and_file_of : List Text → Result (Subcommand × Text) LineFault

@@ -5,10 +5,11 @@ use Rattle.rh_trace.specs.declared.run_fault.RunFault.{RunFault}
 use Rattle.rh_trace.specs.declared.run_fault.RunFault.TheVariants as faults
 use Rattle.rh_trace.specs.Run.{Ends, run_of}
 use Rattle.rh_cli.specs.declared.ask.Subcommand.{Subcommand}
-use Rattle.rh_cli.specs.declared.ask.Subcommand.TheVariants.{Run, RunPaced, Replay, Dump}
+use Rattle.rh_cli.specs.declared.ask.Subcommand.TheVariants.{Run, RunPaced, Threads, Replay, Dump}
 use Rattle.rh_cli.specs.Count.{ConcludesCount}
 use Rattle.rh_cli.specs.Paced.{ConcludesPaced}
 use Rattle.rh_cli.specs.Replay.{ConcludesReplay}
+use Rattle.rh_cli.specs.Shared.{ConcludesShared}
 
 -- the status after a fault of the run: 3 for want of memory, else 1
 abbrev pub run_status : RunFault → ℕ
@@ -35,5 +36,7 @@ ConcludesRun due status old new =
 abbrev pub Concludes : Subcommand → List ℕ → ℕ → Option (List ℕ) → Option (List ℕ) → Type 0
 Concludes Run input status old new = ConcludesRun (run_of input) status old new
 Concludes (RunPaced mark) input status old new = ConcludesPaced mark input status old new
+Concludes (Threads replicators idle) input status old new =
+    ConcludesShared (record { replicators = replicators; idle = idle }) input status old new
 Concludes Replay input status old new = ConcludesReplay input status old new
 Concludes Dump input status old new = ConcludesCount input status old new

@@ -14,26 +14,35 @@ arguments_status DisplayHelp = 0
 arguments_status DisplayVersion = 0
 arguments_status kind = 2
 
--- 0 done, 1 a fault in the file or in reading or writing, 2 the command line, 3 want of memory
+-- 0 done, 1 a fault in the file or in reading or writing, 2 the command line, 3 want of memory, 4 a
+-- history that differs
 abbrev pub status_of : LineFault → ℕ
 status_of (faults.Arguments error) = arguments_status (kind_of error)
 status_of faults.NoText = 2
 status_of faults.Incomplete = 2
 status_of faults.Mark = 2
+status_of faults.Replicators = 2
+status_of faults.Idle = 2
 status_of (faults.Trace fault) = 1
 status_of (faults.History fault) = 1
 status_of (faults.Dump fault) = 1
 status_of (faults.Heap fault) = 1
+status_of (faults.Shared fault) = 1
 status_of (faults.Pace why) = 1
 status_of faults.Open = 1
 status_of faults.Read = 1
 status_of faults.Write = 1
 status_of faults.TooLong = 1
 status_of faults.OutOfMemory = 3
+status_of faults.HistoryDiffers = 4
 
--- a fault that comes once the command line is understood
+-- a fault that any subcommand may end with, once the command line is understood
+abbrev pub IsUsualFault : LineFault → Type 0
+IsUsualFault fault = (status_of fault ≡ 1) ⊎ (status_of fault ≡ 3)
+
+-- such a fault, or that a history differs, which only a run in threads ends with
 abbrev pub IsLateFault : LineFault → Type 0
-IsLateFault fault = (status_of fault ≡ 1) ⊎ (status_of fault ≡ 3)
+IsLateFault fault = IsUsualFault fault ⊎ (status_of fault ≡ 4)
 
 -- a status that comes once the command line is understood: one of 0, 1, 3 and 4
 abbrev pub IsLateStatus : ℕ → Type 0
@@ -44,6 +53,8 @@ abbrev pub IsArgumentsFault : LineFault → Type 0
 IsArgumentsFault (faults.Arguments error) = ⊤
 IsArgumentsFault faults.Incomplete = ⊤
 IsArgumentsFault faults.Mark = ⊤
+IsArgumentsFault faults.Replicators = ⊤
+IsArgumentsFault faults.Idle = ⊤
 IsArgumentsFault faults.OutOfMemory = ⊤
 IsArgumentsFault fault = ⊥
 
@@ -53,6 +64,8 @@ IsEarlyFault (faults.Arguments error) = ⊤
 IsEarlyFault faults.NoText = ⊤
 IsEarlyFault faults.Incomplete = ⊤
 IsEarlyFault faults.Mark = ⊤
+IsEarlyFault faults.Replicators = ⊤
+IsEarlyFault faults.Idle = ⊤
 IsEarlyFault faults.Open = ⊤
 IsEarlyFault faults.OutOfMemory = ⊤
 IsEarlyFault fault = ⊥

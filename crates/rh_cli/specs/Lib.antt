@@ -4,3 +4,4 @@ pub mod Drive
 pub mod Fault
 pub mod Paced
 pub mod Replay
+pub mod Shared

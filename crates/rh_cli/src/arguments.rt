@@ -3,7 +3,7 @@
 ghost use Rattle.std.specs.Prelude.{◌≡◌, ◌⊎◌, map, option_map, false, Ok, Err, IsTrue, IfOk, IfErr, codes};
 ghost use Rattle.clap.specs.declared.builder.command.Command.TheViews.{out-Command as fields_of};
 ghost use Rattle.clap.specs.Words.{kind_of, app_of, subcommand_rows_of};
-ghost use Rattle.rh_cli.specs.Ask.{command_and_file, command_and_file_in, command_and_file_of, command_named, file_app, run_app, rheap_app, is_set, is_taken, run_asked};
+ghost use Rattle.rh_cli.specs.Ask.{command_and_file, command_and_file_in, command_and_file_of, command_named, file_app, number_within, run_app, rheap_app, is_set, is_taken, run_asked, threads_app, threads_asked};
 ghost use Rattle.rh_cli.specs.Fault.{IsArgumentsFault};
 ghost use Rattle.rh_cli.specs.declared.ask.Ask.{Ask};
 
@@ -13,8 +13,24 @@ use crate::help;
 use crate::version::VERSION;
 use clap::error::ErrorKind;
 use clap::{Arg, ArgAction, ArgMatches, Command};
+use rh_shared::MAX_REPLICATORS;
 use rh_text::read_number;
 use std::alloc::{AllocError, Global};
+
+/// The replicators of `threads` where it isn't said how many.
+const USUAL_REPLICATORS: u32 = 2;
+
+/// The most idle words of an increment that can be asked for.
+const MAX_IDLE: u32 = 65_535;
+
+/// The values of the options of all commands, as far as they are given.
+#[derive(Clone, Copy)]
+struct Options<'a> {
+    paced: Option<&'a str>,
+    mark: Option<&'a str>,
+    replicators: Option<&'a str>,
+    idle: Option<&'a str>,
+}
 
 /// The command line as clap knows it.
 fn command_line<'a>(alloc: Global) -> Result<Command<'a>, AllocError>
@@ -26,6 +42,7 @@ fn command_line<'a>(alloc: Global) -> Result<Command<'a>, AllocError>
         .subcommand_required(true)
         .bin_name("rheap")?
         .subcommand(run_command(alloc)?)?
+        .subcommand(threads_command(alloc)?)?
         .subcommand(replay_command(alloc)?)?
         .subcommand(dump_command(alloc)?)
 }
@@ -46,6 +63,24 @@ fn run_command<'a>(alloc: Global) -> Result<Command<'a>, AllocError>
     file_command(alloc, "run", about, help::RUN)?
         .arg(paced)?
         .arg(mark)
+}
+
+/// The command `threads` as clap knows it.
+fn threads_command<'a>(alloc: Global) -> Result<Command<'a>, AllocError>
+    ensures app { IfOk result (λ command. app_of command ≡ threads_app) }
+    ensures local { IfOk result (λ command. (fields_of command).has_globals ≡ false) }
+{
+    let about = "Plays a trace of commands in threads, and prints the history of the calls";
+    let replicators = Arg::new(alloc, "replicators")
+        .long("replicators")
+        .value_name("N")
+        .help("The replicators, in threads of their own: 0 to 8, else 2");
+    let idle = Arg::new(alloc, "idle").long("idle").value_name("N").help(
+        "The idle words of an increment in a cycle: 0 to 65535, else 0",
+    );
+    file_command(alloc, "threads", about, help::THREADS)?
+        .arg(replicators)?
+        .arg(idle)
 }
 
 /// The command `replay` as clap knows it.
@@ -92,7 +127,9 @@ fn file_command<'a>(
 ///
 /// `Arguments` where clap refuses them, or they ask for help or the version; `Incomplete` where
 /// clap takes them and they hold no command or no file; `Mark` where `run` has `--mark` without
-/// `--paced`, or with a value that is no number below 2^32; `OutOfMemory` where memory was refused.
+/// `--paced`, or with a value that is no number below 2^32; `Replicators` and then `Idle` where
+/// `threads` has such an option with a value that is no number up to 8, or up to 65,535;
+/// `OutOfMemory` where memory was refused.
 pub fn read_words<'a>(alloc: Global, arguments: &'a [&'a str]) -> Result<Ask<'a>, LineFault>
     // The request has the command and the file that clap's parse of the arguments holds.
     ensures asked { IfOk result (λ ask.
@@ -143,8 +180,13 @@ fn ask_of<'a>(matches: &ArgMatches<'a>) -> Result<Ask<'a>, LineFault>
     let Some(file) = values.get_str("FILE") else {
         return Err(LineFault::Incomplete);
     };
-    let is_paced = is_set(values.get_str("paced"));
-    let subcommand = command_named(name, is_paced, values.get_str("mark"))?;
+    let options = Options {
+        paced: values.get_str("paced"),
+        mark: values.get_str("mark"),
+        replicators: values.get_str("replicators"),
+        idle: values.get_str("idle"),
+    };
+    let subcommand = command_named(name, options)?;
     Ok(Ask { subcommand, file })
 }
 
@@ -158,13 +200,21 @@ fn is_set(value: Option<&str>) -> bool
     }
 }
 
-/// The command of this name with these options, which `run` alone has.
-fn command_named(name: &str, is_paced: bool, mark: Option<&str>) -> Result<Subcommand, LineFault>
-    ensures named { result ≡ command_named name.now is_paced (option_map (λ t. t.now) mark.entry) }
+/// The command of this name with its options, of those that are given.
+fn command_named(name: &str, given: Options<'_>) -> Result<Subcommand, LineFault>
+    ensures named { result ≡ command_named name.now (record {
+      paced = option_map (λ t. t.now) given.entry.paced;
+      mark = option_map (λ t. t.now) given.entry.mark;
+      replicators = option_map (λ t. t.now) given.entry.replicators;
+      idle = option_map (λ t. t.now) given.entry.idle;
+    }) }
     ensures kinds { IfErr result (λ fault. IsArgumentsFault fault) }
 {
     if name == "run" {
-        return run_asked(is_paced, mark);
+        return run_asked(is_set(given.paced), given.mark);
+    }
+    if name == "threads" {
+        return threads_asked(given.replicators, given.idle);
     }
     if name == "replay" {
         return Ok(Subcommand::Replay);
@@ -188,6 +238,34 @@ fn run_asked(is_paced: bool, mark: Option<&str>) -> Result<Subcommand, LineFault
             None => Err(LineFault::Mark),
         },
         Some(_) => Err(LineFault::Mark),
+    }
+}
+
+/// The run in threads that is asked for.
+fn threads_asked(replicators: Option<&str>, idle: Option<&str>) -> Result<Subcommand, LineFault>
+    ensures asked { result ≡ threads_asked (option_map (λ t. t.now) replicators.entry)
+        (option_map (λ t. t.now) idle.entry) }
+    ensures kinds { IfErr result (λ fault. IsArgumentsFault fault) }
+{
+    let Some(replicators) = number_within(USUAL_REPLICATORS, MAX_REPLICATORS, replicators) else {
+        return Err(LineFault::Replicators);
+    };
+    let Some(idle) = number_within(0, MAX_IDLE, idle) else {
+        return Err(LineFault::Idle);
+    };
+    Ok(Subcommand::Threads { replicators, idle })
+}
+
+/// The number that is given, if it is no more than the most, or the usual one where none is given.
+fn number_within(usual: u32, most: u32, given: Option<&str>) -> Option<u32>
+    ensures { result ≡ number_within usual most (option_map (λ t. t.now) given.entry) }
+{
+    let Some(text) = given else {
+        return Some(usual);
+    };
+    match read_number(text.as_bytes()) {
+        Some(number) if number <= most => Some(number),
+        _ => None,
     }
 }
 

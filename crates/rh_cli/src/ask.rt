@@ -10,6 +10,14 @@ pub enum Subcommand {
         /// The free words below which a cycle begins. Without a mark the pace is one that keeps up.
         mark: Option<u32>,
     },
+    /// Play the commands in it on a shared heap, each owner's in a thread of its own, and print the
+    /// history of the calls.
+    Threads {
+        /// The replicators that fold pieces in threads beside the heap: 0 to 8.
+        replicators: u32,
+        /// The idle words that each increment in a cycle adds, a unit of work each: 0 to 65,535.
+        idle: u32,
+    },
     /// Check the history in it, and report on it.
     Replay,
     /// Count what the dump in it has.

@@ -4,7 +4,7 @@ ghost use Rattle.std.specs.Prelude.{◌≡◌, ◌↔◌, List, ℕ, Ok, IfSome,
 ghost use Rattle.std.specs.Io.KnownBytes.{Consumes};
 ghost use Rattle.rh_dump.specs.texts.Reading.{graph_of_text};
 ghost use Rattle.rh_cli.specs.Count.{ConcludesCount, IsSentStatus, counts_line};
-ghost use Rattle.rh_cli.specs.Fault.{status_after, IsLateFault};
+ghost use Rattle.rh_cli.specs.Fault.{status_after, IsUsualFault};
 
 use crate::ending::Ending;
 use crate::fault::LineFault;
@@ -25,7 +25,7 @@ pub fn count<A: Allocator + Copy, R: Read, O: Write>(
     ensures read { (input : List ℕ)
         × Consumes (R.remaining reader.old) (R.remaining reader.new) input
         × ConcludesCount input (status_after result) (O.contents out.old) (O.contents out.new) }
-    ensures late { IfErr result (λ fault. IsLateFault fault) }
+    ensures late { IfErr result (λ fault. IsUsualFault fault) }
 {
     match read_dump(alloc, reader) {
         Ok(graph) => write_counts(&graph, out),
@@ -49,7 +49,7 @@ fn put_counts<A: Allocator>(text: &mut LineText, graph: &Graph<A>)
 fn write_counts<A: Allocator, O: Write>(graph: &Graph<A>, out: &mut O) -> Result<Ending, LineFault>
     ensures concluded { (input : List ℕ) → graph_of_text input ≡ Ok graph.now
         → ConcludesCount input (status_after result) (O.contents out.old) (O.contents out.new) }
-    ensures late { IfErr result (λ fault. IsLateFault fault) }
+    ensures late { IfErr result (λ fault. IsUsualFault fault) }
 {
     let mut text = LineText::new();
     put_counts(&mut text, graph);
@@ -63,7 +63,7 @@ fn conclude(sent: Result<(), Unsent>, flushed: bool) -> Result<Ending, LineFault
     ensures status { IsSentStatus sent (status_after result) }
     // The status is 0 exactly where the line was written and flushed.
     ensures done { (status_after result ≡ 0) ↔ (IsOk sent × IsTrue flushed) }
-    ensures late { IfErr result (λ fault. IsLateFault fault) }
+    ensures late { IfErr result (λ fault. IsUsualFault fault) }
 {
     match sent {
         Ok(()) if flushed => Ok(Ending::Done),

@@ -1,9 +1,10 @@
 //! Doing what was asked, between a reader and two writers.
 
-ghost use Rattle.std.specs.Prelude.{◌≡◌, ◌⊎◌, List, ℕ, IfSome, IfErr};
+ghost use Rattle.std.specs.Prelude.{◌≡◌, ◌≢◌, ◌⊎◌, List, ℕ, IfSome, IfErr};
 ghost use Rattle.std.specs.Io.KnownBytes.{Consumes, Keeps};
 ghost use Rattle.rh_cli.specs.Drive.{Concludes};
 ghost use Rattle.rh_cli.specs.Fault.{status_of, status_after, IsLateFault, IsLateStatus};
+ghost use Rattle.rh_cli.specs.declared.ask.Subcommand.TheVariants.{Replay};
 ghost use Rattle.rh_cli.specs.declared.fault.LineFault.TheVariants as faults;
 
 use crate::ask::{Ask, Subcommand};
@@ -13,20 +14,31 @@ use crate::fault::LineFault;
 use crate::pacing::run_by_mark;
 use crate::replaying::replay;
 use crate::running::run;
+use crate::sharing::play_shared;
+use rh_shared_trace::RunOptions;
 use std::alloc::Allocator;
 use std::io::{self, Read, Write};
+use std::sync::Wait;
+use std::thread::Threads;
 
 /// Does what is asked with the file's bytes, which `reader` gives: answers and reports go to `out`,
 /// which is flushed at the end, and one line on failure to `err`. Answers the status that the
-/// program ends with: 0 where it is done, 4 for a wrong history, 3 where memory was refused, and
-/// else 1.
-pub fn drive<A: Allocator + Copy, R: Read, O: Write, E: Write>(
+/// program ends with: 0 where it is done, 4 for a wrong history, 3 where memory or a thread was
+/// refused, and else 1. It waits for the threads of `threads`.
+pub fn drive<T, A, R, O, E>(
+    rt: &T,
     alloc: A,
     ask: &Ask<'_>,
     reader: &mut R,
     out: &mut O,
     err: &mut E,
 ) -> u8
+where
+    T: Threads + Wait + Sync,
+    A: Allocator + Copy + Send,
+    R: Read,
+    O: Write,
+    E: Write,
     // For a reader that tells its bytes: by what is due for the bytes that it had.
     ensures told { IfSome (R.remaining reader.old) (λ input.
         Concludes ask.now.subcommand input result (O.contents out.old) (O.contents out.new)) }
@@ -34,24 +46,31 @@ pub fn drive<A: Allocator + Copy, R: Read, O: Write, E: Write>(
     ensures read { (input : List ℕ)
         × Consumes (R.remaining reader.old) (R.remaining reader.new) input
         × Concludes ask.now.subcommand input result (O.contents out.old) (O.contents out.new) }
-    // Where it is done, and where a history is wrong, nothing is told of a fault.
-    ensures quiet { (result ≡ 0) ⊎ (result ≡ 4) → Keeps (E.contents err.old) (E.contents err.new) }
+    // Where it is done, and where a history that was read is wrong, nothing is told of a fault.
+    ensures quiet { (result ≡ 0) ⊎ ((result ≡ 4) × (ask.now.subcommand ≡ Replay))
+        → Keeps (E.contents err.old) (E.contents err.new) }
     // The command line was understood, so that no status says otherwise.
     ensures late { IsLateStatus result }
 {
-    match act(alloc, ask.subcommand, reader, out) {
+    match act(rt, alloc, ask.subcommand, reader, out) {
         Ok(ending) => ending.status(),
         Err(fault) => tell(&fault, err),
     }
 }
 
 /// Does what a subcommand asks.
-fn act<A: Allocator + Copy, R: Read, O: Write>(
+fn act<T, A, R, O>(
+    rt: &T,
     alloc: A,
     subcommand: Subcommand,
     reader: &mut R,
     out: &mut O,
 ) -> Result<Ending, LineFault>
+where
+    T: Threads + Wait + Sync,
+    A: Allocator + Copy + Send,
+    R: Read,
+    O: Write,
     ensures told { IfSome (R.remaining reader.old) (λ input. Concludes subcommand input
         (status_after result) (O.contents out.old) (O.contents out.new)) }
     ensures read { (input : List ℕ)
@@ -59,10 +78,16 @@ fn act<A: Allocator + Copy, R: Read, O: Write>(
         × Concludes subcommand input (status_after result) (O.contents out.old)
         (O.contents out.new) }
     ensures late { IfErr result (λ fault. IsLateFault fault) }
+    // A check of a history ends with another fault than that a history differs.
+    ensures check { subcommand ≡ Replay → IfErr result (λ fault. status_of fault ≢ 4) }
 {
     match subcommand {
         Subcommand::Run => run(alloc, reader, out),
         Subcommand::RunPaced { mark } => run_by_mark(alloc, reader, out, mark),
+        Subcommand::Threads { replicators, idle } => {
+            let options = RunOptions { replicators, idle };
+            play_shared(rt, alloc, reader, out, options)
+        }
         Subcommand::Replay => replay(alloc, reader, out),
         Subcommand::Dump => count(alloc, reader, out),
     }

@@ -8,6 +8,7 @@ use rh_core::ConfigFault;
 use rh_dump::DumpFault;
 use rh_pace::PaceError;
 use rh_replay::HistoryFault;
+use rh_shared::SharedFault;
 use rh_trace::TraceFault;
 use std::alloc::{AllocError, AllocFailed};
 use thiserror::Error;
@@ -27,6 +28,12 @@ pub enum LineFault {
     /// `--mark` stands without `--paced`, or its value isn't a number of words, 0 to 4,294,967,295.
     #[error("rheap: --mark needs --paced and a number of words, 0 to 4294967295")]
     Mark,
+    /// The value of `--replicators` isn't a number, 0 to 8.
+    #[error("rheap: --replicators needs a number of replicators, 0 to 8")]
+    Replicators,
+    /// The value of `--idle` isn't a number of words, 0 to 65,535.
+    #[error("rheap: --idle needs a number of words, 0 to 65535")]
+    Idle,
     /// The file is no trace.
     #[error("rheap: {0}")]
     Trace(TraceFault),
@@ -39,12 +46,18 @@ pub enum LineFault {
     /// No heap is made with the sizes that the file asks for.
     #[error("rheap: heap: {0}")]
     Heap(ConfigFault),
+    /// No shared heap is made with the replicators that were asked for.
+    #[error("rheap: heap: {0}")]
+    Shared(SharedFault),
     /// No pace keeps up in a heap of these sizes with what a trace asks for.
     #[error("rheap: pace: {0}")]
     Pace(PaceError),
     /// The file can't be opened.
     #[error("rheap: open failed")]
     Open,
+    /// The history of a shared heap isn't that of the calls of the mutators, or isn't legal.
+    #[error("rheap: history differs")]
+    HistoryDiffers,
     /// A read failed, or as many as may be made didn't come to the end: 33,554,432 of a trace or a
     /// history, 536,870,912 of a dump.
     #[error("rheap: read failed")]
@@ -56,22 +69,23 @@ pub enum LineFault {
     /// The trace or the history has more than 16,777,216 bytes.
     #[error("rheap: too long")]
     TooLong,
-    /// Memory was refused.
+    /// Memory was refused, or a thread.
     #[error("rheap: out of memory")]
     OutOfMemory,
 }
 
 impl LineFault {
     /// The status that the program ends with: 0 for help or the version, 2 for another command line
-    /// that isn't understood, 3 for want of memory, and else 1.
+    /// that isn't understood, 3 for want of memory, 4 for a history that differs, and else 1.
     pub fn status(&self) -> u8
         ensures { result ≡ status_of self.now }
     {
         match self {
             LineFault::Arguments(error) if !error.use_stderr() => 0,
-            LineFault::Arguments(_) | LineFault::NoText | LineFault::Incomplete | LineFault::Mark =>
-                2,
+            LineFault::Arguments(_) | LineFault::NoText | LineFault::Incomplete => 2,
+            LineFault::Mark | LineFault::Replicators | LineFault::Idle => 2,
             LineFault::OutOfMemory => 3,
+            LineFault::HistoryDiffers => 4,
             _ => 1,
         }
     }

@@ -69,6 +69,41 @@ On failure standard error has one line, as `rheap: line 3: Cut` or `rheap: heap:
 
 The tables of lines, answers, refusals and faults are in docs/formats.md.";
 
+/// What the help of `threads` ends with.
+pub const THREADS: &str = "\
+A trace of commands alone, as `rheap run --help` has it. Each owner's lines are played in their
+order, in a thread of its own, on one heap that the threads share and that collects by itself: a
+cycle begins where fewer than half of the words are free. With each accepted command goes a part of
+a cycle; replicators, in threads of their own, fold what is to be copied beside the heap's lock.
+
+The history of the calls is printed, in the order in which they were made; `rheap replay` reads it:
+
+  history OWNERS SLOTS
+  COMMAND LINE = ANSWER     for each call
+  end N                     N is the number of calls
+
+Its answers are those of a heap that never moves its objects, and each owner's lines stand in it in
+their order, each once. Left out are allocations and stores that were refused by a limit (SpaceFull,
+LogFull, NumbersSpent), and what comes after 65536 calls. Two runs may print the calls of two owners
+in another order; for a trace of one owner each run prints the same lines.
+
+  --replicators N  0 to 8, 2 where it isn't said. With 0 pieces are folded under the lock
+  --idle N         0 to 65535, 0 where it isn't said: units of collector work that each part of a
+                   cycle has beside those of allocation, so that a cycle ends with fewer allocations
+
+Statuses:
+  0  done; a refused line is an answer, and no failure
+  1  a fault in the file, or it can't be opened or read, or a write failed
+  2  the command line isn't understood
+  3  memory or a thread was refused
+  4  the history differs: it isn't that of the calls, or isn't legal. Nothing is printed then
+
+On failure standard error has one line, as `rheap: line 3: Word`. Faults are those of `run`, and
+  line L: Word   the line is of a cycle or a listing
+  line L: Root   the line's owner isn't below OWNERS
+
+Traces and histories are described in docs/formats.md.";
+
 /// What the help of `replay` ends with.
 pub const REPLAY: &str = "\
 The report has a line `owner O calls N` for each owner that has calls, and then `legal N`, or `wrong

@@ -17,14 +17,18 @@ ghost use Rattle.rh_replay.specs.declared.fault.HistoryFault.{HistoryFault as Hi
 ghost use Rattle.rh_replay.specs.History.{HistoryState};
 ghost use Rattle.rh_replay.specs.Reading.{history_of};
 ghost use Rattle.rh_replay.specs.Report.{report_text};
+ghost use Rattle.rh_replay.specs.Spelling.{spelling};
 ghost use Rattle.rh_trace.specs.Run.{StopsBeforeTotal, run_of};
 ghost use Rattle.rh_trace.specs.declared.run_fault.RunFault.{RunFault as RunFaultOf};
 ghost use Rattle.rh_trace.specs.declared.summary.Summary.{Summary as SummaryOf};
 ghost use Rattle.rh_core.specs.runs.Programs.{CommandAnswers};
+ghost use Rattle.rh_syntax.specs.Reading.{trace_of};
 ghost use Rattle.rh_syntax.specs.Spelling.{Script};
+ghost use Rattle.rh_syntax.specs.declared.fault.TraceFault.{TraceFault as TraceFaultOf};
 ghost use Rattle.rh_pace.specs.declared.pace.Pace.{Pace as PaceOf};
 ghost use Rattle.rh_paced_trace.specs.declared.fault.PacedFault.{PacedFault as PacedFaultOf};
 ghost use Rattle.rh_paced_trace.specs.Run.{IsPlainRun, IsRun, AreSumsOf, output_of, text_of};
+ghost use Rattle.rh_shared_trace.specs.Run.{IsHistoryOf, IsSharedRun};
 ghost use Rattle.rh_cli.specs.Ask.{command_and_file_of, is_taken};
 ghost use Rattle.rh_cli.specs.Count.{counts_line};
 ghost use Rattle.rh_cli.specs.Drive.{Concludes, run_status};
@@ -46,7 +50,8 @@ use rh_dump::limits::MAX_DUMP_BYTES;
 use std::alloc::Global;
 
 /// 0 says that all was done: a run answered its whole trace, a paced run its whole trace of commands
-/// at its pace, a history is legal and its report is written, or the counts of a dump's graph are.
+/// at its pace, the history of one in threads is written, a history is legal and its report is
+/// written, or the counts of a dump's graph are.
 pub fn status_0_says_done()
     ensures run { (input : List ℕ) (old new : Option (List ℕ))
         → Concludes SubcommandOf.Run input 0 old new
@@ -55,6 +60,11 @@ pub fn status_0_says_done()
         → Concludes (SubcommandOf.RunPaced mark) input 0 old new
         → (script : Script) × (pace : PaceOf) × IsRun mark input script pace
         × Appends old new (text_of script pace) }
+    ensures threads { (replicators idle : ℕ) (input : List ℕ) (old new : Option (List ℕ))
+        → Concludes (SubcommandOf.Threads replicators idle) input 0 old new
+        → (script : Script) × (h : HistoryState)
+        × IsSharedRun (record { replicators = replicators; idle = idle }) input script
+        × IsHistoryOf script h × Appends old new (spelling h) }
     ensures replay { (input : List ℕ) (old new : Option (List ℕ))
         → Concludes SubcommandOf.Replay input 0 old new
         → (h : HistoryState) × (count : ℕ) × IsJudged input h (VerdictOf.Legal count)
@@ -80,6 +90,10 @@ pub fn a_faulty_input_ends_with_1_or_3()
         → ¬ ((script : Script) × (pace : PaceOf) × IsRun mark input script pace)
         → Concludes (SubcommandOf.RunPaced mark) input status old new
         → ((status ≡ 1) ⊎ (status ≡ 3)) × Keeps old new }
+    ensures threads { (replicators idle : ℕ) (input : List ℕ) (fault : TraceFaultOf) (status : ℕ)
+        (old new : Option (List ℕ)) → trace_of input ≡ Err fault
+        → Concludes (SubcommandOf.Threads replicators idle) input status old new
+        → (status ≡ 1) ⊎ (status ≡ 3) }
     ensures replay { (input : List ℕ) (fault : HistoryFaultOf) (status : ℕ)
         (old new : Option (List ℕ)) → history_of input ≡ Err fault
         → Concludes SubcommandOf.Replay input status old new → (status ≡ 1) ⊎ (status ≡ 3) }
@@ -95,10 +109,13 @@ pub fn status_2_says_that_the_command_line_is_not_understood()
         (old new : Option (List ℕ)) → Concludes subcommand input status old new → status ≢ 2 }
     ensures only { (fault : FaultOf) → status_of fault ≡ 2
         → (fault ≡ FaultOf.NoText) ⊎ ((fault ≡ FaultOf.Incomplete) ⊎ ((fault ≡ FaultOf.Mark)
-        ⊎ ((error : ClapError) × (fault ≡ FaultOf.Arguments error)))) }
+        ⊎ ((fault ≡ FaultOf.Replicators) ⊎ ((fault ≡ FaultOf.Idle)
+        ⊎ ((error : ClapError) × (fault ≡ FaultOf.Arguments error)))))) }
     ensures no_text { status_of FaultOf.NoText ≡ 2 }
     ensures incomplete { status_of FaultOf.Incomplete ≡ 2 }
     ensures mark { status_of FaultOf.Mark ≡ 2 }
+    ensures replicators { status_of FaultOf.Replicators ≡ 2 }
+    ensures idle { status_of FaultOf.Idle ≡ 2 }
     // What clap refuses has 2, unless it asks for help or the version, which is no mistake.
     ensures asked { (error : ClapError)
         → (kind_of error ≡ DisplayHelp) ⊎ (kind_of error ≡ DisplayVersion)
@@ -108,8 +125,8 @@ pub fn status_2_says_that_the_command_line_is_not_understood()
         → status_of (FaultOf.Arguments error) ≡ 2 }
 {}
 
-/// 3 says that memory was refused, and of no other fault: a run has then written nothing of its
-/// total line, and a check and a count nothing at all.
+/// 3 says that memory was refused, or a thread, and of no other fault: a run has then written
+/// nothing of its total line, and one in threads, a check and a count nothing at all.
 pub fn status_3_says_want_of_memory()
     ensures fault { (fault : FaultOf) → (status_of fault ≡ 3) ↔ (fault ≡ FaultOf.OutOfMemory) }
     ensures run_fault { (fault : RunFaultOf)
@@ -120,21 +137,27 @@ pub fn status_3_says_want_of_memory()
         → Concludes SubcommandOf.Run input 3 old new → StopsBeforeTotal (run_of input) old new }
     ensures paced { (mark : Option ℕ) (input : List ℕ) (old new : Option (List ℕ))
         → Concludes (SubcommandOf.RunPaced mark) input 3 old new → Keeps old new }
+    ensures threads { (replicators idle : ℕ) (input : List ℕ) (old new : Option (List ℕ))
+        → Concludes (SubcommandOf.Threads replicators idle) input 3 old new → Keeps old new }
     ensures replay { (input : List ℕ) (old new : Option (List ℕ))
         → Concludes SubcommandOf.Replay input 3 old new → Keeps old new }
     ensures dump { (input : List ℕ) (old new : Option (List ℕ))
         → Concludes SubcommandOf.Dump input 3 old new → Keeps old new }
 {}
 
-/// 4 says that a history is wrong, and that the whole report on it is written. No other subcommand
-/// ends with it, and no fault has it. No status is above it.
+/// 4 says that a history is wrong, and that the whole report on it is written; or, of a run in
+/// threads, that its history differs, and that nothing is written. No other subcommand ends with
+/// it, and no other fault has it. No status is above it.
 pub fn status_4_says_a_wrong_history()
     ensures wrong { (subcommand : SubcommandOf) (input : List ℕ) (old new : Option (List ℕ))
-        → Concludes subcommand input 4 old new → (subcommand ≡ SubcommandOf.Replay)
+        → Concludes subcommand input 4 old new → ((subcommand ≡ SubcommandOf.Replay)
         × ((h : HistoryState) × (at : ℕ) × (expected : Result Reply Refusal)
         × IsJudged input h (VerdictOf.Wrong at expected)
-        × Appends old new (report_text h (VerdictOf.Wrong at expected))) }
-    ensures fault { (fault : FaultOf) → status_of fault ≤ 3 }
+        × Appends old new (report_text h (VerdictOf.Wrong at expected))))
+        ⊎ ((replicators : ℕ) × (idle : ℕ) × (subcommand ≡ SubcommandOf.Threads replicators idle)
+        × Keeps old new) }
+    ensures fault { (fault : FaultOf) → (status_of fault ≡ 4) ↔ (fault ≡ FaultOf.HistoryDiffers) }
+    ensures no_more { (fault : FaultOf) → status_of fault ≤ 4 }
     ensures most { (subcommand : SubcommandOf) (input : List ℕ) (status : ℕ)
         (old new : Option (List ℕ)) → Concludes subcommand input status old new → status ≤ 4 }
     ensures ending { (ending : EndingOf)
@@ -166,6 +189,19 @@ pub fn worked_command_lines()
         ≡ Err FaultOf.Mark }
     ensures paced_replay { false
         ≡ is_taken (codes "rheap" ∷ codes "replay" ∷ codes "x" ∷ codes "--paced" ∷ []) }
+    ensures threads { command_and_file_of (codes "rheap" ∷ codes "threads" ∷ codes "x" ∷ [])
+        ≡ Ok (SubcommandOf.Threads 2 0, codes "x") }
+    ensures replicators { command_and_file_of (codes "rheap" ∷ codes "threads" ∷ codes "x"
+        ∷ codes "--idle=65535" ∷ codes "--replicators" ∷ codes "8" ∷ [])
+        ≡ Ok (SubcommandOf.Threads 8 65535, codes "x") }
+    ensures nine { command_and_file_of
+        (codes "rheap" ∷ codes "threads" ∷ codes "x" ∷ codes "--replicators=9" ∷ [])
+        ≡ Err FaultOf.Replicators }
+    ensures too_idle { command_and_file_of
+        (codes "rheap" ∷ codes "threads" ∷ codes "x" ∷ codes "--idle=65536" ∷ [])
+        ≡ Err FaultOf.Idle }
+    ensures run_replicators { false
+        ≡ is_taken (codes "rheap" ∷ codes "run" ∷ codes "x" ∷ codes "--replicators=1" ∷ []) }
     ensures taken { IsTrue (is_taken (codes "rheap" ∷ codes "run" ∷ codes "x" ∷ [])) }
     ensures bare { is_taken (codes "rheap" ∷ []) ≡ false }
     ensures no_file { is_taken (codes "rheap" ∷ codes "run" ∷ []) ≡ false }
@@ -191,6 +227,15 @@ pub fn a_paced_run_answers_as_the_plain_heap()
     every_event_keeps_a_heap_well_formed::<Global>();
     what_collectors_do_adds_up::<Global>();
 }
+
+/// What a run in threads prints, where it ends with 0, is a history that `replay` never finds
+/// wrong, whatever the schedule of the threads was.
+pub fn a_history_of_threads_is_never_found_wrong()
+    ensures { (replicators idle : ℕ) (input text : List ℕ)
+        → Concludes (SubcommandOf.Threads replicators idle) input 0 (Some []) (Some text)
+        → (status : ℕ) (old new : Option (List ℕ))
+        → Concludes SubcommandOf.Replay text status old new → status ≢ 4 }
+{}
 
 /// What is counted of the text of a graph is how many roots and how many objects the graph has, and
 /// the line says them in this order.

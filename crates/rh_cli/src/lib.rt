@@ -13,6 +13,7 @@ mod pacing;
 mod program;
 mod replaying;
 mod running;
+mod sharing;
 mod version;
 
 pub use arguments::read_words;

@@ -3,7 +3,7 @@
 ghost use Rattle.std.specs.Prelude.{◌≡◌, ◌↔◌, List, ℕ, IfSome, IfErr, IsOk, IsTrue};
 ghost use Rattle.std.specs.Io.KnownBytes.{Consumes};
 ghost use Rattle.rh_cli.specs.Paced.{ConcludesPaced, IsPacedStatus, paced_status, told_as};
-ghost use Rattle.rh_cli.specs.Fault.{status_of, status_after, IsLateFault};
+ghost use Rattle.rh_cli.specs.Fault.{status_of, status_after, IsUsualFault};
 
 use crate::ending::Ending;
 use crate::fault::LineFault;
@@ -25,7 +25,7 @@ pub fn run_by_mark<A: Allocator + Copy, R: Read, O: Write>(
         × Consumes (R.remaining reader.old) (R.remaining reader.new) input
         × ConcludesPaced mark input (status_after result) (O.contents out.old)
         (O.contents out.new) }
-    ensures late { IfErr result (λ fault. IsLateFault fault) }
+    ensures late { IfErr result (λ fault. IsUsualFault fault) }
 {
     let ran = run_paced(alloc, reader, out, mark);
     let flushed = out.flush();
@@ -37,7 +37,7 @@ fn conclude(ran: Result<Summary, PacedFault>, flushed: bool) -> Result<Ending, L
     ensures status { IsPacedStatus ran (status_after result) }
     // The status is 0 exactly where the run succeeded and the flush did.
     ensures done { (status_after result ≡ 0) ↔ (IsOk ran × IsTrue flushed) }
-    ensures late { IfErr result (λ fault. IsLateFault fault) }
+    ensures late { IfErr result (λ fault. IsUsualFault fault) }
 {
     match ran {
         Ok(_) if flushed => Ok(Ending::Done),
@@ -49,7 +49,7 @@ fn conclude(ran: Result<Summary, PacedFault>, flushed: bool) -> Result<Ending, L
 /// The fault that a paced run's is.
 fn fault_of_paced(fault: PacedFault) -> LineFault
     ensures status { status_of result ≡ paced_status fault }
-    ensures late { IsLateFault result }
+    ensures late { IsUsualFault result }
     // It is told as what it is.
     ensures told { result ≡ told_as fault }
 {

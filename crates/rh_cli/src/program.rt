@@ -18,16 +18,23 @@ use std::env::{self, Args};
 use std::fs::File;
 use std::io::{self, BufWriter, ErrorKind, Write};
 use std::rt::{Env, Files};
+use std::sync::Wait;
+use std::thread::Threads;
 
 /// How many bytes of answers are gathered before they are written.
 const OUTPUT_BYTES: usize = 65_536;
 
 /// Reads the command line, does what it asks, and answers the status to end with. Answers, help and
-/// the version go to standard output, and what went wrong to `err`.
-pub fn play<R: Env + Files + Input + Print + AllocGlobal, E: Write>(rt: &R, err: &mut E) -> u8
+/// the version go to standard output, and what went wrong to `err`. What is done in threads is done
+/// in those of `threads`.
+pub fn play<R, T, E>(rt: &R, threads: &T, err: &mut E) -> u8
+where
+    R: Env + Files + Input + Print + AllocGlobal,
+    T: Threads + Wait + Sync,
+    E: Write,
     ensures { result ≤ 4 }
 {
-    match carry_out(rt, err) {
+    match carry_out(rt, threads, err) {
         Ok(status) => status,
         Err(fault) if fault.status() == 0 => show(&fault, &mut io::writer(rt), err),
         Err(fault) => tell(&fault, err),
@@ -35,16 +42,17 @@ pub fn play<R: Env + Files + Input + Print + AllocGlobal, E: Write>(rt: &R, err:
 }
 
 /// Carries out what the command line asks. An `Err` is for what went wrong before that.
-fn carry_out<R: Env + Files + Input + Print + AllocGlobal, E: Write>(
-    rt: &R,
-    err: &mut E,
-) -> Result<u8, LineFault>
+fn carry_out<R, T, E>(rt: &R, threads: &T, err: &mut E) -> Result<u8, LineFault>
+where
+    R: Env + Files + Input + Print + AllocGlobal,
+    T: Threads + Wait + Sync,
+    E: Write,
     ensures late { IfOk result (λ status. IsLateStatus status) }
     ensures early { IfErr result (λ fault. IsEarlyFault fault) }
 {
     let arguments = arguments_of(rt.alloc(), env::args(rt))?;
     let words = words_of(rt.alloc(), arguments.as_slice())?;
-    with_arguments(rt, words.as_slice(), err)
+    with_arguments(rt, threads, words.as_slice(), err)
 }
 
 /// The arguments that were read, where they are text and memory isn't refused.
@@ -96,11 +104,16 @@ fn words_of<'a>(alloc: Global, arguments: &'a [String]) -> Result<Vec<&'a str>, 
 }
 
 /// Carries out what these arguments ask. The first one is the program's name.
-fn with_arguments<'a, R: Files + Input + Print + AllocGlobal, E: Write>(
+fn with_arguments<'a, R, T, E>(
     rt: &R,
+    threads: &T,
     arguments: &'a [&'a str],
     err: &mut E,
 ) -> Result<u8, LineFault>
+where
+    R: Files + Input + Print + AllocGlobal,
+    T: Threads + Wait + Sync,
+    E: Write,
     // A status comes only where clap's parse of the arguments holds a request.
     ensures asked { IfOk result (λ status. (ask : AskOf)
         × (command_and_file_of (map (λ a. a.now) arguments.now) ≡ Ok (command_and_file ask))) }
@@ -114,15 +127,20 @@ fn with_arguments<'a, R: Files + Input + Print + AllocGlobal, E: Write>(
     ensures early { IfErr result (λ fault. IsEarlyFault fault) }
 {
     let ask = read_words(rt.alloc(), arguments)?;
-    with_file(rt, &ask, err)
+    with_file(rt, threads, &ask, err)
 }
 
 /// Carries out a request with its file.
-pub(crate) fn with_file<R: Files + Input + Print + AllocGlobal, E: Write>(
+pub(crate) fn with_file<R, T, E>(
     rt: &R,
+    threads: &T,
     ask: &Ask<'_>,
     err: &mut E,
 ) -> Result<u8, LineFault>
+where
+    R: Files + Input + Print + AllocGlobal,
+    T: Threads + Wait + Sync,
+    E: Write,
     ensures late { IfOk result (λ status. IsLateStatus status) }
     ensures refused { IfErr result (λ fault.
         (fault ≡ LineFault.Open) ⊎ (fault ≡ LineFault.OutOfMemory)) }
@@ -132,10 +150,10 @@ pub(crate) fn with_file<R: Files + Input + Print + AllocGlobal, E: Write>(
 {
     let mut out = gathering(rt.alloc(), io::writer(rt))?;
     if is_standard_input(ask.file) {
-        return Ok(drive(rt.alloc(), ask, &mut rt.reader(), &mut out, err));
+        return Ok(drive(threads, rt.alloc(), ask, &mut rt.reader(), &mut out, err));
     }
     let mut file = opened(rt, ask.file)?;
-    Ok(drive(rt.alloc(), ask, &mut file, &mut out, err))
+    Ok(drive(threads, rt.alloc(), ask, &mut file, &mut out, err))
 }
 
 /// A writer that gathers what is written before the other writes it.

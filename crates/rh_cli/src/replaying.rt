@@ -2,7 +2,7 @@
 
 ghost use Rattle.std.specs.Prelude.{◌≡◌, ◌≤◌, ◌↔◌, List, ℕ, length, IfSome, IfErr, IsTrue};
 ghost use Rattle.std.specs.Io.KnownBytes.{Consumes};
-ghost use Rattle.rh_cli.specs.Fault.{status_after, IsLateFault};
+ghost use Rattle.rh_cli.specs.Fault.{status_after, IsUsualFault};
 ghost use Rattle.rh_cli.specs.Replay.{ConcludesReplay, IsReplayStatus, ReplayEnds, TellsLegal, TellsWrong};
 
 use crate::ending::Ending;
@@ -25,7 +25,7 @@ pub fn replay<A: Allocator + Copy, R: Read, O: Write>(
     ensures read { (input : List ℕ)
         × Consumes (R.remaining reader.old) (R.remaining reader.new) input
         × ConcludesReplay input (status_after result) (O.contents out.old) (O.contents out.new) }
-    ensures late { IfErr result (λ fault. IsLateFault fault) }
+    ensures late { IfErr result (λ fault. IsUsualFault fault) }
 {
     match read_all(alloc, reader, &mut IoLog::new()) {
         Ok(input) => replay_input(alloc, &input, out),
@@ -44,7 +44,7 @@ fn replay_input<A: Allocator + Copy, O: Write>(
     requires { length input.now ≤ MAX_INPUT_BYTES }
     ensures concluded { ConcludesReplay input.now (status_after result) (O.contents out.old)
         (O.contents out.new) }
-    ensures late { IfErr result (λ fault. IsLateFault fault) }
+    ensures late { IfErr result (λ fault. IsUsualFault fault) }
 {
     let reported = report_on(alloc, input, out);
     let flushed = out.flush();
@@ -60,7 +60,7 @@ fn report_on<A: Allocator + Copy, O: Write>(
 ) -> Result<Verdict, LineFault>
     requires { length input.now ≤ MAX_INPUT_BYTES }
     ensures ends { ReplayEnds input.now result (O.contents out.old) (O.contents out.new) }
-    ensures late { IfErr result (λ fault. IsLateFault fault) }
+    ensures late { IfErr result (λ fault. IsUsualFault fault) }
 {
     let history = match read_history(alloc, input) {
         Ok(history) => history,
@@ -79,13 +79,13 @@ fn report_on<A: Allocator + Copy, O: Write>(
 /// What a report and the flush after it come to.
 #[tactic(auto, using(crate::proofs::Statuses::failed_flush, crate::proofs::Statuses::late_is_not_0, crate::proofs::Statuses::late_is_not_4,))]
 fn conclude(reported: Result<Verdict, LineFault>, flushed: bool) -> Result<Ending, LineFault>
-    requires { IfErr reported (λ fault. IsLateFault fault) }
+    requires { IfErr reported (λ fault. IsUsualFault fault) }
     ensures status { IsReplayStatus reported (status_after result) }
     // The status is 0 exactly where the history is legal, and 4 exactly where it is wrong, with the
     // report written and flushed.
     ensures legal { (status_after result ≡ 0) ↔ (TellsLegal reported × IsTrue flushed) }
     ensures wrong { (status_after result ≡ 4) ↔ (TellsWrong reported × IsTrue flushed) }
-    ensures late { IfErr result (λ fault. IsLateFault fault) }
+    ensures late { IfErr result (λ fault. IsUsualFault fault) }
 {
     match reported {
         Ok(_) if !flushed => Err(LineFault::Write),

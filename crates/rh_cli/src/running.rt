@@ -4,7 +4,7 @@ ghost use Rattle.std.specs.Prelude.{◌≡◌, ◌↔◌, List, ℕ, IfSome, IfE
 ghost use Rattle.std.specs.Io.KnownBytes.{Consumes};
 ghost use Rattle.rh_trace.specs.Run.{run_of};
 ghost use Rattle.rh_cli.specs.Drive.{ConcludesRun, IsRunStatus, run_status};
-ghost use Rattle.rh_cli.specs.Fault.{status_of, status_after, IsLateFault};
+ghost use Rattle.rh_cli.specs.Fault.{status_of, status_after, IsUsualFault};
 
 use crate::ending::Ending;
 use crate::fault::LineFault;
@@ -24,7 +24,7 @@ pub fn run<A: Allocator + Copy, R: Read, O: Write>(
         × Consumes (R.remaining reader.old) (R.remaining reader.new) input
         × ConcludesRun (run_of input) (status_after result) (O.contents out.old)
         (O.contents out.new) }
-    ensures late { IfErr result (λ fault. IsLateFault fault) }
+    ensures late { IfErr result (λ fault. IsUsualFault fault) }
 {
     let ran = run_trace(alloc, reader, out);
     let flushed = out.flush();
@@ -36,7 +36,7 @@ fn conclude(ran: Result<Summary, RunFault>, flushed: bool) -> Result<Ending, Lin
     ensures status { IsRunStatus ran (status_after result) }
     // The status is 0 exactly where the run succeeded and the flush did.
     ensures done { (status_after result ≡ 0) ↔ (IsOk ran × IsTrue flushed) }
-    ensures late { IfErr result (λ fault. IsLateFault fault) }
+    ensures late { IfErr result (λ fault. IsUsualFault fault) }
 {
     match ran {
         Ok(_) if flushed => Ok(Ending::Done),
@@ -48,7 +48,7 @@ fn conclude(ran: Result<Summary, RunFault>, flushed: bool) -> Result<Ending, Lin
 /// The fault that a run's is.
 fn fault_of_run(fault: RunFault) -> LineFault
     ensures status { status_of result ≡ run_status fault }
-    ensures late { IsLateFault result }
+    ensures late { IsUsualFault result }
 {
     match fault {
         RunFault::Read => LineFault::Read,

@@ -4,5 +4,5 @@
 use std::process::ExitCode;
 
 fn main(rt: HostRuntime) -> ExitCode {
-    ExitCode::from(rh_cli::play(&rt, &mut rt.stderr()))
+    ExitCode::from(rh_cli::play(&rt, &rt, &mut rt.stderr()))
 }

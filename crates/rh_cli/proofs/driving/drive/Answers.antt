@@ -1,3 +1,5 @@
+use Rattle.std.proofs.Common.{◌≡◌}
+use Rattle.rh_cli.specs.declared.ask.Subcommand.TheVariants.{Replay}
 use Rattle.rh_text.specs.lemmas.Appends.{Keeps-same}
 use Rattle.rh_cli.specs.Fault.{status_of}
 use Rattle.rh_cli.proofs.Statuses.{late_is_told, late_of_ending, late_of_fault}
@@ -19,7 +21,7 @@ pub returns-in-Ok-clause-quiet : goal.returns-in-Ok-clause-quiet
 returns-in-Ok-clause-quiet g c = λ is. Keeps-same (g.E.Write.contents c.args.err.now)
 
 pub returns-in-Err-clause-quiet : goal.returns-in-Err-clause-quiet
-returns-in-Err-clause-quiet g c = λ is. absurd (late_is_told c.tell.result (status_of c.in-Err.fault) c.tell.ensures c.in-Err.ensures.late is)
+returns-in-Err-clause-quiet g c = λ is. absurd (late_is_told (c.args.ask.now.subcommand ≡ Replay) c.tell.result (status_of c.in-Err.fault) c.tell.ensures c.in-Err.ensures.late c.in-Err.ensures.check is)
 
 pub returns-in-Ok-clause-late : goal.returns-in-Ok-clause-late
 returns-in-Ok-clause-late g c = late_of_ending c.in-Ok.ending c.status.result c.status.ensures

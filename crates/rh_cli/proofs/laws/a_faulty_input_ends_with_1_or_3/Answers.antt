@@ -1,8 +1,12 @@
 use Rattle.rh_cli.proofs.StatusLaws.{concludes_run_fault, concludes_replay_fault, concludes_dump_fault, concludes_paced_fault}
+use Rattle.rh_cli.proofs.SharedStatuses.{concludes_shared_fault}
 use Rattle.rh_cli.proofs.laws.a_faulty_input_ends_with_1_or_3.Goals as goal
 
 pub returns-clause-run : goal.returns-clause-run
 returns-clause-run c = concludes_run_fault
+
+pub returns-clause-threads : goal.returns-clause-threads
+returns-clause-threads c = λ replicators idle. concludes_shared_fault (record { replicators = replicators; idle = idle })
 
 pub returns-clause-replay : goal.returns-clause-replay
 returns-clause-replay c = concludes_replay_fault

@@ -1,8 +1,12 @@
 use Rattle.rh_cli.proofs.StatusLaws.{concludes_run_0, concludes_replay_0, concludes_dump_0, done_is_0, only_help_is_0, concludes_paced_run}
+use Rattle.rh_cli.proofs.SharedStatuses.{concludes_shared_0}
 use Rattle.rh_cli.proofs.laws.status_0_says_done.Goals as goal
 
 pub returns-clause-run : goal.returns-clause-run
 returns-clause-run c = concludes_run_0
+
+pub returns-clause-threads : goal.returns-clause-threads
+returns-clause-threads c = λ replicators idle. concludes_shared_0 (record { replicators = replicators; idle = idle })
 
 pub returns-clause-replay : goal.returns-clause-replay
 returns-clause-replay c = concludes_replay_0

@@ -23,3 +23,9 @@ returns-clause-refused c = λ error help version. no_help_is_2 (kind_of error) h
 
 pub returns-clause-mark : goal.returns-clause-mark
 returns-clause-mark c = refl
+
+pub returns-clause-replicators : goal.returns-clause-replicators
+returns-clause-replicators c = refl
+
+pub returns-clause-idle : goal.returns-clause-idle
+returns-clause-idle c = refl

@@ -1,4 +1,5 @@
 use Rattle.rh_cli.proofs.StatusLaws.{memory_is_3, run_memory_is_3, concludes_paced_3, concludes_run_3, concludes_replay_3, concludes_dump_3, paced_memory_is_3}
+use Rattle.rh_cli.proofs.SharedStatuses.{concludes_shared_3}
 use Rattle.rh_cli.proofs.laws.status_3_says_want_of_memory.Goals as goal
 
 pub returns-clause-fault : goal.returns-clause-fault
@@ -12,6 +13,9 @@ returns-clause-run c = concludes_run_3
 
 pub returns-clause-paced : goal.returns-clause-paced
 returns-clause-paced c = concludes_paced_3
+
+pub returns-clause-threads : goal.returns-clause-threads
+returns-clause-threads c = λ replicators idle. concludes_shared_3 (record { replicators = replicators; idle = idle })
 
 pub returns-clause-replay : goal.returns-clause-replay
 returns-clause-replay c = concludes_replay_3

@@ -60,3 +60,23 @@ returns-clause-no_number c = refl
 pub returns-clause-paced_replay : goal.returns-clause-paced_replay
 unfolding is_taken clap_on_literals
 returns-clause-paced_replay c = refl
+
+pub returns-clause-threads : goal.returns-clause-threads
+unfolding command_and_file_of number_of digits clap_on_literals
+returns-clause-threads c = refl
+
+pub returns-clause-replicators : goal.returns-clause-replicators
+unfolding command_and_file_of number_of digits clap_on_literals
+returns-clause-replicators c = refl
+
+pub returns-clause-nine : goal.returns-clause-nine
+unfolding command_and_file_of number_of digits clap_on_literals
+returns-clause-nine c = refl
+
+pub returns-clause-too_idle : goal.returns-clause-too_idle
+unfolding command_and_file_of number_of digits clap_on_literals
+returns-clause-too_idle c = refl
+
+pub returns-clause-run_replicators : goal.returns-clause-run_replicators
+unfolding is_taken clap_on_literals
+returns-clause-run_replicators c = refl
