@@ -8,12 +8,12 @@ use rh_replay::{Verdict, check};
 use rh_shared::{CallError, Did, Kept, SharedConfig, Start};
 use std::process::Abort;
 
-const A: RootId = RootId { owner: 1, slot: 0 };
+pub const A: RootId = RootId { owner: 1, slot: 0 };
 
-const B: RootId = RootId { owner: 1, slot: 1 };
+pub const B: RootId = RootId { owner: 1, slot: 1 };
 
 /// What an increment does in which nothing happens.
-const NOTHING: Did = Did {
+pub const NOTHING: Did = Did {
     began: false,
     shaded: 0,
     given: 0,
@@ -28,13 +28,14 @@ fn kept_of<R: AllocGlobal + Abort>(rt: &R, config: Config, shared: SharedConfig)
     let start = Start::new(rt.alloc(), config, shared)
         .ok()
         .expect(rt, "it starts");
-    Kept::new(rt.alloc(), start)
+    let (kept, _ends) = Kept::new(rt.alloc(), start)
         .ok()
-        .expect(rt, "memory is ample")
+        .expect(rt, "memory is ample");
+    kept
 }
 
 /// Makes calls of owner 1, one after the other, each with its answer and what its increment did.
-fn expect_calls(
+pub fn expect_calls(
     rt: &impl Abort,
     kept: &mut Kept,
     calls: &[(Command, Result<Reply, CallError>, Did)],

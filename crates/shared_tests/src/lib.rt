@@ -2,6 +2,8 @@
 #![tactic(auto)]
 
 #[cfg(test)]
+mod beside;
+#[cfg(test)]
 mod closing;
 #[cfg(test)]
 mod crews;
@@ -12,6 +14,10 @@ mod kept;
 #[cfg(test)]
 mod replicators;
 #[cfg(test)]
+mod rings;
+#[cfg(test)]
 mod starts;
 #[cfg(test)]
 mod threads;
+#[cfg(test)]
+mod traces;

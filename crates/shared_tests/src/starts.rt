@@ -29,12 +29,18 @@ pub const EAGER: SharedConfig = SharedConfig {
     idle: 0,
 };
 
+/// The same with two replicators.
+pub const TWO: SharedConfig = SharedConfig {
+    replicators: 2,
+    ..EAGER
+};
+
 /// Each configuration with one fault more than the one after it, and the fault that is told.
 const FAULTY: &[(Config, SharedConfig, StartError)] = &[
     (
         Config { words: 7, ..SMALL },
         SharedConfig {
-            replicators: 1,
+            replicators: 9,
             copies: 0,
             most: 65,
             history: 0,
@@ -45,7 +51,7 @@ const FAULTY: &[(Config, SharedConfig, StartError)] = &[
     (
         SMALL,
         SharedConfig {
-            replicators: 1,
+            replicators: 9,
             copies: 0,
             most: 65,
             history: 0,
@@ -87,6 +93,15 @@ const FAULTY: &[(Config, SharedConfig, StartError)] = &[
     ),
     (
         SMALL,
+        SharedConfig {
+            replicators: 2,
+            copies: 3,
+            ..EAGER
+        },
+        StartError::Shared(SharedFault::BadCopies),
+    ),
+    (
+        SMALL,
         SharedConfig { most: 0, ..EAGER },
         StartError::Shared(SharedFault::BadMost),
     ),
@@ -111,6 +126,8 @@ fn the_first_fault_is_told(rt: HostRuntime) {
 #[test]
 fn the_greatest_sizes_start(rt: HostRuntime) {
     let shared = SharedConfig {
+        replicators: 8,
+        copies: 8,
         most: 64,
         mark: u32::MAX,
         history: 1_048_576,
@@ -123,15 +140,12 @@ fn the_greatest_sizes_start(rt: HostRuntime) {
 
 /// Whether a start met want of memory, which is told as that alone.
 fn start_is_refused<A: Allocator + Copy>(alloc: A) -> bool {
-    matches!(
-        Start::new(alloc, SMALL, EAGER),
-        Err(StartError::OutOfMemory)
-    )
+    matches!(Start::new(alloc, SMALL, TWO), Err(StartError::OutOfMemory))
 }
 
 /// Whether a shared heap met want of memory once it had started.
 fn shared_heap_is_refused<A: Allocator + Copy>(alloc: A) -> bool {
-    match Start::new(alloc, SMALL, EAGER) {
+    match Start::new(alloc, SMALL, TWO) {
         Ok(start) => matches!(SharedHeap::new(alloc, start), Err(OutOfMemory)),
         Err(_) => true,
     }
@@ -140,9 +154,9 @@ fn shared_heap_is_refused<A: Allocator + Copy>(alloc: A) -> bool {
 #[test]
 fn refused_memory_is_told(rt: HostRuntime) {
     let starts = refused_in_turn(rt.alloc(), |memory| start_is_refused(memory));
-    expect_refusals(&rt, starts, 5);
+    expect_refusals(&rt, starts, 11);
     let heaps = refused_in_turn(rt.alloc(), |memory| shared_heap_is_refused(memory));
-    expect_refusals(&rt, heaps, 9);
+    expect_refusals(&rt, heaps, 15);
 }
 
 #[test]

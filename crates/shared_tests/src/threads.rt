@@ -35,9 +35,10 @@ pub fn shared_of<R: AllocGlobal + Abort>(
     let start = Start::new(rt.alloc(), config, shared)
         .ok()
         .expect(rt, "it starts");
-    SharedHeap::new(rt.alloc(), start)
+    let (shared, mutators, _ends) = SharedHeap::new(rt.alloc(), start)
         .ok()
-        .expect(rt, "memory is ample")
+        .expect(rt, "memory is ample");
+    (shared, mutators)
 }
 
 /// The five calls of an owner: it makes an object with its own number in it, shares it, and reads

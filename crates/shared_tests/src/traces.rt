@@ -1,0 +1,183 @@
+//! Traces that are played on a shared heap, with mutators and replicators in threads.
+
+use crate::expectations::{expect_equal, expect_refusals, expect_texts};
+use refusing::refused_in_turn;
+use rh_core::ConfigFault;
+use rh_replay::{Verdict, check, read_history};
+use rh_shared::SharedFault;
+use rh_shared_trace::{RunOptions, SharedRunFault, run_shared};
+use rh_syntax::{Kind, TraceFault};
+use std::alloc::Allocator;
+use std::process::Abort;
+use std::sync::Wait;
+use std::thread::Threads;
+
+/// No replicators, and no idle words.
+const ALONE: RunOptions = RunOptions {
+    replicators: 0,
+    idle: 0,
+};
+
+/// Two replicators.
+const TWO: RunOptions = RunOptions {
+    replicators: 2,
+    idle: 0,
+};
+
+/// A number that is stored and read.
+const STORED: &[u8] = b"heap 64 8 8 2 2\n1 alloc 1.0 1\n1 store 1.0 0 5\n1 load 1.1 1.0 0\n";
+
+const STORED_HISTORY: &[u8] = b"history 2 2\n1 alloc 1.0 1 = object 1\n1 store 1.0 0 5 = done\n\
+        1 load 1.1 1.0 0 = int 5\nend 3\n";
+
+/// An allocation for which there is no room, and a line whose root isn't there.
+const LEFT_OUT: &[u8] = b"heap 16 8 4 1 1\n0 alloc 0.0 15\n0 drop 1.0\n0 drop 0.0\n";
+
+const LEFT_OUT_HISTORY: &[u8] =
+    b"history 1 1\n0 drop 1.0 = refused NoRoot\n0 drop 0.0 = done\nend 2\n";
+
+/// Two owners that share objects, and fill the space with what isn't reached any more.
+const SHARED: &[u8] = b"heap 64 8 32 3 2\n\
+    1 alloc 1.0 6\n2 alloc 2.0 6\n1 store 1.0 0 1\n2 store 2.0 0 2\n\
+    1 copy 0.0 1.0\n2 copy 0.1 2.0\n1 load 1.1 0.1 0\n2 load 2.1 0.0 0\n\
+    1 alloc 1.1 6\n2 alloc 2.1 6\n1 store 1.0 1 1.1\n2 store 2.0 1 2.1\n\
+    1 alloc 1.1 6\n2 alloc 2.1 6\n1 store 1.0 1 1.1\n2 store 2.0 1 2.1\n\
+    1 load 1.1 1.0 0\n2 load 2.1 2.0 0\n1 same 1.0 0.1\n2 same 2.0 0.0\n";
+
+/// Inputs that are no such traces, each with the line that is told and what is wrong with it.
+const FAULTY: &[(&[u8], u32, Kind)] = &[
+    (b"", 1, Kind::Empty),
+    (b"heap 64 8 8 2 2", 1, Kind::Cut),
+    (b"heap 64 8 8 2 2\n1 drop 1.0\n1 drop", 3, Kind::Cut),
+    // The first line that isn't a command, or isn't one of an owner that is there.
+    (
+        b"heap 64 8 8 2 2\n1 drop 1.0\nbegin\n2 drop 1.0\n",
+        3,
+        Kind::Word,
+    ),
+    (
+        b"heap 64 8 8 2 2\n1 drop 1.0\n2 drop 1.0\nbegin\n",
+        3,
+        Kind::Root,
+    ),
+    // It comes before a fault of the sizes, and after one of the text.
+    (b"heap 7 8 8 2 2\n2 drop 1.0\n", 2, Kind::Root),
+    (b"heap 64 8 8 2 2\nbegin\n1 drop\n", 3, Kind::Form),
+];
+
+/// Traces whose sizes make no heap, each with what is wrong with them.
+const WITHOUT_HEAP: &[(&[u8], ConfigFault)] = &[
+    (b"heap 7 8 8 2 2\n", ConfigFault::BadSpace),
+    (b"heap 64 8 8 17 2\n16 drop 1.0\n", ConfigFault::BadRoots),
+];
+
+/// The texts of the faults.
+const FAULT_TEXTS: &[(SharedRunFault, &str)] = &[
+    (SharedRunFault::Read, "read failed"),
+    (SharedRunFault::Long, "too long"),
+    (SharedRunFault::New(ConfigFault::BadSpace), "heap: BadSpace"),
+    (
+        SharedRunFault::Shared(SharedFault::BadReplicators),
+        "heap: BadReplicators",
+    ),
+    (SharedRunFault::HistoryDiffers, "history differs"),
+    (SharedRunFault::Write, "write failed"),
+    (SharedRunFault::OutOfMemory, "out of memory"),
+];
+
+/// Ends the test unless the text is played to this end, and this is written.
+fn runs_to<R: AllocGlobal + Abort + Threads + Wait + Sync>(
+    rt: &R,
+    options: RunOptions,
+    text: &[u8],
+    end: Result<(), SharedRunFault>,
+    history: &[u8],
+) {
+    let mut reader = text;
+    let mut written = Vec::new(rt.alloc());
+    let outcome = run_shared(rt, rt.alloc(), &mut reader, &mut written, options);
+    expect_equal(rt, outcome, end);
+    expect_equal(rt, written.as_slice(), history);
+}
+
+#[test]
+fn histories_of_one_owner(rt: HostRuntime) {
+    runs_to(&rt, ALONE, STORED, Ok(()), STORED_HISTORY);
+    runs_to(&rt, TWO, STORED, Ok(()), STORED_HISTORY);
+    runs_to(&rt, TWO, LEFT_OUT, Ok(()), LEFT_OUT_HISTORY);
+    runs_to(
+        &rt,
+        TWO,
+        b"heap 64 8 8 2 2\n",
+        Ok(()),
+        b"history 2 2\nend 0\n",
+    );
+}
+
+#[test]
+fn faults_of_traces(rt: HostRuntime) {
+    expect_texts(&rt, FAULT_TEXTS);
+    for &(text, line, kind) in FAULTY {
+        let fault = SharedRunFault::Trace(TraceFault { line, kind });
+        runs_to(&rt, TWO, text, Err(fault), b"");
+    }
+    for &(text, fault) in WITHOUT_HEAP {
+        runs_to(&rt, TWO, text, Err(SharedRunFault::New(fault)), b"");
+    }
+    let nine = RunOptions {
+        replicators: 9,
+        idle: 0,
+    };
+    let fault = SharedRunFault::Shared(SharedFault::BadReplicators);
+    runs_to(&rt, nine, STORED, Err(fault), b"");
+}
+
+/// Ends the test unless the history of two owners is read, is legal and has all their calls: none
+/// meets a limit.
+fn plays_legally<R: AllocGlobal + Abort + Threads + Wait + Sync>(rt: &R, options: RunOptions) {
+    let mut reader = SHARED;
+    let mut written = Vec::new(rt.alloc());
+    let outcome = run_shared(rt, rt.alloc(), &mut reader, &mut written, options);
+    expect_equal(rt, outcome, Ok(()));
+    let history = read_history(rt.alloc(), &written).expect(rt, "a history");
+    let verdict = check(rt.alloc(), &history).ok();
+    expect_equal(rt, verdict, Some(Verdict::Legal(20)));
+}
+
+#[test]
+fn histories_of_two_owners(rt: HostRuntime) {
+    plays_legally(&rt, ALONE);
+    plays_legally(&rt, TWO);
+    let idle = RunOptions {
+        replicators: 2,
+        idle: 1,
+    };
+    plays_legally(&rt, idle);
+}
+
+/// Whether memory was refused to a run. Ends the test where anything else came of it but the whole
+/// history.
+fn is_refused<R, A>(rt: &R, memory: A) -> bool
+where
+    R: AllocGlobal + Abort + Threads + Wait + Sync,
+    A: Allocator + Copy + Send,
+{
+    let mut reader = STORED;
+    let mut written = Vec::new(rt.alloc());
+    match run_shared(rt, memory, &mut reader, &mut written, TWO) {
+        Ok(()) => {
+            expect_equal(rt, written.as_slice(), STORED_HISTORY);
+            false
+        }
+        Err(fault) => {
+            expect_equal(rt, fault, SharedRunFault::OutOfMemory);
+            true
+        }
+    }
+}
+
+#[test]
+fn refused_memory_of_runs(rt: HostRuntime) {
+    let refused = refused_in_turn(rt.alloc(), |memory| is_refused(&rt, memory));
+    expect_refusals(&rt, refused, 10);
+}
