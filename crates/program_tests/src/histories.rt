@@ -13,7 +13,9 @@ use rh_replay::{
 use rh_trace::{Kind, Write, command_of, write_answer, write_command};
 use std::alloc::Allocator;
 use std::process::Abort;
+use std::sync::Wait;
 use std::test::Fail;
+use std::thread::Threads;
 
 /// A history whose third answer is another number, and the report on it.
 const OTHER_NUMBER: &[u8] =
@@ -133,7 +135,7 @@ fn refused_memory_of_recorders(rt: HostRuntime) {
 }
 
 /// What is told of a history that was cut after so many bytes.
-fn expect_cut<R: AllocGlobal + Abort>(rt: &R, text: &[u8]) {
+fn expect_cut<R: AllocGlobal + Abort + Threads + Wait + Sync>(rt: &R, text: &[u8]) {
     let ends = text.iter().filter(|byte| **byte == b'\n').count();
     let kind = if text.is_empty() {
         "Empty"

@@ -3,4 +3,5 @@
 mod command_line;
 pub mod driving;
 mod faults;
+mod paced;
 mod terminal;

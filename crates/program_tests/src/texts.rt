@@ -11,6 +11,23 @@ pub const WITHOUT_FIELDS: &[u8] = b"heap 16 8 4 2 2\n1 alloc 1.0 0\n1 load 1.1 1
 pub const WITHOUT_FIELDS_ANSWERS: &[u8] =
     b"object 0\nrefused NoField\ntotal commands 2 refused 1 flips 0 rootwords 0\n";
 
+/// A number that is stored and read, and the history of these calls.
+pub const STORED: &[u8] = b"heap 64 8 8 2 2\n1 alloc 1.0 1\n1 store 1.0 0 5\n1 load 1.1 1.0 0\n";
+
+pub const STORED_HISTORY: &[u8] = b"history 2 2\n1 alloc 1.0 1 = object 1\n1 store 1.0 0 5 = done\n\
+        1 load 1.1 1.0 0 = int 5\nend 3\n";
+
+/// A trace of commands alone, whose paced heap is collected twice. Without a mark a cycle begins where
+/// fewer than 12 words are free, as the 5th object leaves 9; the words of the next pay for its flip,
+/// which keeps that one alone.
+pub const TWO_FLIPS: &[u8] = b"heap 29 8 8 2 2\n1 alloc 1.0 2\n1 alloc 1.0 2\n1 alloc 1.0 2\n\
+    1 alloc 1.0 2\n1 alloc 1.0 2\n1 alloc 1.0 2\n1 alloc 1.0 2\n1 alloc 1.0 2\n1 alloc 1.0 2\n\
+    1 alloc 1.0 2\n1 alloc 1.0 2\n";
+
+pub const TWO_FLIPS_ANSWERS: &[u8] =
+    b"object 2\nobject 2\nobject 2\nobject 2\nobject 2\nobject 2\nobject 2\nobject 2\n\
+        object 2\nobject 2\nobject 2\ntotal commands 11 refused 0 flips 2 rootwords 2\n";
+
 /// Dumps before and after a refused command, and after an accepted one.
 pub const DUMPS: &[u8] =
     b"heap 16 8 4 2 2\n1 alloc 1.1 1\ndump\n1 drop 2.0\n1 store 1.1 0 1.1\ndump\n";

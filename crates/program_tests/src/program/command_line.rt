@@ -10,6 +10,13 @@ use std::process::Abort;
 /// The commands by name.
 const COMMANDS: &[(&str, Subcommand)] = &[
     ("run", Subcommand::Run),
+    (
+        "threads",
+        Subcommand::Threads {
+            replicators: 2,
+            idle: 0,
+        },
+    ),
     ("replay", Subcommand::Replay),
     ("dump", Subcommand::Dump),
 ];
@@ -49,7 +56,7 @@ fn expect_played(
         is_closed,
         printed: RefCell::new(Vec::new(rt.alloc())),
     };
-    expect_equal(test, play(&terminal, &mut told), status);
+    expect_equal(test, play(&terminal, rt, &mut told), status);
     expect_written(test, &terminal.printed.into_inner(), out);
     expect_written(test, &told, err);
 }
@@ -121,8 +128,21 @@ const CALLS: &[(&[&[u8]], u8, &[u8], &[u8])] = &[
 /// What is told of a mark that can't be taken.
 const MARK_FAULT: &[u8] = b"rheap: --mark needs --paced and a number of words, 0 to 4294967295\n";
 
-/// What the options of a paced run come to that can't be taken, and an empty trace.
+/// What the options of a paced run come to: those that can't be taken, an empty trace, and one that
+/// has a pace at a mark alone.
 const PACED: &[(&[&[u8]], u8, &[u8], &[u8])] = &[
+    (
+        &[b"rheap", b"run", b"-", b"--paced"],
+        1,
+        b"",
+        b"rheap: pace: TooSmall need 17\n",
+    ),
+    (
+        &[b"rheap", b"run", b"--mark", b"4294967295", b"--paced", b"-"],
+        0,
+        WITHOUT_FIELDS_ANSWERS,
+        b"",
+    ),
     (
         &[b"rheap", b"run", b"-", b"--mark", b"3"],
         2,
@@ -161,6 +181,55 @@ const PACED: &[(&[&[u8]], u8, &[u8], &[u8])] = &[
     ),
 ];
 
+/// What is told of a number of replicators, and of idle words, that can't be taken.
+const REPLICATORS_FAULT: &[u8] = b"rheap: --replicators needs a number of replicators, 0 to 8\n";
+
+const IDLE_FAULT: &[u8] = b"rheap: --idle needs a number of words, 0 to 65535\n";
+
+/// The history of the calls of a trace without fields.
+const WITHOUT_FIELDS_HISTORY: &[u8] =
+    b"history 2 2\n1 alloc 1.0 0 = object 0\n1 load 1.1 1.0 0 = refused NoField\nend 2\n";
+
+/// What the options of a run in threads come to.
+const THREADS: &[(&[&[u8]], u8, &[u8], &[u8])] = &[
+    (
+        &[b"rheap", b"threads", b"--help"],
+        0,
+        b"Plays a trace of commands in threads",
+        b"",
+    ),
+    (
+        &[b"rheap", b"threads", b"-", b"--replicators=0"],
+        0,
+        WITHOUT_FIELDS_HISTORY,
+        b"",
+    ),
+    (
+        &[b"rheap", b"threads", b"--idle", b"65535", b"-"],
+        0,
+        WITHOUT_FIELDS_HISTORY,
+        b"",
+    ),
+    (
+        &[b"rheap", b"threads", b"-", b"--replicators", b"9"],
+        2,
+        b"",
+        REPLICATORS_FAULT,
+    ),
+    (
+        &[b"rheap", b"threads", b"-", b"--idle", b"65536"],
+        2,
+        b"",
+        IDLE_FAULT,
+    ),
+    (
+        &[b"rheap", b"run", b"-", b"--replicators", b"1"],
+        2,
+        b"",
+        b"error: unexpected",
+    ),
+];
+
 /// The same where standard output is closed.
 const CLOSED: &[(&[&[u8]], u8, &[u8], &[u8])] = &[
     (&[b"rheap", b"--version"], 1, b"", b"rheap: write failed\n"),
@@ -181,6 +250,9 @@ fn calls_of_the_program(rt: HostRuntime) {
     for call in PACED {
         expect_played(&rt, &rt, false, call);
     }
+    for call in THREADS {
+        expect_played(&rt, &rt, false, call);
+    }
     for call in CLOSED {
         expect_played(&rt, &rt, true, call);
     }
@@ -188,7 +260,7 @@ fn calls_of_the_program(rt: HostRuntime) {
 
 #[test]
 fn faults_before_a_run_are_told(rt: HostRuntime) {
-    let table: [(LineFault, u8, &[u8]); 4] = [
+    let table: [(LineFault, u8, &[u8]); 7] = [
         (LineFault::Open, 1, b"rheap: open failed\n"),
         (
             LineFault::NoText,
@@ -197,6 +269,9 @@ fn faults_before_a_run_are_told(rt: HostRuntime) {
         ),
         (LineFault::Incomplete, 2, b"rheap: no command and file\n"),
         (LineFault::Mark, 2, MARK_FAULT),
+        (LineFault::Replicators, 2, REPLICATORS_FAULT),
+        (LineFault::Idle, 2, IDLE_FAULT),
+        (LineFault::HistoryDiffers, 4, b"rheap: history differs\n"),
     ];
     for (fault, status, text) in table {
         let mut err = Vec::new(rt.alloc());

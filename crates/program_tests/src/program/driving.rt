@@ -3,15 +3,31 @@
 use crate::devices::{Broken, InterruptedReader, Unflushed};
 use crate::expectations::{expect_equal, expect_refusals};
 use crate::texts::{
-    RIGHT, RIGHT_REPORT, WITHOUT_FIELDS, WITHOUT_FIELDS_ANSWERS, WRONG, WRONG_REPORT,
+    RIGHT, RIGHT_REPORT, STORED, STORED_HISTORY, TWO_FLIPS, TWO_FLIPS_ANSWERS, WITHOUT_FIELDS,
+    WITHOUT_FIELDS_ANSWERS, WRONG, WRONG_REPORT,
 };
 use refusing::refused_in_turn;
 use rh_cli::{Ask, Subcommand, drive};
 use std::alloc::Allocator;
 use std::process::Abort;
+use std::sync::Wait;
+use std::thread::Threads;
 
 pub const RUN: Ask<'static> = Ask {
     subcommand: Subcommand::Run,
+    file: "-",
+};
+
+const PACED: Ask<'static> = Ask {
+    subcommand: Subcommand::RunPaced { mark: None },
+    file: "-",
+};
+
+const THREADS: Ask<'static> = Ask {
+    subcommand: Subcommand::Threads {
+        replicators: 2,
+        idle: 0,
+    },
     file: "-",
 };
 
@@ -26,7 +42,7 @@ pub const DUMP: Ask<'static> = Ask {
 };
 
 /// Does with the text what is asked, and compares the status and what is written to both writers.
-pub fn drives_to<R: AllocGlobal + Abort>(
+pub fn drives_to<R: AllocGlobal + Abort + Threads + Wait + Sync>(
     rt: &R,
     ask: &Ask<'_>,
     text: &[u8],
@@ -37,7 +53,7 @@ pub fn drives_to<R: AllocGlobal + Abort>(
     let mut reader = text;
     let mut out = Vec::new(rt.alloc());
     let mut err = Vec::new(rt.alloc());
-    let answer = drive(rt.alloc(), ask, &mut reader, &mut out, &mut err);
+    let answer = drive(rt, rt.alloc(), ask, &mut reader, &mut out, &mut err);
     expect_equal(rt, answer, status);
     expect_equal(rt, out.as_slice(), answers);
     expect_equal(rt, err.as_slice(), told);
@@ -49,6 +65,8 @@ const ITSELF: &[u8] = b"rheap 1\nroots 1\n1.0 @0\nobjects 1\n@0 1 @0\nend\n";
 /// What is asked, of which text, and the answers.
 const ASKED: &[(Ask<'static>, &[u8], &[u8])] = &[
     (RUN, WITHOUT_FIELDS, WITHOUT_FIELDS_ANSWERS),
+    (PACED, TWO_FLIPS, TWO_FLIPS_ANSWERS),
+    (THREADS, STORED, STORED_HISTORY),
     (REPLAY, RIGHT, RIGHT_REPORT),
     (DUMP, ITSELF, b"roots 1 objects 1\n"),
 ];
@@ -67,11 +85,18 @@ fn devices_that_fail(rt: HostRuntime) {
     for &(ask, text, _) in ASKED {
         let mut out = Vec::new(rt.alloc());
         let mut err = Vec::new(rt.alloc());
-        let unread = drive(rt.alloc(), &ask, &mut Broken, &mut out, &mut err);
-        let unwritten = drive(rt.alloc(), &ask, &mut { text }, &mut Broken, &mut err);
-        let unflushed = drive(rt.alloc(), &ask, &mut { text }, &mut Unflushed, &mut err);
+        let unread = drive(&rt, rt.alloc(), &ask, &mut Broken, &mut out, &mut err);
+        let unwritten = drive(&rt, rt.alloc(), &ask, &mut { text }, &mut Broken, &mut err);
+        let unflushed = drive(
+            &rt,
+            rt.alloc(),
+            &ask,
+            &mut { text },
+            &mut Unflushed,
+            &mut err,
+        );
         // What can't be told still has its status.
-        let untold = drive(rt.alloc(), &ask, &mut Broken, &mut out, &mut Broken);
+        let untold = drive(&rt, rt.alloc(), &ask, &mut Broken, &mut out, &mut Broken);
         expect_equal(&rt, [unread, unwritten, unflushed, untold], [1, 1, 1, 1]);
         expect_equal(
             &rt,
@@ -85,13 +110,18 @@ fn devices_that_fail(rt: HostRuntime) {
 /// Does what is asked where each read is interrupted but the last one, which comes to the end, or
 /// where that would be one read more, and expects so many reads, and what is told of an empty text,
 /// or of a failed read.
-fn expect_reads<R: AllocGlobal + Abort>(rt: &R, ask: &Ask<'_>, reads: u32, told: &[u8]) {
+fn expect_reads<R: AllocGlobal + Abort + Threads + Wait + Sync>(
+    rt: &R,
+    ask: &Ask<'_>,
+    reads: u32,
+    told: &[u8],
+) {
     for &(more, text) in &[(0, told), (1, b"rheap: read failed\n".as_slice())] {
         let ends_at = reads.saturating_add(more);
         let mut reader = InterruptedReader { reads: 0, ends_at };
         let mut out = Vec::new(rt.alloc());
         let mut err = Vec::new(rt.alloc());
-        let status = drive(rt.alloc(), ask, &mut reader, &mut out, &mut err);
+        let status = drive(rt, rt.alloc(), ask, &mut reader, &mut out, &mut err);
         expect_equal(rt, (status, reader.reads, out.len()), (1, reads, 0));
         expect_equal(rt, err.as_slice(), text);
     }
@@ -114,14 +144,14 @@ fn reads_of_dumps_end(rt: HostRuntime) {
 
 /// Does what is asked. Answers whether memory was refused: then standard error says so, and to
 /// standard output a prefix of the answers is written, without their last line.
-fn is_refused<A: Allocator + Copy>(
-    rt: &(impl AllocGlobal + Abort),
+fn is_refused<R: AllocGlobal + Abort + Threads + Wait + Sync, A: Allocator + Copy + Send>(
+    rt: &R,
     memory: A,
     &(ask, text, answers): &(Ask<'static>, &[u8], &[u8]),
 ) -> bool {
     let mut out = Vec::new(rt.alloc());
     let mut err = Vec::new(rt.alloc());
-    let status = drive(memory, &ask, &mut { text }, &mut out, &mut err);
+    let status = drive(rt, memory, &ask, &mut { text }, &mut out, &mut err);
     if status == 0 {
         expect_equal(rt, out.as_slice(), answers);
         return false;

@@ -8,7 +8,9 @@ use rh_dump::{DumpFault, DumpKind, DumpReadError};
 use rh_layout::{Command, RootId};
 use rh_trace::{Kind, Line, ParseError, Request, TraceFault, Write, parse};
 use std::process::Abort;
+use std::sync::Wait;
 use std::test::Fail;
+use std::thread::Threads;
 
 /// Texts that are no traces, each with its first faulty line and what is told to be wrong with it.
 const TRACES: &[(&[u8], u32, &str)] = &[
@@ -200,7 +202,7 @@ const OBJECTS: &[(&[u8], u32, &str)] = &[
 ];
 
 /// Expects each of these texts, after `first`, to be answered with its fault and nothing else.
-fn expect_faults<R: AllocGlobal + Abort>(
+fn expect_faults<R: AllocGlobal + Abort + Threads + Wait + Sync>(
     rt: &R,
     ask: &Ask<'_>,
     first: &[u8],
