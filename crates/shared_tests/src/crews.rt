@@ -103,25 +103,6 @@ impl<'f> Gate for Meeting<'f> {
     }
 }
 
-/// The two gates that meet on the board.
-fn gates(board: &Board) -> (Meeting<'_>, Meeting<'_>) {
-    let first = Meeting {
-        board,
-        asked: &board.first_asked,
-        other: &board.second_asked,
-        may_pass: &board.first_may_pass,
-        folded: &board.first_folded,
-    };
-    let second = Meeting {
-        board,
-        asked: &board.second_asked,
-        other: &board.first_asked,
-        may_pass: &board.second_may_pass,
-        folded: &board.second_folded,
-    };
-    (first, second)
-}
-
 /// Plays two replicators with a piece each. Each steps only once both gates were asked, and the
 /// first only once the work beside them saw that the second had folded: so none of this happens
 /// where one thread plays both, nor where they are played before the work or after it.
@@ -130,10 +111,23 @@ fn meet<R: Threads + Wait + Sync + AllocGlobal + Abort>(rt: &R) -> Result<(), Fa
     let (mut link_b, two) = rings_of(rt, 1);
     assert!(rt; push(&mut link_a, piece_of(1, 1, 1)) && push(&mut link_b, piece_of(1, 1, 2)));
     let board = Board::new();
-    let (first, second) = gates(&board);
     let mut replicators = Vec::with_capacity(rt.alloc(), 2)?;
-    replicators.push((one, first))?;
-    replicators.push((two, second))?;
+    let gate = Meeting {
+        board: &board,
+        asked: &board.first_asked,
+        other: &board.second_asked,
+        may_pass: &board.first_may_pass,
+        folded: &board.first_folded,
+    };
+    replicators.push((one, gate))?;
+    let gate = Meeting {
+        board: &board,
+        asked: &board.second_asked,
+        other: &board.first_asked,
+        may_pass: &board.second_may_pass,
+        folded: &board.second_folded,
+    };
+    replicators.push((two, gate))?;
     let stop = unset();
     let ended = crew(rt, rt.alloc(), replicators, &stop, LOOKS, || board.work());
     let mut ended = ended.ok().ok_or("they start")?;
