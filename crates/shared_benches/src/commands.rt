@@ -1,11 +1,53 @@
-//! The commands that an owner gives: it allocates, stores, loads, copies and compares, in turn.
+//! The commands that an owner gives: it makes a list that lives long, and then allocates, stores,
+//! loads, copies and compares, in turn.
 
 use rh_layout::{Command, Operand, RootId};
 
-/// The command that the owner gives after so many others.
-pub fn command_after(owner: u32, others: u32) -> Command {
-    let own = RootId { owner, slot: 0 };
-    let other = RootId { owner, slot: 1 };
+/// The slots of an owner.
+pub const SLOTS: u32 = 3;
+
+/// The fields of an object of the list.
+const FIELDS: u32 = 8;
+
+/// The root of the owner in this slot: 0 and 1 for objects that come and go, 2 for the list.
+fn root(owner: u32, slot: u32) -> RootId {
+    RootId { owner, slot }
+}
+
+/// The command that the owner gives after so many others, where its list gets so many objects.
+pub fn command_after(owner: u32, others: u32, objects: u32) -> Command {
+    match others.checked_sub(objects.saturating_mul(3)) {
+        None => growing(owner, others % 3),
+        Some(later) => passing(owner, later),
+    }
+}
+
+/// One of the three commands by which the list gets an object: it is made, refers to the list, and
+/// stands in front of it.
+fn growing(owner: u32, number: u32) -> Command {
+    let object = root(owner, 0);
+    let list = root(owner, 2);
+    match number {
+        0 => Command::Alloc {
+            dst: object,
+            fields: FIELDS,
+        },
+        1 => Command::Store {
+            obj: object,
+            field: 0,
+            operand: Operand::Root(list),
+        },
+        _ => Command::Copy {
+            dst: list,
+            src: object,
+        },
+    }
+}
+
+/// The command that the owner gives after so many others once its list is made.
+fn passing(owner: u32, others: u32) -> Command {
+    let own = root(owner, 0);
+    let other = root(owner, 1);
     match others % 5 {
         0 => Command::Alloc {
             dst: own,

@@ -1,123 +1,188 @@
 //! Folding of pieces, in place or by replicators in threads of their own: what `bench/folds` times.
 
+use crate::figures::FoldFigures;
 use crate::pieces::piece_of;
+use crate::players::YieldingGate;
 use rh_partial::{PartialReplica, Piece};
-use rh_replicator::{OpenGate, Replicator, crew};
-use rh_rings::{Link, new_link};
+use rh_replicator::{Replicator, crew};
+use rh_rings::{LINK_PLACES, Link, new_link};
 use std::alloc::Global;
 use std::rt::Clock;
 use std::sync::Wait;
 use std::sync::atomic::AtomicBool;
+use std::thread;
 use std::thread::Threads;
 use std::time::Instant;
 
-/// The most looks at the rings.
+/// The most rounds of looks at the rings.
 const LOOKS: u32 = 2_000_000_000;
 
-/// What a thread hands out and takes back: the pieces that are still to be pushed, and the entries
-/// of the replicas that came back.
+/// What a thread still has to hand out, and what it took back.
 #[derive(Clone, Copy)]
 struct Work {
+    /// The pieces that are still to be pushed.
     left: u32,
-    entries: u64,
-    replicas: u32,
+    /// The places of all replicas that came back.
+    places: u64,
+    /// The nanoseconds of the looks that moved something.
+    held: u128,
 }
 
-/// Folds so many pieces in place. Answers the entries of all replicas.
-fn folded_in_place(alloc: Global, pieces: u32, piece: &Piece) -> Option<u64> {
-    let mut replica = PartialReplica::reserved(alloc, 1).ok()?;
-    let mut entries = 0u64;
+/// Folds so many pieces in place; nothing where it failed.
+fn fold_in_place<R: Clock + AllocGlobal>(
+    rt: &R,
+    pieces: u32,
+    piece: &Piece,
+) -> Option<FoldFigures> {
+    let mut replica = PartialReplica::reserved(rt.alloc(), 1).ok()?;
+    let mut places = 0u64;
+    let began = Instant::now(rt).ok()?;
     for _ in 0..pieces {
         replica.refill(piece);
-        entries = entries.wrapping_add(replica.len() as u64);
+        places = places.wrapping_add(replica.len() as u64);
     }
-    Some(entries)
+    let took = began.elapsed(rt).ok()?.as_nanos();
+    Some(FoldFigures {
+        pieces,
+        nanoseconds: took,
+        held: took,
+        places,
+    })
 }
 
-/// Rings to so many replicators, and these behind gates that pass.
-fn rings_of(alloc: Global, replicators: u32) -> Option<(Vec<Link>, Vec<(Replicator, OpenGate)>)> {
+/// Rings to so many replicators, and these behind gates.
+fn rings_of(
+    alloc: Global,
+    replicators: u32,
+) -> Option<(Vec<Link>, Vec<(Replicator, YieldingGate)>)> {
     let mut links = Vec::new(alloc);
-    let mut crew = Vec::new(alloc);
+    let mut players = Vec::new(alloc);
     for number in 0..replicators {
         let (link, ends) = new_link(alloc, number).ok()?;
         links.push(link).ok()?;
-        crew.push((Replicator::new(alloc, ends), OpenGate)).ok()?;
+        players
+            .push((Replicator::new(alloc, ends), YieldingGate))
+            .ok()?;
     }
-    Some((links, crew))
+    Some((links, players))
 }
 
-/// One look at the rings of a replicator: a replica is taken back, and a piece pushed.
-fn look(link: &mut Link, piece: &Piece, work: &mut Work) {
-    if link.pop() {
-        if let Some(replica) = link.waiting() {
-            work.entries = work.entries.wrapping_add(replica.len() as u64);
-            work.replicas = work.replicas.wrapping_add(1);
+/// Takes a replica back, if one is there. Answers whether one was.
+fn take_back(link: &mut Link, work: &mut Work) -> bool {
+    let has_popped = link.pop();
+    if let Some(replica) = link.waiting() {
+        work.places = work.places.wrapping_add(replica.len() as u64);
+    }
+    link.forget();
+    has_popped
+}
+
+/// Pushes a piece, if one is left and the ring has a place. Answers whether it did.
+fn hand_over(link: &mut Link, piece: &Piece, work: &mut Work) -> bool {
+    if work.left == 0 || !link.has_place() {
+        return false;
+    }
+    link.push(piece.copy());
+    work.left -= 1;
+    true
+}
+
+/// Takes back what a replicator made, and pushes pieces to it, 8 each way at most. Answers whether
+/// anything moved.
+fn exchange(link: &mut Link, piece: &Piece, work: &mut Work) -> bool {
+    let mut has_moved = false;
+    for _ in 0..LINK_PLACES {
+        let has_popped = take_back(link, work);
+        let has_pushed = hand_over(link, piece, work);
+        if !has_popped && !has_pushed {
+            return has_moved;
         }
-        link.forget();
+        has_moved = true;
     }
-    if work.left > 0 && link.has_place() {
-        link.push(piece.copy());
-        work.left = work.left.wrapping_sub(1);
-    }
+    has_moved
 }
 
-/// Looks at the rings in turn until all pieces were pushed, or for too long.
-fn hand_out(links: &mut [Link], piece: &Piece, pieces: u32) -> Work {
+/// Does so, and adds the time that it took where anything moved. Answers whether that is so;
+/// nothing where the clock failed.
+fn exchange_timed<R: Clock>(
+    rt: &R,
+    link: &mut Link,
+    piece: &Piece,
+    work: &mut Work,
+) -> Option<bool> {
+    let began = Instant::now(rt).ok()?;
+    let has_moved = exchange(link, piece, work);
+    if has_moved {
+        let took = began.elapsed(rt).ok()?.as_nanos();
+        work.held = work.held.wrapping_add(took);
+    }
+    Some(has_moved)
+}
+
+/// Looks at each ring once. Answers whether anything moved; nothing where the clock failed.
+fn round<R: Clock>(rt: &R, links: &mut [Link], piece: &Piece, work: &mut Work) -> Option<bool> {
+    let mut has_moved = false;
+    for link in links.iter_mut() {
+        if exchange_timed(rt, link, piece, work)? {
+            has_moved = true;
+        }
+    }
+    Some(has_moved)
+}
+
+/// Looks at the rings in turn until all pieces were pushed; nothing where that took too long or the
+/// clock failed.
+fn hand_out<R: Clock>(
+    rt: &R,
+    links: &mut [Link],
+    pieces: u32,
+    piece: &Piece,
+) -> Option<FoldFigures> {
     let mut work = Work {
         left: pieces,
-        entries: 0,
-        replicas: 0,
+        places: 0,
+        held: 0,
     };
+    let began = Instant::now(rt).ok()?;
     for _ in 0..LOOKS {
         if work.left == 0 {
-            return work;
+            return Some(FoldFigures {
+                pieces,
+                nanoseconds: began.elapsed(rt).ok()?.as_nanos(),
+                held: work.held,
+                places: work.places,
+            });
         }
-        for link in links.iter_mut() {
-            look(link, piece, &mut work);
+        if !round(rt, links, piece, &mut work)? {
+            thread::yield_now();
         }
     }
-    work
+    None
 }
 
-/// Folds so many pieces by replicators in threads of their own. Answers what was handed out and
-/// taken back.
-fn folded_beside<R>(rt: &R, replicators: u32, pieces: u32, piece: &Piece) -> Option<Work>
+/// Folds so many pieces of so many items, of which so many at a time are of one place, by so many
+/// replicators in threads of their own, or in place where none is asked for. Nothing where it
+/// failed.
+pub fn run<R>(
+    rt: &R,
+    replicators: u32,
+    pieces: u32,
+    items: u32,
+    repeats: u32,
+) -> Option<FoldFigures>
 where
-    R: AllocGlobal + Threads + Wait + Sync,
-{
-    let (mut links, players) = rings_of(rt.alloc(), replicators)?;
-    let stop = AtomicBool::new(false);
-    let mut work = None;
-    crew(rt, rt.alloc(), players, &stop, u32::MAX, || {
-        work = Some(hand_out(links.as_mut_slice(), piece, pieces));
-    })
-    .ok()?;
-    work
-}
-
-/// Folds so many pieces of so many items, of which so many at a time are of one place, and prints
-/// how long it took: in place where no replicator is asked for. Nothing where it failed.
-pub fn run<R>(rt: &R, replicators: u32, pieces: u32, items: u32, repeats: u32) -> Option<()>
-where
-    R: Print + Clock + AllocGlobal + Threads + Wait + Sync,
+    R: Clock + AllocGlobal + Threads + Wait + Sync,
 {
     let piece = piece_of(items, repeats, 1);
-    let began = Instant::now(rt).ok()?;
     if replicators == 0 {
-        let entries = folded_in_place(rt.alloc(), pieces, &piece)?;
-        let took = began.elapsed(rt).ok()?.as_nanos();
-        return println!(rt;
-            "in place pieces {pieces} items {items} repeats {repeats} nanoseconds \
-            {took} entries {entries}"
-        )
-        .ok();
+        return fold_in_place(rt, pieces, &piece);
     }
-    let work = folded_beside(rt, replicators, pieces, &piece)?;
-    let took = began.elapsed(rt).ok()?.as_nanos();
-    println!(rt;
-        "replicators {replicators} pieces {pieces} items {items} repeats {repeats} \
-        nanoseconds {took} replicas {}",
-        work.replicas
-    )
-    .ok()
+    let (mut links, players) = rings_of(rt.alloc(), replicators)?;
+    let stop = AtomicBool::new(false);
+    let mut figures = None;
+    crew(rt, rt.alloc(), players, &stop, u32::MAX, || {
+        figures = hand_out(rt, links.as_mut_slice(), pieces, &piece);
+    })
+    .ok()?;
+    figures
 }

@@ -1,60 +1,103 @@
-//! The benches of what threads share: `shared_benches NAME ARGUMENTS`. Without a name each of them
-//! runs once, on little.
+//! The benches of what threads share: `shared_benches NAME NUMBERS`. Without a name each of them
+//! runs once, on little, and prints no times.
 #![tactic(auto)]
 
+mod alone;
 mod calls;
 mod commands;
+mod figures;
 mod folds;
 mod pieces;
+mod players;
+mod setup;
 
+use setup::Setup;
 use std::env;
 use std::process::ExitCode;
 use std::rt::{Clock, Env};
 use std::sync::Wait;
 use std::thread::Threads;
 
+/// A hundred calls in each of so many threads, and how many of them are in the history.
+fn little(threads: u32, replicators: u32) -> Setup {
+    Setup {
+        threads,
+        replicators,
+        calls: 100,
+        is_collecting: replicators != 0,
+    }
+}
+
 /// Each bench once, on little; nothing where one failed.
 fn run_each<R>(rt: &R) -> Option<()>
 where
     R: Print + Clock + AllocGlobal + Threads + Wait + Sync,
 {
-    calls::run_paced(rt, 100)?;
+    let paced = alone::run_paced(rt, 100)?;
+    println!(rt;
+        "paced: {} calls, {} allocations",
+        paced.calls, paced.allocations
+    )
+    .ok()?;
+    let kept = alone::run_kept(rt, 100)?;
+    println!(rt;
+        "kept: {} calls, {} allocations",
+        kept.calls, kept.allocations
+    )
+    .ok()?;
     for threads in [1, 2, 4] {
-        calls::run(rt, threads, 100)?;
+        let made = calls::run(rt, little(threads, 0))?;
+        println!(rt;
+            "{threads} threads: {} calls, {} allocations",
+            made.calls, made.allocations
+        )
+        .ok()?;
+    }
+    for replicators in [1, 2] {
+        let made = calls::run(rt, little(2, replicators))?;
+        println!(rt;
+            "2 threads, {replicators} replicators: {} calls",
+            made.calls
+        )
+        .ok()?;
     }
     for replicators in [0, 1, 2, 4] {
-        folds::run(rt, replicators, 100, 8, 4)?;
+        let made = folds::run(rt, replicators, 100, 8, 4)?;
+        println!(rt; "{replicators} replicators: {} pieces", made.pieces).ok()?;
     }
     Some(())
 }
 
-/// The number that an argument is; nothing where it is none.
-fn number(text: Option<&str>) -> Option<u32> {
-    text?.parse::<u32>().ok()
-}
-
-/// The bench of this name with these arguments; nothing where it failed or has another name.
-fn run_one<R>(
-    rt: &R,
-    name: &str,
-    first: Option<&str>,
-    second: Option<&str>,
-    third: Option<&str>,
-    fourth: Option<&str>,
-) -> Option<()>
+/// The bench of this name with these numbers; nothing where it failed, or has another name or other
+/// numbers.
+fn run_one<R>(rt: &R, name: &str, numbers: &[u32]) -> Option<()>
 where
     R: Print + Clock + AllocGlobal + Threads + Wait + Sync,
 {
-    match name {
-        "paced" => calls::run_paced(rt, number(first)?),
-        "calls" => calls::run(rt, number(first)?, number(second)?),
-        "folds" => folds::run(
-            rt,
-            number(first)?,
-            number(second)?,
-            number(third)?,
-            number(fourth)?,
-        ),
+    match (name, numbers) {
+        ("paced", &[calls]) => alone::run_paced(rt, calls)?.print(rt),
+        ("kept", &[calls]) => alone::run_kept(rt, calls)?.print(rt),
+        ("calls", &[threads, calls]) => {
+            let setup = Setup {
+                threads,
+                replicators: 0,
+                calls,
+                is_collecting: false,
+            };
+            calls::run(rt, setup)?.print(rt)
+        }
+        ("collected", &[threads, replicators, calls]) => {
+            let setup = Setup {
+                threads,
+                replicators,
+                calls,
+                is_collecting: true,
+            };
+            calls::run(rt, setup)?.print(rt)
+        }
+        ("folds", &[replicators, pieces, items, repeats]) => {
+            folds::run(rt, replicators, pieces, items, repeats)?.print(rt)
+        }
         _ => None,
     }
 }
@@ -68,16 +111,11 @@ where
     let Some(name) = args.nth(1) else {
         return run_each(rt);
     };
-    let (first, second) = (args.next(), args.next());
-    let (third, fourth) = (args.next(), args.next());
-    run_one(
-        rt,
-        name.as_str(),
-        first.as_deref(),
-        second.as_deref(),
-        third.as_deref(),
-        fourth.as_deref(),
-    )
+    let mut numbers = Vec::new(rt.alloc());
+    for text in args {
+        numbers.push(text.parse::<u32>().ok()?).ok()?;
+    }
+    run_one(rt, name.as_str(), numbers.as_slice())
 }
 
 fn main(rt: HostRuntime) -> ExitCode {
