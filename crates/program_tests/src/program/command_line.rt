@@ -6,6 +6,8 @@ use crate::texts::{WITHOUT_FIELDS, WITHOUT_FIELDS_ANSWERS};
 use rh_cli::{Ask, LineFault, Subcommand, play, read_words, tell};
 use std::cell::RefCell;
 use std::process::Abort;
+use std::sync::Wait;
+use std::thread::Threads;
 
 /// The commands by name.
 const COMMANDS: &[(&str, Subcommand)] = &[
@@ -43,7 +45,7 @@ fn expect_written(rt: &impl Abort, text: &[u8], due: &[u8]) {
 /// Plays the program with these arguments and a trace as standard input, and expects this status,
 /// and what is written to standard output and to standard error.
 fn expect_played(
-    test: &impl Abort,
+    test: &(impl Abort + Threads + Wait + Sync),
     rt: &HostRuntime,
     is_closed: bool,
     &(args, status, out, err): &(&[&[u8]], u8, &[u8], &[u8]),
@@ -56,7 +58,7 @@ fn expect_played(
         is_closed,
         printed: RefCell::new(Vec::new(rt.alloc())),
     };
-    expect_equal(test, play(&terminal, rt, &mut told), status);
+    expect_equal(test, play(&terminal, test, &mut told), status);
     expect_written(test, &terminal.printed.into_inner(), out);
     expect_written(test, &told, err);
 }
