@@ -85,7 +85,8 @@ The history of the calls is printed, in the order in which they were made; `rhea
 Its answers are those of a heap that never moves its objects, and each owner's lines stand in it in
 their order, each once. Left out are allocations and stores that were refused by a limit (SpaceFull,
 LogFull, NumbersSpent), and what comes after 65536 calls. Two runs may print the calls of two owners
-in another order; for a trace of one owner each run prints the same lines.
+in another order and, as replicators fold sooner or later, leave out other lines. A trace of one
+owner prints the same lines each time with --replicators 0.
 
   --replicators N  0 to 8, 2 where it isn't said. With 0 pieces are folded under the lock
   --idle N         0 to 65535, 0 where it isn't said: units of collector work that each part of a
@@ -96,11 +97,12 @@ Statuses:
   1  a fault in the file, or it can't be opened or read, or a write failed
   2  the command line isn't understood
   3  memory or a thread was refused
-  4  the history differs: it isn't that of the calls, or isn't legal. Nothing is printed then
+  4  the history isn't that of the calls, or isn't legal, and isn't printed
 
 On failure standard error has one line, as `rheap: line 3: Word`. Faults are those of `run`, and
-  line L: Word   the line is of a cycle or a listing
-  line L: Root   the line's owner isn't below OWNERS
+  line L: Word     the line is of a cycle or a listing
+  line L: Root     the line's owner isn't below OWNERS
+  history differs  the status is 4
 
 Traces and histories are described in docs/formats.md.";
 
