@@ -12,6 +12,8 @@ mod expectations;
 #[cfg(test)]
 mod kept;
 #[cfg(test)]
+mod lost;
+#[cfg(test)]
 mod replicators;
 #[cfg(test)]
 mod rings;
