@@ -18,6 +18,8 @@ mod replicators;
 #[cfg(test)]
 mod rings;
 #[cfg(test)]
+mod shares;
+#[cfg(test)]
 mod starts;
 #[cfg(test)]
 mod threads;
