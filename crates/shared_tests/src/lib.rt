@@ -14,6 +14,8 @@ mod kept;
 #[cfg(test)]
 mod lost;
 #[cfg(test)]
+mod repeated;
+#[cfg(test)]
 mod replicators;
 #[cfg(test)]
 mod rings;
