@@ -6,7 +6,7 @@ use crate::expectations::{expect_equal, expect_texts};
 use refusing::{RefusingAllocator, refused_in_turn};
 use rh_layout::Value;
 use rh_partial::{Item, Piece};
-use rh_replicator::{Gate, NotStarted, Replicator, RunEnd, Stepped, run};
+use rh_replicator::{Gate, NotStarted, Replicator, RunEnd, Stepped};
 use rh_rings::{Link, Settled, new_link};
 use std::alloc::{Allocator, Global};
 use std::process::Abort;
@@ -218,7 +218,7 @@ const NONE_ASKED: Counting = Counting {
 fn a_run_looks_whether_it_is_stopped_first(rt: HostRuntime) {
     let (_link, mut replicator) = rings_of(&rt, 0);
     let mut gate = NONE_ASKED;
-    let end = run(&mut replicator, &mut gate, &AtomicBool::new(true), 3);
+    let end = replicator.run(&mut gate, &AtomicBool::new(true), 3);
     expect_equal(&rt, (end, gate), (RunEnd::Stopped, NONE_ASKED));
 }
 
@@ -226,7 +226,7 @@ fn a_run_looks_whether_it_is_stopped_first(rt: HostRuntime) {
 fn a_run_spends_its_turns(rt: HostRuntime) {
     let (mut link, mut replicator) = rings_of(&rt, 0);
     let mut gate = NONE_ASKED;
-    let end = run(&mut replicator, &mut gate, &AtomicBool::new(false), 3);
+    let end = replicator.run(&mut gate, &AtomicBool::new(false), 3);
     let idle = Counting {
         asked: 3,
         idle: 3,
@@ -234,7 +234,7 @@ fn a_run_spends_its_turns(rt: HostRuntime) {
     };
     expect_equal(&rt, (end, gate), (RunEnd::TurnsSpent, idle));
     assert!(rt; push(&mut link, piece_of(1, 1, 1)));
-    let end = run(&mut replicator, &mut gate, &AtomicBool::new(false), 2);
+    let end = replicator.run(&mut gate, &AtomicBool::new(false), 2);
     let folded = Counting {
         asked: 5,
         idle: 4,
