@@ -101,23 +101,26 @@ where
     Some((mutators, took))
 }
 
-/// Makes the calls in each of the threads, with the replicators in threads beside them, and closes
-/// the heap; nothing where it failed.
-pub fn run<R>(rt: &R, setup: Setup) -> Option<CallFigures>
+/// Makes the calls in each of the threads on a new heap, whose allocations are counted, with the
+/// replicators in threads beside them, and closes the heap; nothing where it failed.
+fn run_counted<'m, R>(
+    rt: &R,
+    counted: &'m RefusingAllocator,
+    start: Start<&'m RefusingAllocator>,
+    setup: Setup,
+) -> Option<CallFigures>
 where
     R: Clock + AllocGlobal + Threads + Wait + Sync,
 {
-    let counted = RefusingAllocator::new(rt.alloc(), 0);
-    let memory = &counted;
-    let config = config_of(setup.threads.checked_add(1)?);
-    let start = Start::new(memory, config, setup.shared()?).ok()?;
-    let (shared, mutators, ends) = SharedHeap::new(memory, start).ok()?;
-    let players = players_of(memory, ends).ok()?;
+    let Ok((shared, mutators, ends)) = SharedHeap::new(counted, start) else {
+        return None;
+    };
+    let players = players_of(counted, ends).ok()?;
     let stop = AtomicBool::new(false);
     let mut played = None;
     let mut asked = 0u64;
     let heap = &shared;
-    crew(rt, memory, players, &stop, u32::MAX, || {
+    crew(rt, counted, players, &stop, u32::MAX, || {
         let before = counted.asked();
         played = timed(rt, heap, mutators, setup);
         asked = counted.asked().wrapping_sub(before);
@@ -131,4 +134,16 @@ where
         allocations: asked,
         cycles: kept.heap().stat().flips,
     })
+}
+
+/// Makes the calls in each of the threads, with the replicators in threads beside them; nothing
+/// where it failed.
+pub fn run<R>(rt: &R, setup: Setup) -> Option<CallFigures>
+where
+    R: Clock + AllocGlobal + Threads + Wait + Sync,
+{
+    let counted = RefusingAllocator::new(rt.alloc(), 0);
+    let config = config_of(setup.threads.checked_add(1)?);
+    let start = Start::new(&counted, config, setup.shared()?).ok()?;
+    run_counted(rt, &counted, start, setup)
 }

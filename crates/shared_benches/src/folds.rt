@@ -58,7 +58,9 @@ fn rings_of(
     let mut links = Vec::new(alloc);
     let mut players = Vec::new(alloc);
     for number in 0..replicators {
-        let (link, ends) = new_link(alloc, number).ok()?;
+        let Ok((link, ends)) = new_link(alloc, number) else {
+            return None;
+        };
         links.push(link).ok()?;
         players
             .push((Replicator::new(alloc, ends), YieldingGate))
@@ -79,7 +81,10 @@ fn take_back(link: &mut Link, work: &mut Work) -> bool {
 
 /// Pushes a piece, if one is left and the ring has a place. Answers whether it did.
 fn hand_over(link: &mut Link, piece: &Piece, work: &mut Work) -> bool {
-    if work.left == 0 || !link.has_place() {
+    if work.left == 0 {
+        return false;
+    }
+    if !link.has_place() {
         return false;
     }
     link.push(piece.copy());

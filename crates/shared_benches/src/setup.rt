@@ -48,7 +48,7 @@ impl Setup {
             mark: if self.is_collecting { WORDS } else { WORDS / 2 },
             history: self.history()?,
             patience: 0,
-            idle: if self.is_collecting { 256 } else { 0 },
+            idle: if self.is_collecting { 1_024 } else { 0 },
         })
     }
 }
