@@ -57,17 +57,17 @@ impl<A: Allocator + Copy> Mutator<A> {
         &mut self,
         rt: &R,
         shared: &SharedHeap<A>,
-        command: &Command,
+        command: Command,
     ) -> Result<Reply, CallError>
-        ensures share { self.new ≡ with_answer self.old command.now result }
+        ensures share { self.new ≡ with_answer self.old command result }
         ensures full { length self.old.share.history.calls ≡ self.old.share.limit
             → result ≡ Err CallError.TraceFull }
     {
         if is_full(&self.share) {
             return Err(CallError::TraceFull);
         }
-        let answer = shared.call(rt, self.owner, command);
-        self.add(command, answer);
+        let answer = shared.call(rt, self.owner, &command);
+        self.add(&command, answer);
         answer
     }
 

@@ -24,7 +24,7 @@ where
     let owner = mutator.owner();
     let objects = setup.objects();
     for others in 0..setup.calls {
-        let _ = mutator.call(rt, shared, &command_after(owner, others, objects));
+        let _ = mutator.call(rt, shared, command_after(owner, others, objects));
     }
     mutator
 }

@@ -23,11 +23,11 @@ fn a_limit_is_no_part_of_a_share(rt: HostRuntime) -> Result<(), Fail> {
     let full = Refusal::SpaceFull { need: 65, free: 64 };
     expect_equal(
         &rt,
-        one.call(&rt, &shared, &large),
+        one.call(&rt, &shared, large),
         Err(CallError::Heap(full)),
     );
     expect_equal(&rt, one.calls().len(), 0);
-    expect_equal(&rt, one.call(&rt, &shared, &DROP), Ok(Reply::Done));
+    expect_equal(&rt, one.call(&rt, &shared, DROP), Ok(Reply::Done));
     expect_equal(&rt, one.calls().len(), 1);
     mutators.push(one)?;
     let kept = close(shared, mutators).ok().ok_or("all calls are there")?;
@@ -44,11 +44,11 @@ fn a_full_share_takes_no_call(rt: HostRuntime) -> Result<(), Fail> {
     let (shared, mut mutators) = shared_of(&rt, SMALL, short);
     let (other, _others) = shared_of(&rt, SMALL, short);
     let mut one = mutators.pop().ok_or("owner 1")?;
-    expect_equal(&rt, one.call(&rt, &other, &DROP), Ok(Reply::Done));
-    expect_equal(&rt, one.call(&rt, &other, &DROP), Ok(Reply::Done));
+    expect_equal(&rt, one.call(&rt, &other, DROP), Ok(Reply::Done));
+    expect_equal(&rt, one.call(&rt, &other, DROP), Ok(Reply::Done));
     expect_equal(
         &rt,
-        one.call(&rt, &shared, &DROP),
+        one.call(&rt, &shared, DROP),
         Err(CallError::TraceFull),
     );
     mutators.push(one)?;
@@ -81,7 +81,7 @@ fn a_stranger_is_found(rt: HostRuntime) -> Result<(), Fail> {
     let (shared, mutators) = shared_of(&rt, LARGE, HALF);
     let (_other, mut others) = shared_of(&rt, Config { owners: 4, ..LARGE }, HALF);
     let mut three = others.pop().ok_or("owner 3")?;
-    let refused = three.call(&rt, &shared, &DROP);
+    let refused = three.call(&rt, &shared, DROP);
     expect_equal(&rt, refused, Err(CallError::Heap(Refusal::NoRoot)));
     let left = close(shared, mutators).err().ok_or("owner 3 called")?;
     expect_equal(
@@ -100,7 +100,7 @@ fn increments_come_under_the_lock(rt: HostRuntime) -> Result<(), Fail> {
         dst: OWN,
         fields: 1,
     };
-    expect_equal(&rt, one.call(&rt, &shared, &small), Ok(Reply::Object(1)));
+    expect_equal(&rt, one.call(&rt, &shared, small), Ok(Reply::Object(1)));
     assert!(rt; !shared.increment(&rt).flipped);
     assert!(rt; shared.increment(&rt).flipped);
     Ok(())

@@ -28,11 +28,11 @@ fn another_reply_to_one_command_is_found(rt: HostRuntime) -> Result<(), Fail> {
     // Both make the same calls, and the fourth reads another number on the other heap.
     let mut before: u32 = 0;
     for command in calls_of_owner(2) {
-        assert!(rt; twin.call(&rt, &shared, &command).is_ok());
+        assert!(rt; twin.call(&rt, &shared, command).is_ok());
         if before == 3 {
-            expect_equal(&rt, one.call(&rt, &other, &STORE_NINE), Ok(Reply::Done));
+            expect_equal(&rt, one.call(&rt, &other, STORE_NINE), Ok(Reply::Done));
         }
-        assert!(rt; two.call(&rt, &other, &command).is_ok());
+        assert!(rt; two.call(&rt, &other, command).is_ok());
         before = before.saturating_add(1);
     }
     mutators.push(two)?;
@@ -52,7 +52,7 @@ fn a_mutator_of_another_heap_is_found(rt: HostRuntime) -> Result<(), Fail> {
     let (shared, mut mutators) = shared_of(&rt, SMALL, EAGER);
     let (_other, mut others) = shared_of(&rt, SMALL, EAGER);
     let mut one = mutators.pop().ok_or("owner 1")?;
-    expect_equal(&rt, one.call(&rt, &shared, &DROP), Ok(Reply::Done));
+    expect_equal(&rt, one.call(&rt, &shared, DROP), Ok(Reply::Done));
     let stranger = others.pop().ok_or("owner 1 of the other")?;
     mutators.push(stranger)?;
     let left = close(shared, mutators).err().ok_or("its share is empty")?;
@@ -86,7 +86,7 @@ fn closing_hands_back_what_the_lock_held(rt: HostRuntime) -> Result<(), Fail> {
         Command::Same { a: A, b: B },
     ];
     for command in calls {
-        assert!(rt; one.call(&rt, &shared, &command).is_ok());
+        assert!(rt; one.call(&rt, &shared, command).is_ok());
     }
     mutators.push(one)?;
     let kept = close(shared, mutators).ok().ok_or("all calls are there")?;

@@ -86,7 +86,7 @@ fn played<R: Wait>(
     for command in calls_of_owner(mutator.owner()) {
         number = number.saturating_add(1);
         let heap = if number == 4 { fourth } else { shared };
-        let _ = mutator.call(rt, heap, &command);
+        let _ = mutator.call(rt, heap, command);
     }
     mutator
 }
