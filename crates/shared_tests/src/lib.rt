@@ -4,6 +4,8 @@
 #[cfg(test)]
 mod beside;
 #[cfg(test)]
+mod beside_calls;
+#[cfg(test)]
 mod closing;
 #[cfg(test)]
 mod crews;
