@@ -1,9 +1,9 @@
 //! Commands on a heap of one thread's own, without a lock: what `bench/calls` times beside calls on
 //! a heap that threads share.
 
-use crate::commands::command_after;
+use crate::commands::passing;
 use crate::figures::CallFigures;
-use crate::setup::{Setup, WORDS, config_of};
+use crate::setup::{WORDS, config_of, without_replicators};
 use refusing::RefusingAllocator;
 use rh_pace::{Pace, PacedHeap};
 use rh_shared::{Kept, Start};
@@ -22,7 +22,7 @@ pub fn run_paced<R: Clock + AllocGlobal>(rt: &R, calls: u32) -> Option<CallFigur
     let asked = counted.asked();
     let began = Instant::now(rt).ok()?;
     for others in 0..calls {
-        let _ = heap.command(1, &command_after(1, others, 0));
+        let _ = heap.command(1, &passing(1, others));
     }
     let took = began.elapsed(rt).ok()?;
     Some(CallFigures {
@@ -36,18 +36,12 @@ pub fn run_paced<R: Clock + AllocGlobal>(rt: &R, calls: u32) -> Option<CallFigur
 /// Makes so many calls on what lies under the lock of a shared heap; nothing where it failed.
 pub fn run_kept<R: Clock + AllocGlobal>(rt: &R, calls: u32) -> Option<CallFigures> {
     let counted = RefusingAllocator::new(rt.alloc(), 0);
-    let setup = Setup {
-        threads: 1,
-        replicators: 0,
-        calls,
-        is_collecting: false,
-    };
-    let start = Start::new(&counted, config_of(2), setup.shared()?).ok()?;
+    let start = Start::new(&counted, config_of(2), without_replicators(calls)).ok()?;
     let (mut kept, _ends) = Kept::new(&counted, start).ok()?;
     let asked = counted.asked();
     let began = Instant::now(rt).ok()?;
     for others in 0..calls {
-        let _ = kept.call(1, &command_after(1, others, 0));
+        let _ = kept.call(1, &passing(1, others));
     }
     let took = began.elapsed(rt).ok()?;
     Some(CallFigures {

@@ -1,30 +1,26 @@
 //! Calls on a heap that threads share: what `bench/calls` times.
 
-use crate::commands::command_after;
+use crate::commands::passing;
 use crate::figures::CallFigures;
-use crate::players::players_of;
-use crate::setup::{Setup, config_of};
+use crate::setup::{config_of, without_replicators};
 use refusing::RefusingAllocator;
-use rh_replicator::crew;
 use rh_shared::{Mutator, SharedHeap, Start, close};
 use std::alloc::Allocator;
 use std::rt::Clock;
 use std::sync::Wait;
-use std::sync::atomic::AtomicBool;
 use std::thread;
 use std::thread::Threads;
-use std::time::{Duration, Instant};
+use std::time::Instant;
 
 /// Makes the calls of the mutator's owner. Gives the mutator back.
-fn play<R, A>(rt: &R, shared: &SharedHeap<A>, mut mutator: Mutator<A>, setup: Setup) -> Mutator<A>
+fn play<R, A>(rt: &R, shared: &SharedHeap<A>, mut mutator: Mutator<A>, calls: u32) -> Mutator<A>
 where
     A: Allocator + Copy,
     R: Wait,
 {
     let owner = mutator.owner();
-    let objects = setup.objects();
-    for others in 0..setup.calls {
-        let _ = mutator.call(rt, shared, command_after(owner, others, objects));
+    for others in 0..calls {
+        let _ = mutator.call(rt, shared, passing(owner, others));
     }
     mutator
 }
@@ -35,7 +31,7 @@ fn play_two<R, A>(
     shared: &SharedHeap<A>,
     one: Mutator<A>,
     two: Mutator<A>,
-    setup: Setup,
+    calls: u32,
 ) -> (Mutator<A>, Mutator<A>)
 where
     A: Allocator + Copy + Send,
@@ -43,8 +39,8 @@ where
 {
     thread::join(
         rt,
-        || play(rt, shared, one, setup),
-        || play(rt, shared, two, setup),
+        || play(rt, shared, one, calls),
+        || play(rt, shared, two, calls),
     )
 }
 
@@ -54,20 +50,21 @@ fn play_beside<R, A>(
     rt: &R,
     shared: &SharedHeap<A>,
     mut mutators: Vec<Mutator<A>, A>,
-    setup: Setup,
+    threads: u32,
+    calls: u32,
 ) -> Option<Vec<Mutator<A>, A>>
 where
     A: Allocator + Copy + Send,
     R: Threads + Wait + Sync,
 {
     let four = mutators.pop()?;
-    if setup.threads <= 1 {
-        mutators.push(play(rt, shared, four, setup)).ok()?;
+    if threads <= 1 {
+        mutators.push(play(rt, shared, four, calls)).ok()?;
         return Some(mutators);
     }
     let three = mutators.pop()?;
-    if setup.threads == 2 {
-        let (three, four) = play_two(rt, shared, three, four, setup);
+    if threads == 2 {
+        let (three, four) = play_two(rt, shared, three, four, calls);
         mutators.push(three).ok()?;
         mutators.push(four).ok()?;
         return Some(mutators);
@@ -75,8 +72,8 @@ where
     let (two, one) = (mutators.pop()?, mutators.pop()?);
     let ((one, two), (three, four)) = thread::join(
         rt,
-        || play_two(rt, shared, one, two, setup),
-        || play_two(rt, shared, three, four, setup),
+        || play_two(rt, shared, one, two, calls),
+        || play_two(rt, shared, three, four, calls),
     );
     for mutator in [one, two, three, four] {
         mutators.push(mutator).ok()?;
@@ -84,66 +81,28 @@ where
     Some(mutators)
 }
 
-/// Makes all calls. Gives the mutators back, with the time that it took.
-fn timed<R, A>(
-    rt: &R,
-    shared: &SharedHeap<A>,
-    mutators: Vec<Mutator<A>, A>,
-    setup: Setup,
-) -> Option<(Vec<Mutator<A>, A>, Duration)>
-where
-    A: Allocator + Copy + Send,
-    R: Clock + Threads + Wait + Sync,
-{
-    let began = Instant::now(rt).ok()?;
-    let mutators = play_beside(rt, shared, mutators, setup)?;
-    let took = began.elapsed(rt).ok()?;
-    Some((mutators, took))
-}
-
-/// Makes the calls in each of the threads on a new heap, whose allocations are counted, with the
-/// replicators in threads beside them, and closes the heap; nothing where it failed.
-fn run_counted<'m, R>(
-    rt: &R,
-    counted: &'m RefusingAllocator,
-    start: Start<&'m RefusingAllocator>,
-    setup: Setup,
-) -> Option<CallFigures>
-where
-    R: Clock + AllocGlobal + Threads + Wait + Sync,
-{
-    let Ok((shared, mutators, ends)) = SharedHeap::new(counted, start) else {
-        return None;
-    };
-    let players = players_of(counted, ends).ok()?;
-    let stop = AtomicBool::new(false);
-    let mut played = None;
-    let mut asked = 0u64;
-    let heap = &shared;
-    crew(rt, counted, players, &stop, u32::MAX, || {
-        let before = counted.asked();
-        played = timed(rt, heap, mutators, setup);
-        asked = counted.asked().wrapping_sub(before);
-    })
-    .ok()?;
-    let (mutators, took) = played?;
-    let kept = close(shared, mutators).ok()?;
-    Some(CallFigures {
-        calls: kept.history().calls().len(),
-        nanoseconds: took.as_nanos(),
-        allocations: asked,
-        cycles: kept.heap().stat().flips,
-    })
-}
-
-/// Makes the calls in each of the threads, with the replicators in threads beside them; nothing
-/// where it failed.
-pub fn run<R>(rt: &R, setup: Setup) -> Option<CallFigures>
+/// Makes so many calls in each of one, two or four threads, and closes the heap; nothing where it
+/// failed.
+pub fn run<R>(rt: &R, threads: u32, calls: u32) -> Option<CallFigures>
 where
     R: Clock + AllocGlobal + Threads + Wait + Sync,
 {
     let counted = RefusingAllocator::new(rt.alloc(), 0);
-    let config = config_of(setup.threads.checked_add(1)?);
-    let start = Start::new(&counted, config, setup.shared()?).ok()?;
-    run_counted(rt, &counted, start, setup)
+    let memory = &counted;
+    let config = config_of(threads.checked_add(1)?);
+    let shared = without_replicators(threads.checked_mul(calls)?);
+    let start = Start::new(memory, config, shared).ok()?;
+    let (shared, mutators, _ends) = SharedHeap::new(memory, start).ok()?;
+    let asked = counted.asked();
+    let began = Instant::now(rt).ok()?;
+    let mutators = play_beside(rt, &shared, mutators, threads, calls)?;
+    let took = began.elapsed(rt).ok()?;
+    let allocations = counted.asked().wrapping_sub(asked);
+    let kept = close(shared, mutators).ok()?;
+    Some(CallFigures {
+        calls: kept.history().calls().len(),
+        nanoseconds: took.as_nanos(),
+        allocations,
+        cycles: kept.heap().stat().flips,
+    })
 }

@@ -1,5 +1,5 @@
-//! The commands that an owner gives: it makes a list that lives long, and then allocates, stores,
-//! loads, copies and compares, in turn.
+//! The commands that an owner gives: by some it makes a list, by others it allocates, stores, loads,
+//! copies and compares, in turn.
 
 use rh_layout::{Command, Operand, RootId};
 
@@ -14,20 +14,12 @@ fn root(owner: u32, slot: u32) -> RootId {
     RootId { owner, slot }
 }
 
-/// The command that the owner gives after so many others, where its list gets so many objects.
-pub fn command_after(owner: u32, others: u32, objects: u32) -> Command {
-    match others.checked_sub(objects.saturating_mul(3)) {
-        None => growing(owner, others % 3),
-        Some(later) => passing(owner, later),
-    }
-}
-
-/// One of the three commands by which the list gets an object: it is made, refers to the list, and
-/// stands in front of it.
-fn growing(owner: u32, number: u32) -> Command {
+/// The command that the owner gives after so many others to make a list. By three of them it gets an
+/// object, which is made, refers to the list, and stands in front of it.
+pub fn growing(owner: u32, others: u32) -> Command {
     let object = root(owner, 0);
     let list = root(owner, 2);
-    match number {
+    match others % 3 {
         0 => Command::Alloc {
             dst: object,
             fields: FIELDS,
@@ -44,8 +36,8 @@ fn growing(owner: u32, number: u32) -> Command {
     }
 }
 
-/// The command that the owner gives after so many others once its list is made.
-fn passing(owner: u32, others: u32) -> Command {
+/// The command that the owner gives after so many others where nothing that it makes lives long.
+pub fn passing(owner: u32, others: u32) -> Command {
     let own = root(owner, 0);
     let other = root(owner, 1);
     match others % 5 {

@@ -49,3 +49,25 @@ impl FoldFigures {
         .ok()
     }
 }
+
+/// What cycles took.
+#[derive(Clone, Copy)]
+pub struct CycleFigures {
+    /// The cycles that came to their end.
+    pub cycles: u32,
+    /// The nanoseconds by the clock on the wall.
+    pub nanoseconds: u128,
+    /// Those of them in which an increment, which is under the lock, had something to do.
+    pub held: u128,
+}
+
+impl CycleFigures {
+    /// Prints the figures.
+    pub fn print(&self, rt: &impl Print) -> Option<()> {
+        println!(rt;
+            "cycles {} nanoseconds {} held {}",
+            self.cycles, self.nanoseconds, self.held
+        )
+        .ok()
+    }
+}

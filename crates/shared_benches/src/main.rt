@@ -5,28 +5,18 @@
 mod alone;
 mod calls;
 mod commands;
+mod cycles;
 mod figures;
 mod folds;
 mod pieces;
 mod players;
 mod setup;
 
-use setup::Setup;
 use std::env;
 use std::process::ExitCode;
 use std::rt::{Clock, Env};
 use std::sync::Wait;
 use std::thread::Threads;
-
-/// A hundred calls in each of so many threads, and how many of them are in the history.
-fn little(threads: u32, replicators: u32) -> Setup {
-    Setup {
-        threads,
-        replicators,
-        calls: 100,
-        is_collecting: replicators != 0,
-    }
-}
 
 /// Each bench once, on little; nothing where one failed.
 fn run_each<R>(rt: &R) -> Option<()>
@@ -46,24 +36,21 @@ where
     )
     .ok()?;
     for threads in [1, 2, 4] {
-        let made = calls::run(rt, little(threads, 0))?;
+        let made = calls::run(rt, threads, 100)?;
         println!(rt;
             "{threads} threads: {} calls, {} allocations",
             made.calls, made.allocations
         )
         .ok()?;
     }
-    for replicators in [1, 2] {
-        let made = calls::run(rt, little(2, replicators))?;
-        println!(rt;
-            "2 threads, {replicators} replicators: {} calls",
-            made.calls
-        )
-        .ok()?;
-    }
     for replicators in [0, 1, 2, 4] {
         let made = folds::run(rt, replicators, 100, 8, 4)?;
-        println!(rt; "{replicators} replicators: {} pieces", made.pieces).ok()?;
+        let driven = cycles::run(rt, replicators, 64, 1)?;
+        println!(rt;
+            "{replicators} replicators: {} pieces, {} cycles",
+            made.pieces, driven.cycles
+        )
+        .ok()?;
     }
     Some(())
 }
@@ -77,23 +64,9 @@ where
     match (name, numbers) {
         ("paced", &[calls]) => alone::run_paced(rt, calls)?.print(rt),
         ("kept", &[calls]) => alone::run_kept(rt, calls)?.print(rt),
-        ("calls", &[threads, calls]) => {
-            let setup = Setup {
-                threads,
-                replicators: 0,
-                calls,
-                is_collecting: false,
-            };
-            calls::run(rt, setup)?.print(rt)
-        }
-        ("collected", &[threads, replicators, calls]) => {
-            let setup = Setup {
-                threads,
-                replicators,
-                calls,
-                is_collecting: true,
-            };
-            calls::run(rt, setup)?.print(rt)
+        ("calls", &[threads, calls]) => calls::run(rt, threads, calls)?.print(rt),
+        ("cycles", &[replicators, most, cycles]) => {
+            cycles::run(rt, replicators, most, cycles)?.print(rt)
         }
         ("folds", &[replicators, pieces, items, repeats]) => {
             folds::run(rt, replicators, pieces, items, repeats)?.print(rt)

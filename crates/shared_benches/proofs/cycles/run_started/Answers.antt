@@ -1,5 +1,5 @@
 use Rattle.shared_benches.proofs.FreshEnds.{fresh-where_new}
-use Rattle.shared_benches.proofs.calls.run_counted.Goals as goal
+use Rattle.shared_benches.proofs.cycles.run_started.Goals as goal
 
 -- nothing went through the ends of a new shared heap yet
 pub players_of-requires : goal.players_of-requires

@@ -1,0 +1,111 @@
+//! Cycles of a shared heap in which a list lives, driven on without calls: what `bench/cycles`
+//! times.
+
+use crate::commands::growing;
+use crate::figures::CycleFigures;
+use crate::players::players_of;
+use crate::setup::{WORDS, config_of};
+use rh_replicator::crew;
+use rh_shared::{Did, SharedConfig, SharedHeap, Start};
+use std::alloc::Global;
+use std::rt::Clock;
+use std::sync::Wait;
+use std::sync::atomic::AtomicBool;
+use std::thread;
+use std::thread::Threads;
+use std::time::Instant;
+
+/// The objects of the list, of 8 fields each.
+const LISTED: u32 = 2_000;
+
+/// The commands that make the list.
+const COMMANDS: u32 = 3 * LISTED;
+
+/// The most increments.
+const MANY: u32 = 2_000_000_000;
+
+/// What an increment did that found nothing to do.
+const NOTHING: Did = Did {
+    began: false,
+    shaded: 0,
+    dealt: 0,
+    given: 0,
+    dropped: 0,
+    flipped: false,
+    recalled: false,
+};
+
+/// A cycle begins as soon as the last has ended, pieces have at most so many items, and credit is
+/// ample.
+fn driven(replicators: u32, most: u32) -> SharedConfig {
+    SharedConfig {
+        replicators,
+        copies: 1,
+        most,
+        mark: WORDS,
+        history: COMMANDS,
+        patience: 0,
+        idle: 4_096,
+    }
+}
+
+/// Makes increments until so many cycles have ended; nothing where they are too many or the clock
+/// failed.
+fn drive<R: Clock + Wait>(rt: &R, shared: &SharedHeap, cycles: u32) -> Option<CycleFigures> {
+    let mut left = cycles;
+    let mut held = 0u128;
+    let began = Instant::now(rt).ok()?;
+    for _ in 0..MANY {
+        if left == 0 {
+            let nanoseconds = began.elapsed(rt).ok()?.as_nanos();
+            return Some(CycleFigures {
+                cycles,
+                nanoseconds,
+                held,
+            });
+        }
+        let before = Instant::now(rt).ok()?;
+        let did = shared.increment(rt);
+        if did == NOTHING {
+            thread::yield_now();
+        } else {
+            held = held.wrapping_add(before.elapsed(rt).ok()?.as_nanos());
+        }
+        if did.flipped {
+            left -= 1;
+        }
+    }
+    None
+}
+
+/// Makes the list and then the cycles, with the replicators in threads beside them.
+fn run_started<R>(rt: &R, alloc: Global, start: Start, cycles: u32) -> Option<CycleFigures>
+where
+    R: Clock + Threads + Wait + Sync,
+{
+    let Ok((shared, mut mutators, ends)) = SharedHeap::new(alloc, start) else {
+        return None;
+    };
+    let players = players_of(alloc, ends).ok()?;
+    let mut mutator = mutators.pop()?;
+    for others in 0..COMMANDS {
+        let _ = mutator.call(rt, &shared, &growing(1, others));
+    }
+    let stop = AtomicBool::new(false);
+    let mut figures = None;
+    crew(rt, alloc, players, &stop, u32::MAX, || {
+        figures = drive(rt, &shared, cycles);
+    })
+    .ok()?;
+    figures
+}
+
+/// Makes so many cycles of pieces of at most so many items with so many replicators in threads of
+/// their own; nothing where it failed.
+pub fn run<R>(rt: &R, replicators: u32, most: u32, cycles: u32) -> Option<CycleFigures>
+where
+    R: Clock + AllocGlobal + Threads + Wait + Sync,
+{
+    let start = Start::new(rt.alloc(), config_of(2), driven(replicators, most)).ok()?;
+    run_started(rt, rt.alloc(), start, cycles)
+}
