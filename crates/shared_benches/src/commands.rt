@@ -1,38 +1,30 @@
-//! The commands that an owner gives: by some it makes a list, by others it allocates, stores, loads,
-//! copies and compares, in turn.
+//! The commands that an owner gives: some make objects that live long, and others allocate, store,
+//! load, copy and compare, in turn.
 
 use rh_layout::{Command, Operand, RootId};
 
 /// The slots of an owner.
 pub const SLOTS: u32 = 3;
 
-/// The fields of an object of the list.
-const FIELDS: u32 = 8;
-
-/// The root of the owner in this slot: 0 and 1 for objects that come and go, 2 for the list.
+/// The root of the owner in this slot: 0 to 2.
 fn root(owner: u32, slot: u32) -> RootId {
     RootId { owner, slot }
 }
 
-/// The command that the owner gives after so many others to make a list. By three of them it gets an
-/// object, which is made, refers to the list, and stands in front of it.
-pub fn growing(owner: u32, others: u32) -> Command {
-    let object = root(owner, 0);
-    let list = root(owner, 2);
-    match others % 3 {
-        0 => Command::Alloc {
-            dst: object,
-            fields: FIELDS,
-        },
-        1 => Command::Store {
-            obj: object,
-            field: 0,
-            operand: Operand::Root(list),
-        },
-        _ => Command::Copy {
-            dst: list,
-            src: object,
-        },
+/// A new object of so many fields in a slot of owner 1.
+pub fn alloc(slot: u32, fields: u32) -> Command {
+    Command::Alloc {
+        dst: root(1, slot),
+        fields,
+    }
+}
+
+/// The field of the object in the slot `from` of owner 1 refers to the object in the slot `to`.
+pub fn refer(from: u32, field: u32, to: u32) -> Command {
+    Command::Store {
+        obj: root(1, from),
+        field,
+        operand: Operand::Root(root(1, to)),
     }
 }
 

@@ -1,12 +1,12 @@
-//! Cycles of a shared heap in which a list lives, driven on without calls: what `bench/cycles`
+//! Cycles of a shared heap in which wide objects live, driven on without calls: what `bench/cycles`
 //! times.
 
-use crate::commands::growing;
+use crate::commands::{alloc, refer};
 use crate::figures::CycleFigures;
 use crate::players::players_of;
 use crate::setup::{WORDS, config_of};
 use rh_replicator::crew;
-use rh_shared::{Did, SharedConfig, SharedHeap, Start};
+use rh_shared::{Did, Mutator, SharedConfig, SharedHeap, Start};
 use std::alloc::Global;
 use std::rt::Clock;
 use std::sync::Wait;
@@ -15,11 +15,17 @@ use std::thread;
 use std::thread::Threads;
 use std::time::Instant;
 
-/// The objects of the list, of 8 fields each.
-const LISTED: u32 = 2_000;
+/// The wide objects, which stand in the fields of one object.
+const WIDE: u32 = 8;
 
-/// The commands that make the list.
-const COMMANDS: u32 = 3 * LISTED;
+/// The objects that stand in the fields of a wide one.
+const WIDTH: u32 = 250;
+
+/// The fields of each of these.
+const FIELDS: u32 = 8;
+
+/// The calls that make all of them.
+const CALLS: u32 = 1 + WIDE * (2 + 2 * WIDTH);
 
 /// The most increments.
 const MANY: u32 = 2_000_000_000;
@@ -43,9 +49,22 @@ fn driven(replicators: u32, most: u32) -> SharedConfig {
         copies: 1,
         most,
         mark: WORDS,
-        history: COMMANDS,
+        history: CALLS,
         patience: 0,
         idle: 4_096,
+    }
+}
+
+/// Makes the objects. What is refused is passed over.
+fn make<R: Wait>(rt: &R, shared: &SharedHeap, mutator: &mut Mutator) {
+    let _ = mutator.call(rt, shared, &alloc(2, WIDE));
+    for wide in 0..WIDE {
+        let _ = mutator.call(rt, shared, &alloc(1, WIDTH));
+        for field in 0..WIDTH {
+            let _ = mutator.call(rt, shared, &alloc(0, FIELDS));
+            let _ = mutator.call(rt, shared, &refer(1, field, 0));
+        }
+        let _ = mutator.call(rt, shared, &refer(2, wide, 1));
     }
 }
 
@@ -78,7 +97,7 @@ fn drive<R: Clock + Wait>(rt: &R, shared: &SharedHeap, cycles: u32) -> Option<Cy
     None
 }
 
-/// Makes the list and then the cycles, with the replicators in threads beside them.
+/// Makes the objects and then the cycles, with the replicators in threads beside them.
 fn run_started<R>(rt: &R, alloc: Global, start: Start, cycles: u32) -> Option<CycleFigures>
 where
     R: Clock + Threads + Wait + Sync,
@@ -88,9 +107,7 @@ where
     };
     let players = players_of(alloc, ends).ok()?;
     let mut mutator = mutators.pop()?;
-    for others in 0..COMMANDS {
-        let _ = mutator.call(rt, &shared, &growing(1, others));
-    }
+    make(rt, &shared, &mut mutator);
     let stop = AtomicBool::new(false);
     let mut figures = None;
     crew(rt, alloc, players, &stop, u32::MAX, || {
