@@ -5,7 +5,7 @@ use crate::expectations::expect_equal;
 use rh_layout::{Command, Operand, RootId};
 use rh_model::{CommandError, Plain};
 use rh_pace::{Pace, PaceError, PacedHeap};
-use std::alloc::Allocator;
+use std::alloc::{Allocator, Global};
 use std::process::Abort;
 
 /// What a program does again and again, with at most so many live words where a cycle begins, and
@@ -49,19 +49,21 @@ fn least_words(program: &Program, ratio: u32) -> u32 {
     }
 }
 
-/// Runs a program over fifty cycles and more, at a ratio and exactly the words that the rule asks
-/// for.
-fn run_at<R: AllocGlobal + Abort>(rt: &R, program: &Program, ratio: u32) {
+/// Both heaps, at a ratio and exactly the words that the rule asks for.
+fn both_at<R: AllocGlobal + Abort>(rt: &R, program: &Program, ratio: u32) -> Both<Global> {
     let words = least_words(program, ratio);
     let pace = Pace::of(words, program.live, program.biggest, ratio).expect(rt, "a pace");
     let config = pace.config(words, ratio, 2, 4);
-    let mut both = Both {
+    Both {
         paced: PacedHeap::new(rt.alloc(), config, pace)
             .ok()
             .expect(rt, "a heap"),
         plain: Plain::new(rt.alloc(), 2, 4).ok().expect(rt, "a plain heap"),
-    };
-    both.play(rt, program.first);
+    }
+}
+
+/// Runs a program over fifty cycles and more.
+fn run_cycles<A: Allocator + Copy>(rt: &impl Abort, program: &Program, both: &mut Both<A>) {
     for _ in 0..20_000u32 {
         if both.paced.stat().flips > 50 {
             return;
@@ -73,6 +75,14 @@ fn run_at<R: AllocGlobal + Abort>(rt: &R, program: &Program, ratio: u32) {
         }
     }
     assert!(rt; false, "fewer than fifty cycles");
+}
+
+/// Runs a program from its first commands on, at a ratio and exactly the words that the rule asks
+/// for.
+fn run_at<R: AllocGlobal + Abort>(rt: &R, program: &Program, ratio: u32) {
+    let mut both = both_at(rt, program, ratio);
+    both.play(rt, program.first);
+    run_cycles(rt, program, &mut both);
 }
 
 /// Runs a program at a low ratio and at others.
@@ -133,6 +143,44 @@ fn a_queue(rt: HostRuntime) {
         inside: &round,
     };
     runs(&rt, &program);
+}
+
+/// A queue of 249 cells, of which one joins and one leaves: of 2,218 words 1,000 live, 45 in 100.
+#[test]
+fn a_long_queue(rt: HostRuntime) {
+    let (head, tail, new) = (named(0), named(1), named(2));
+    let first = [
+        alloc(head, 2),
+        Command::Copy {
+            dst: tail,
+            src: head,
+        },
+    ];
+    let round = [
+        alloc(new, 2),
+        store(tail, 1, Operand::Root(new)),
+        Command::Copy {
+            dst: tail,
+            src: new,
+        },
+        drop_root(new),
+        load(head, head, 1),
+    ];
+    let [joins @ .., _] = &round;
+    let program = Program {
+        live: 1_000,
+        biggest: 4,
+        first: &first,
+        outside: &round,
+        inside: &round,
+    };
+    expect_equal(&rt, least_words(&program, 8), 2_218);
+    let mut both = both_at(&rt, &program, 8);
+    both.play(&rt, program.first);
+    for _ in 0..248u32 {
+        both.play(&rt, joins);
+    }
+    run_cycles(&rt, &program, &mut both);
 }
 
 /// A list that grows to four cells and is dropped.
