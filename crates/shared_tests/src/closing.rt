@@ -46,11 +46,7 @@ fn a_full_share_takes_no_call(rt: HostRuntime) -> Result<(), Fail> {
     let mut one = mutators.pop().ok_or("owner 1")?;
     expect_equal(&rt, one.call(&rt, &other, DROP), Ok(Reply::Done));
     expect_equal(&rt, one.call(&rt, &other, DROP), Ok(Reply::Done));
-    expect_equal(
-        &rt,
-        one.call(&rt, &shared, DROP),
-        Err(CallError::TraceFull),
-    );
+    expect_equal(&rt, one.call(&rt, &shared, DROP), Err(CallError::TraceFull));
     mutators.push(one)?;
     let left = close(shared, mutators)
         .err()
