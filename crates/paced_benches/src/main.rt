@@ -4,7 +4,9 @@
 
 mod binary_trees;
 mod gc_bench;
+mod keeps_up;
 mod latency;
+mod mutators;
 mod setting;
 mod stream;
 mod tree;
@@ -17,7 +19,11 @@ use std::time::CpuClock;
 /// Each bench once, on little; nothing where one failed.
 fn run_each(rt: &(impl Print + Input + Clock + CpuClock + AllocGlobal)) -> Option<()> {
     binary_trees::run(rt, 8, 8192)?;
-    gc_bench::run(rt, gc_bench::Depths::LITTLE, 32_768)
+    gc_bench::run(rt, gc_bench::Depths::LITTLE, 32_768)?;
+    for name in ["list", "queue", "big-objects", "stores"] {
+        keeps_up::run(rt, name, keeps_up::Asked::LITTLE)?;
+    }
+    Some(())
 }
 
 /// The number that an argument is; nothing where it is none.
@@ -46,6 +52,15 @@ fn run_one(
         ),
         "binary-trees" => binary_trees::run(rt, number(first)?, number(second)?),
         "gc-bench" => gc_bench::run(rt, gc_bench::Depths::WHOLE, number(first)?),
+        "keeps-up" => keeps_up::run(
+            rt,
+            first?,
+            keeps_up::Asked {
+                cells: number(second)?,
+                ratio: number(third)?,
+                commands: number(fourth)?.into(),
+            },
+        ),
         _ => None,
     }
 }
