@@ -57,14 +57,14 @@ fn driven(replicators: u32, most: u32) -> SharedConfig {
 
 /// Makes the objects. What is refused is passed over.
 fn make<R: Wait>(rt: &R, shared: &SharedHeap, mutator: &mut Mutator) {
-    let _ = mutator.call(rt, shared, &alloc(2, WIDE));
+    let _ = mutator.call(rt, shared, alloc(2, WIDE));
     for wide in 0..WIDE {
-        let _ = mutator.call(rt, shared, &alloc(1, WIDTH));
+        let _ = mutator.call(rt, shared, alloc(1, WIDTH));
         for field in 0..WIDTH {
-            let _ = mutator.call(rt, shared, &alloc(0, FIELDS));
-            let _ = mutator.call(rt, shared, &refer(1, field, 0));
+            let _ = mutator.call(rt, shared, alloc(0, FIELDS));
+            let _ = mutator.call(rt, shared, refer(1, field, 0));
         }
-        let _ = mutator.call(rt, shared, &refer(2, wide, 1));
+        let _ = mutator.call(rt, shared, refer(2, wide, 1));
     }
 }
 
