@@ -24,7 +24,7 @@ module _ {A : Type 0} where
   -- the ends of a replicator that made a step
   pub stepped-here : (rings : List (RingState A)) (before after : EndsState A) (stepped : Stepped) → HasStepped before stepped after → AreEndsHere rings before → AreEndsHere rings after
   stepped-here rings before after RingFull made here =
-      same-here rings before after (ap (λ (e : EndsState A). e.replicator) made) (ap ends_pair made) here
+      same-here rings before after (ap (λ (e : EndsState A). e.replicator) made.ends) (ap ends_pair made.ends) here
   stepped-here rings before after Idle made here =
       same-here rings before after (ap (λ (e : EndsState A). e.replicator) made.ends) (ap ends_pair made.ends) here
   stepped-here rings before after OutOfMemory made here =

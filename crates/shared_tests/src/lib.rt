@@ -4,8 +4,6 @@
 #[cfg(test)]
 mod beside;
 #[cfg(test)]
-mod beside_calls;
-#[cfg(test)]
 mod closing;
 #[cfg(test)]
 mod crews;
