@@ -166,7 +166,6 @@ fn a_long_queue(rt: HostRuntime) {
         drop_root(new),
         load(head, head, 1),
     ];
-    let [joins @ .., _] = &round;
     let program = Program {
         live: 1_000,
         biggest: 4,
@@ -178,7 +177,7 @@ fn a_long_queue(rt: HostRuntime) {
     let mut both = both_at(&rt, &program, 8);
     both.play(&rt, program.first);
     for _ in 0..248u32 {
-        both.play(&rt, joins);
+        both.play(&rt, &round[..4]);
     }
     run_cycles(&rt, &program, &mut both);
 }
