@@ -75,9 +75,10 @@ where
         || play_two(rt, shared, one, two, calls),
         || play_two(rt, shared, three, four, calls),
     );
-    for mutator in [one, two, three, four] {
-        mutators.push(mutator).ok()?;
-    }
+    mutators.push(one).ok()?;
+    mutators.push(two).ok()?;
+    mutators.push(three).ok()?;
+    mutators.push(four).ok()?;
     Some(mutators)
 }
 
