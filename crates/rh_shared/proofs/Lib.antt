@@ -20,3 +20,4 @@ pub mod Recalls
 pub mod LastStages
 pub mod GivenInOrder
 pub mod WithoutRings
+pub mod WhatWaits

@@ -15,6 +15,7 @@ mod pushing;
 pub mod ring_laws;
 mod settling;
 mod shared_heap;
+pub mod stage_laws;
 mod start;
 mod steps;
 mod work;
