@@ -21,3 +21,4 @@ pub mod LastStages
 pub mod GivenInOrder
 pub mod WithoutRings
 pub mod WhatWaits
+pub mod InOrder
