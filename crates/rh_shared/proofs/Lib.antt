@@ -22,3 +22,4 @@ pub mod GivenInOrder
 pub mod WithoutRings
 pub mod WhatWaits
 pub mod InOrder
+pub mod IdleWords
