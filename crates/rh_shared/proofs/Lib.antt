@@ -23,3 +23,4 @@ pub mod WithoutRings
 pub mod WhatWaits
 pub mod InOrder
 pub mod IdleWords
+pub mod Counts
