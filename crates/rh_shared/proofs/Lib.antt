@@ -24,3 +24,4 @@ pub mod WhatWaits
 pub mod InOrder
 pub mod IdleWords
 pub mod Counts
+pub mod GrownShares

@@ -1,14 +1,15 @@
 //! Laws of calls and of new mutators. Each function does nothing: its contract is the law.
 
-ghost use Rattle.std.specs.Prelude.{◌≡◌, ℕ, ◌<◌, true, false, length, Ok, Err};
+ghost use Rattle.std.specs.Prelude.{◌≡◌, ℕ, ◌<◌, ◌++◌, true, false, List, length, Ok, Err};
 ghost use Rattle.rh_layout.specs.Refusal.{is_limit};
 ghost use Rattle.rh_layout.specs.declared.command.Command.{Command};
 ghost use Rattle.rh_layout.specs.declared.command.Reply.{Reply};
 ghost use Rattle.rh_layout.specs.declared.refusal.Refusal.{Refusal};
 ghost use Rattle.rh_core.specs.Commands.{heap_step};
+ghost use Rattle.rh_replay.specs.declared.call.Call.{Call};
 ghost use Rattle.rh_shared.specs.declared.kept.CallError.TheVariants as call_errors;
-ghost use Rattle.rh_shared.specs.Kept.{KeptState, kept_call, with_noted};
-ghost use Rattle.rh_shared.specs.Shares.{IsOneEach, first_mutators};
+ghost use Rattle.rh_shared.specs.Kept.{KeptState, kept_call, kept_increment, with_noted};
+ghost use Rattle.rh_shared.specs.Shares.{IsOneEach, MutatorState, first_mutators, with_answer};
 ghost use Rattle.rh_shared.specs.Collector.{with_heap};
 ghost use Rattle.rh_shared.specs.Increment.{increment, Met};
 
@@ -48,6 +49,28 @@ pub fn a_call_is_noted_unless_a_limit_refused_it<A: Allocator + Copy>()
 {
     refused_commands_change_nothing();
 }
+
+/// A mutator's share grows as the history does: by each call of its owner that is noted, with the
+/// answer that is noted, and by no other.
+pub fn a_share_grows_as_the_history_does<A: Allocator + Copy>()
+    ensures { (met : Met) (k : KeptState A) (m : MutatorState) (command : Command)
+        → (let done = kept_call met k m.owner command in
+        let after = with_answer m command done.1 in
+        (after.owner ≡ m.owner) × ((noted : List Call)
+        × (done.0.recorder.history.calls ≡ k.recorder.history.calls ++ noted)
+        × (after.share.history.calls ≡ m.share.history.calls ++ noted))) }
+{}
+
+/// One more increment does what the collector's increment does, tells it, and keeps it as the last
+/// one. It notes no call.
+pub fn an_increment_is_told_as_the_last<A: Allocator + Copy>()
+    ensures told { (met : Met) (k : KeptState A)
+        → (kept_increment met k).1 ≡ (increment met k.collector).1 }
+    ensures kept { (met : Met) (k : KeptState A) → (kept_increment met k).0 ≡ record k {
+      collector = (increment met k.collector).0;
+      last = (increment met k.collector).1;
+    } }
+{}
 
 /// The mutators that a shared heap is made with are one for each owner.
 pub fn new_mutators_are_one_each()
