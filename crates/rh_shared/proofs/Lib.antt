@@ -25,3 +25,4 @@ pub mod InOrder
 pub mod IdleWords
 pub mod Counts
 pub mod GrownShares
+pub mod DealtNumbers
