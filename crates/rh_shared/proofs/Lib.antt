@@ -26,3 +26,4 @@ pub mod IdleWords
 pub mod Counts
 pub mod GrownShares
 pub mod DealtNumbers
+pub mod Endings
