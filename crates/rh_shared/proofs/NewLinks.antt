@@ -4,8 +4,8 @@ use Rattle.std.specs.Prelude.{map, slice_get}
 use Rattle.std.specs.List.{AllByRecursion}
 use Rattle.rh_rings.specs.Link.{LinkState, RingState}
 use Rattle.rh_rings.specs.Ends.{EndsState, IsNewLink}
-use Rattle.rh_shared.specs.Settling.{ends_pair, pair_of, pairs_of, IsNewHere}
-use Rattle.rh_shared.specs.SharedConfig.{AreNewLinks}
+use Rattle.rh_increment.specs.Settling.{ends_pair, pair_of, pairs_of, IsNewHere}
+use Rattle.rh_shared.specs.Start.{AreNewLinks}
 
 -- One link more, of the next number.
 pub AreNewLinks-more : {A : Type 0} (first : ℕ) (links : List (LinkState A)) (ends : List (EndsState A)) (link : LinkState A) (more : EndsState A)

@@ -1,13 +1,3 @@
-pub mod SharedConfig
-pub mod Did
-pub mod Collector
-pub mod Settling
-pub mod Shaded
-pub mod Handing
-pub mod Gives
-pub mod Dealt
-pub mod Patience
-pub mod Increment
-pub mod Collected
+pub mod Start
 pub mod Kept
 pub mod Shares

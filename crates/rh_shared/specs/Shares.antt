@@ -10,7 +10,7 @@ use Rattle.rh_shared.specs.declared.kept.CallError.{CallError}
 use Rattle.rh_shared.specs.declared.kept.CallError.TheVariants as call_errors
 use Rattle.rh_shared.specs.declared.closing.CloseError.{CloseError}
 use Rattle.rh_shared.specs.declared.closing.CloseError.TheVariants as close_errors
-use Rattle.rh_shared.specs.SharedConfig.{StartState}
+use Rattle.rh_shared.specs.Start.{StartState}
 
 -- a mutator: its owner, and its share of the history with the most calls that this may have
 pub record MutatorState : Type 0 where

@@ -10,8 +10,8 @@ ghost use Rattle.rh_replay.specs.declared.call.Call.{Call};
 ghost use Rattle.rh_shared.specs.declared.kept.CallError.TheVariants as call_errors;
 ghost use Rattle.rh_shared.specs.Kept.{KeptState, kept_call, kept_increment, with_noted};
 ghost use Rattle.rh_shared.specs.Shares.{IsOneEach, MutatorState, first_mutators, with_answer};
-ghost use Rattle.rh_shared.specs.Collector.{with_heap};
-ghost use Rattle.rh_shared.specs.Increment.{increment, Met};
+ghost use Rattle.rh_increment.specs.Collector.{with_heap};
+ghost use Rattle.rh_increment.specs.Increment.{increment, Met};
 
 use rh_core::laws::refused_commands_change_nothing;
 use std::alloc::Allocator;

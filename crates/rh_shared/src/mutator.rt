@@ -1,7 +1,7 @@
 //! Who calls a shared heap.
 
 ghost use Rattle.std.specs.Prelude.{◌≡◌, ◌<◌, ◌≤◌, IfOk, length, Err};
-ghost use Rattle.rh_shared.specs.SharedConfig.{HasRoots};
+ghost use Rattle.rh_shared.specs.Start.{HasRoots};
 ghost use Rattle.rh_shared.specs.Shares.{first_mutators, with_answer};
 
 use crate::kept::{CallError, is_full, note};

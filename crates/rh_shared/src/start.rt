@@ -7,11 +7,12 @@ ghost use Rattle.rh_mutator.specs.Mutator.{StandsFor};
 ghost use Rattle.rh_replay.specs.History.{empty_history};
 ghost use Rattle.rh_shared.specs.Kept.{IsStart};
 ghost use Rattle.rh_shared.specs.Shares.{new_mutators};
-ghost use Rattle.rh_shared.specs.SharedConfig.{AreNewLinks, HasRoots, IsNewStart, shared_fault_of};
+ghost use Rattle.rh_increment.specs.SharedConfig.{shared_fault_of};
+ghost use Rattle.rh_shared.specs.Start.{AreNewLinks, HasRoots, IsNewStart};
 
-use crate::config::{MAX_REPLICATORS, SharedConfig, SharedFault};
 use crate::mutator::{Mutator, mutators_of};
 use rh_core::{Config, ConfigFault, Heap, HeapError};
+use rh_increment::{MAX_REPLICATORS, SharedConfig, SharedFault};
 use rh_layout::OutOfMemory;
 use rh_layout::limits::MAX_HISTORY_CALLS;
 use rh_replay::laws::a_legal_history_grows_by_the_steps_answer;
@@ -48,7 +49,7 @@ pub struct Start<A: Allocator + Copy = Global> {
 
 impl<A: Allocator + Copy> Model for Start<A> {
     ghost use Rattle.std.specs.Prelude.{map};
-    ghost use Rattle.rh_shared.specs.SharedConfig.{StartState};
+    ghost use Rattle.rh_shared.specs.Start.{StartState};
     ghost use Rattle.rh_shared.specs.Kept.{IsStart};
 
     ghost Value = { StartState A };

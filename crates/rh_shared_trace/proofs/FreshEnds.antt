@@ -3,7 +3,7 @@ use Rattle.std.proofs.Common.{ℕ, ◌+◌, List, [], ◌∷◌}
 use Rattle.std.specs.List.{AllByRecursion}
 use Rattle.rh_rings.specs.Ends.{EndsState}
 use Rattle.rh_rings.specs.Link.{RingState}
-use Rattle.rh_shared.specs.SharedConfig.{AreNewLinks}
+use Rattle.rh_shared.specs.Start.{AreNewLinks}
 use Rattle.rh_shared_trace.specs.Playing.{IsFresh}
 
 -- nothing went through the ends of new rings yet

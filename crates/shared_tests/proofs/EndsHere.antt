@@ -7,7 +7,7 @@ use Rattle.rh_rings.specs.Link.{RingState}
 use Rattle.rh_replicator.specs.declared.stepped.Stepped.{Stepped}
 use Rattle.rh_replicator.specs.declared.stepped.Stepped.TheVariants.{Idle, Folded, RingFull, OutOfMemory}
 use Rattle.rh_replicator.specs.Stepping.{HasStepped}
-use Rattle.rh_shared.specs.Settling.{ends_pair, pairs_of, AreEndsHere, IsNewHere, RingPair}
+use Rattle.rh_increment.specs.Settling.{ends_pair, pairs_of, AreEndsHere, IsNewHere, RingPair}
 use Rattle.shared_tests.specs.Beside.{IsHere}
 
 -- all but the last, and the last

@@ -1,7 +1,7 @@
 //! A heap without a lock, and its replicators beside it.
 
 ghost use Rattle.std.specs.List.{AllByRecursion};
-ghost use Rattle.rh_shared.specs.Settling.{IsNewHere};
+ghost use Rattle.rh_increment.specs.Settling.{IsNewHere};
 ghost use Rattle.shared_tests.specs.Beside.{IsHere};
 
 use crate::expectations::expect_equal;

@@ -1,7 +1,7 @@
 use Rattle.std.proofs.Common.{◌≡◌, length}
 use Rattle.std.specs.Prelude.{map}
 use Rattle.rh_rings.specs.Link.{LinkState}
-use Rattle.rh_shared.specs.SharedConfig.{AreNewLinks}
+use Rattle.rh_shared.specs.Start.{AreNewLinks}
 use Rattle.rh_shared.proofs.start.links_of.Given as goal
 
 abbrev pub invariant-loop-replicator : goal.invariant-loop-replicator
