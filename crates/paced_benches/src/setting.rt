@@ -14,7 +14,7 @@ pub struct Setting {
     pub passes: u32,
     /// The units of collector work for each allocated word.
     pub ratio: u32,
-    /// At how many hundredths of the words free a cycle begins; 0 for the filling pace.
+    /// At how many thousandths of the words free a cycle begins; 0 for the filling pace.
     pub mark: u32,
 }
 
@@ -23,7 +23,7 @@ impl Setting {
     pub fn pace(self, words: u32) -> Option<Pace> {
         let mut pace = Pace::filling(words, BIGGEST, self.ratio).ok()?;
         if self.mark != 0 {
-            pace.mark = u32::try_from(u64::from(words) * u64::from(self.mark) / 100).ok()?;
+            pace.mark = u32::try_from(u64::from(words) * u64::from(self.mark) / 1000).ok()?;
         }
         Some(pace)
     }
