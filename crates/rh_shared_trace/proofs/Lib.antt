@@ -1,3 +1,5 @@
 pub mod OwnLines
 pub mod FreshEnds
 pub mod Ending
+pub mod TellingCommands
+pub mod OneOwner

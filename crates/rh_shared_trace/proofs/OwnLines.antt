@@ -28,10 +28,10 @@ lines_of-other owner by line after r is other = rw is (rw (differ-eqb by owner o
 
 -- Calls.
 
-calls_of-own : (owner : ℕ) (c : Call) (cs : List Call) → c.owner ≡ owner → calls_of owner (c ∷ cs) ≡ c ∷ calls_of owner cs
+pub calls_of-own : (owner : ℕ) (c : Call) (cs : List Call) → c.owner ≡ owner → calls_of owner (c ∷ cs) ≡ c ∷ calls_of owner cs
 calls_of-own owner c cs same = rw (eq-eqb c.owner owner same) refl
 
-calls_of-other : (owner : ℕ) (c : Call) (cs : List Call) → (c.owner ≡ owner → ⊥) → calls_of owner (c ∷ cs) ≡ calls_of owner cs
+pub calls_of-other : (owner : ℕ) (c : Call) (cs : List Call) → (c.owner ≡ owner → ⊥) → calls_of owner (c ∷ cs) ≡ calls_of owner cs
 calls_of-other owner c cs other = rw (differ-eqb c.owner owner other) refl
 
 -- the calls of an owner from this position on, where the one there is its own
