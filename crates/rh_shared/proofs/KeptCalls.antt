@@ -165,6 +165,14 @@ meets-refused met k owner command refusal answer room accepted =
     let ok = subst (λ (x : Result Reply Refusal). is_ok x ≡ true) (sym answer) accepted in
     absurd (cc)
 
+pub meets-follows : {A : Type 0} (met : Met) (k : KeptState A) (owner : ℕ) (command : Command) (reply : Reply) → length k.recorder.history.calls < k.recorder.limit
+    → (heap_step k.collector.heap owner command).1 ≡ Ok reply → CallMeets met k owner command
+    → Meets met (with_heap k.collector (heap_step k.collector.heap owner command).0)
+unfolding CallMeets
+meets-follows met k owner command reply room told meets =
+    let accepted : is_ok (heap_step k.collector.heap owner command).1 ≡ true = subst (λ (x : Result Reply Refusal). is_ok x ≡ true) (sym told) refl in
+    meets (full_refusal-room k room) accepted
+
 -- An accepted call's increment is a run from the heap that was given the command.
 pub collected-accepted : {A : Type 0} (B : Type 0) (k : KeptState A) (owner : ℕ) (command : Command) (one after : CollectorState A)
     → one ≡ with_heap k.collector (heap_step k.collector.heap owner command).0

@@ -8,18 +8,18 @@ ghost use Rattle.rh_layout.specs.declared.refusal.Refusal.{Refusal};
 ghost use Rattle.rh_core.specs.Commands.{heap_step};
 ghost use Rattle.rh_replay.specs.declared.call.Call.{Call};
 ghost use Rattle.rh_shared.specs.declared.kept.CallError.TheVariants as call_errors;
-ghost use Rattle.rh_shared.specs.Kept.{KeptState, kept_call, kept_increment, with_noted};
+ghost use Rattle.rh_shared.specs.Kept.{CallMeets, KeptState, kept_call, kept_increment, with_noted};
 ghost use Rattle.rh_shared.specs.Shares.{IsOneEach, MutatorState, first_mutators, with_answer};
 ghost use Rattle.rh_increment.specs.Collector.{with_heap};
-ghost use Rattle.rh_increment.specs.Increment.{increment, Met};
+ghost use Rattle.rh_increment.specs.Increment.{increment, Meets, Met};
 
 use rh_core::laws::refused_commands_change_nothing;
 use std::alloc::Allocator;
 
 /// A call of a full history changes nothing. Else a call that the heap accepts is followed by one
-/// increment of the heap after it, and noted with its reply; one that the heap refuses changes
-/// nothing but the history, in which it is noted unless it was refused for a limit, and no
-/// increment follows it.
+/// increment of the heap after it, and noted with its reply, and what is met in that call is what
+/// that increment meets; one that the heap refuses changes nothing but the history, in which it is
+/// noted unless it was refused for a limit, and no increment follows it.
 pub fn a_call_is_noted_unless_a_limit_refused_it<A: Allocator + Copy>()
     ensures full { (met : Met) (k : KeptState A) (owner : ℕ) (command : Command)
         → length k.recorder.history.calls ≡ k.recorder.limit
@@ -35,6 +35,11 @@ pub fn a_call_is_noted_unless_a_limit_refused_it<A: Allocator + Copy>()
           }) owner command (Ok reply),
           Ok reply,
         )) }
+    ensures meets { (met : Met) (k : KeptState A) (owner : ℕ) (command : Command)
+        → length k.recorder.history.calls < k.recorder.limit → (reply : Reply)
+        → (heap_step k.collector.heap owner command).1 ≡ Ok reply
+        → CallMeets met k owner command
+        → Meets met (with_heap k.collector (heap_step k.collector.heap owner command).0) }
     ensures refused { (met : Met) (k : KeptState A) (owner : ℕ) (command : Command)
         → length k.recorder.history.calls < k.recorder.limit → (refusal : Refusal)
         → (heap_step k.collector.heap owner command).1 ≡ Err refusal
