@@ -5,3 +5,4 @@ pub mod SharesTogether
 pub mod NewLinks
 pub mod GrownShares
 pub mod CallPairs
+pub mod OneReason

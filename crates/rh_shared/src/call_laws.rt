@@ -1,4 +1,4 @@
-//! Laws of calls and of new mutators. Each function does nothing: its contract is the law.
+//! Laws of calls, of new mutators and of closing. Each function does nothing: its contract is the law.
 
 ghost use Rattle.std.specs.Prelude.{◌≡◌, ℕ, ◌<◌, ◌++◌, true, false, List, length, Ok, Err};
 ghost use Rattle.rh_layout.specs.Refusal.{is_limit};
@@ -7,9 +7,10 @@ ghost use Rattle.rh_layout.specs.declared.command.Reply.{Reply};
 ghost use Rattle.rh_layout.specs.declared.refusal.Refusal.{Refusal};
 ghost use Rattle.rh_core.specs.Commands.{heap_step};
 ghost use Rattle.rh_replay.specs.declared.call.Call.{Call};
+ghost use Rattle.rh_shared.specs.declared.closing.CloseError.{CloseError as CloseErrorOf};
 ghost use Rattle.rh_shared.specs.declared.kept.CallError.TheVariants as call_errors;
 ghost use Rattle.rh_shared.specs.Kept.{CallMeets, KeptState, kept_call, kept_increment, with_noted};
-ghost use Rattle.rh_shared.specs.Shares.{IsOneEach, MutatorState, first_mutators, with_answer};
+ghost use Rattle.rh_shared.specs.Shares.{HasShares, IsOneEach, MutatorState, WhyNotClosed, first_mutators, with_answer};
 ghost use Rattle.rh_increment.specs.Collector.{with_heap};
 ghost use Rattle.rh_increment.specs.Increment.{increment, Meets, Met};
 
@@ -81,4 +82,15 @@ pub fn an_increment_is_told_as_the_last<A: Allocator + Copy>()
 pub fn new_mutators_are_one_each()
     ensures { (owners slots limit : ℕ)
         → IsOneEach owners (first_mutators owners slots limit owners) }
+{}
+
+/// A shared heap has one reason at most why it isn't closed, and none where its mutators are one for
+/// each owner and each share is its owner's calls.
+pub fn one_reason_at_most_keeps_a_heap_open()
+    ensures one { (owners : ℕ) (mutators : List MutatorState) (calls : List Call)
+        (why other : CloseErrorOf) → WhyNotClosed owners mutators calls why
+        → WhyNotClosed owners mutators calls other → why ≡ other }
+    ensures none { (owners : ℕ) (mutators : List MutatorState) (calls : List Call)
+        (why : CloseErrorOf) → IsOneEach owners mutators → HasShares mutators calls
+        → ¬ WhyNotClosed owners mutators calls why }
 {}
