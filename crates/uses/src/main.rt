@@ -6,6 +6,7 @@ mod full;
 mod list;
 mod owners;
 mod problem;
+mod queue;
 mod recorded;
 
 use problem::Problem;
@@ -20,6 +21,8 @@ fn run(rt: &(impl Print + AllocGlobal)) -> Result<(), Problem> {
     println!(rt; "owners shared {shared}")?;
     let live = full::run(alloc)?;
     println!(rt; "full live {live}")?;
+    let cycles = queue::run(alloc, 10_000)?;
+    println!(rt; "queue cycles {cycles}")?;
     let (calls, objects) = recorded::run(alloc)?;
     println!(rt; "recorded calls {calls} objects {objects}")?;
     Ok(())

@@ -1,5 +1,8 @@
 //! What can go wrong in these programs.
 
+ghost use Rattle.std.specs.Prelude.{◌≡◌};
+ghost use Rattle.uses.specs.declared.problem.Problem.TheVariants as problems;
+
 use rh_core::HeapError;
 use rh_layout::{OutOfMemory, Refusal};
 use rh_pace::PaceError;
@@ -12,13 +15,13 @@ use thiserror::Error;
 pub enum Problem {
     /// The sizes make no heap, or memory was refused.
     #[error("no heap: {0}")]
-    Heap(#[from] HeapError),
+    Heap(HeapError),
     /// No pace keeps up with these sizes.
     #[error("no pace: {0}")]
-    Pace(#[from] PaceError),
+    Pace(PaceError),
     /// A call was refused.
     #[error("refused: {0}")]
-    Refused(#[from] Refusal),
+    Refused(Refusal),
     /// No history is recorded.
     #[error("no recorder: {0}")]
     Recorder(#[from] RecorderError),
@@ -34,4 +37,28 @@ pub enum Problem {
     /// An answer isn't what the program knows it to be.
     #[error("an answer is wrong")]
     Answer,
+}
+
+impl From<HeapError> for Problem {
+    ghost from_gives = { λ error problem. problem ≡ problems.Heap error };
+
+    fn from(error: HeapError) -> Problem {
+        Problem::Heap(error)
+    }
+}
+
+impl From<PaceError> for Problem {
+    ghost from_gives = { λ error problem. problem ≡ problems.Pace error };
+
+    fn from(error: PaceError) -> Problem {
+        Problem::Pace(error)
+    }
+}
+
+impl From<Refusal> for Problem {
+    ghost from_gives = { λ refusal problem. problem ≡ problems.Refused refusal };
+
+    fn from(refusal: Refusal) -> Problem {
+        Problem::Refused(refusal)
+    }
 }

@@ -1,0 +1,121 @@
+//! A queue that lives in 45 % of its space: cells join behind the last one and leave from the
+//! front, and no call is ever refused for want of room.
+
+ghost use Rattle.std.specs.Prelude.{◌≡◌, ◌++◌, ℕ, false, List, [], IfErr};
+ghost use Rattle.rh_layout.specs.declared.command.Command.{Command};
+ghost use Rattle.rh_pace.specs.Worked.{first_cell, one_joins, one_leaves, queue_calls, times};
+ghost use Rattle.uses.specs.Queue.{IsServed, WillHaveRoom, lacks_room};
+
+use crate::problem::Problem;
+use rh_layout::{Operand, Refusal, RootId};
+use rh_pace::laws::calls::a_command_moves_the_epoch_by_one_at_most;
+use rh_pace::laws::in_time::a_cycle_goes_on_only_as_long_as_its_lag;
+use rh_pace::laws::plain_bounds::what_is_bounded_on_a_plain_heap_has_room;
+use rh_pace::laws::worked::a_queue_in_45_percent_of_the_space_has_room;
+use rh_pace::{Pace, PacedHeap};
+use std::alloc::Allocator;
+
+const WORDS: u32 = 2218;
+
+const LIVE: u32 = 1000;
+
+const RATIO: u32 = 8;
+
+/// The words of a cell: a header, a forward word, a value and the cell behind it.
+const CELL_WORDS: u32 = 4;
+
+/// The cells beside the first one: with one that joins they take the live words.
+const CELLS: u32 = 248;
+
+const OWNER: u32 = 1;
+
+const FIRST: RootId = RootId { owner: 1, slot: 0 };
+
+const LAST: RootId = RootId { owner: 1, slot: 1 };
+
+const NEW: RootId = RootId { owner: 1, slot: 2 };
+
+/// Fills the queue, and lets one cell join and one leave so many times. Answers how many cycles
+/// there were.
+pub fn run<A: Allocator + Copy>(alloc: A, rounds: u32) -> Result<u64, Problem>
+    ensures { IfErr result (λ problem. lacks_room problem ≡ false) }
+{
+    // Only for the proof: the queue stays within the bounds of its pace, and the log holds its lag.
+    a_queue_in_45_percent_of_the_space_has_room::<A>();
+    what_is_bounded_on_a_plain_heap_has_room::<A>();
+    a_cycle_goes_on_only_as_long_as_its_lag();
+    let pace = Pace::of(WORDS, LIVE, CELL_WORDS, RATIO)?;
+    let mut heap = PacedHeap::new(alloc, pace.config(WORDS, RATIO, 2, 3), pace)?;
+    play(&mut heap, rounds)?;
+    Ok(heap.stat().flips)
+}
+
+/// The queue is filled, and then one joins and one leaves so many times.
+fn play<A: Allocator + Copy>(heap: &mut PacedHeap<A>, rounds: u32) -> Result<(), Refusal>
+    ensures { WillHaveRoom heap.old (queue_calls 248 rounds)
+        → IsServed result (WillHaveRoom heap.new []) }
+{
+    start(heap)?;
+    fill(heap)?;
+    turn(heap, rounds)?;
+    Ok(())
+}
+
+/// The cells beside the first one join.
+fn fill<A: Allocator + Copy>(heap: &mut PacedHeap<A>) -> Result<(), Refusal>
+    ensures { (rest : List (ℕ × Command))
+        → WillHaveRoom heap.old (times 248 one_joins ++ rest)
+        → IsServed result (WillHaveRoom heap.new rest) }
+{
+    for _ in 0..CELLS {
+        join(heap)?;
+    }
+    Ok(())
+}
+
+/// One joins and one leaves, so many times.
+fn turn<A: Allocator + Copy>(heap: &mut PacedHeap<A>, rounds: u32) -> Result<(), Refusal>
+    ensures { (rest : List (ℕ × Command))
+        → WillHaveRoom heap.old (times rounds (one_joins ++ one_leaves) ++ rest)
+        → IsServed result (WillHaveRoom heap.new rest) }
+{
+    for _ in 0..rounds {
+        join(heap)?;
+        leave(heap)?;
+    }
+    Ok(())
+}
+
+/// The first cell is made.
+fn start<A: Allocator + Copy>(heap: &mut PacedHeap<A>) -> Result<(), Refusal>
+    ensures { (rest : List (ℕ × Command)) → WillHaveRoom heap.old (first_cell ++ rest)
+        → IsServed result (WillHaveRoom heap.new rest) }
+{
+    a_command_moves_the_epoch_by_one_at_most();
+    heap.alloc(OWNER, FIRST, CELL_WORDS - 2)?;
+    heap.copy(OWNER, LAST, FIRST)?;
+    Ok(())
+}
+
+/// A new cell joins behind the last one.
+fn join<A: Allocator + Copy>(heap: &mut PacedHeap<A>) -> Result<(), Refusal>
+    ensures { (rest : List (ℕ × Command)) → WillHaveRoom heap.old (one_joins ++ rest)
+        → IsServed result (WillHaveRoom heap.new rest) }
+{
+    a_command_moves_the_epoch_by_one_at_most();
+    heap.alloc(OWNER, NEW, CELL_WORDS - 2)?;
+    heap.store(OWNER, LAST, 1, Operand::Root(NEW))?;
+    heap.copy(OWNER, LAST, NEW)?;
+    heap.drop(OWNER, NEW)?;
+    Ok(())
+}
+
+/// The first one leaves.
+fn leave<A: Allocator + Copy>(heap: &mut PacedHeap<A>) -> Result<(), Refusal>
+    ensures { (rest : List (ℕ × Command)) → WillHaveRoom heap.old (one_leaves ++ rest)
+        → IsServed result (WillHaveRoom heap.new rest) }
+{
+    a_command_moves_the_epoch_by_one_at_most();
+    heap.load(OWNER, FIRST, FIRST, 1)?;
+    Ok(())
+}
