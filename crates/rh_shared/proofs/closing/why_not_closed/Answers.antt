@@ -37,3 +37,19 @@ returns-in-None-clause-closed g c =
     let each : IsOneEach owners ms = c.if-not-is_one_each.ensures.0 refl in
     let same : HasShares ms calls = stranger-none owners ms calls each (λ o within. c.loop-owner.invariant o (omega (arith, within, c.loop-owner-test.false))) c.in-None.ensures in
     (subst (λ n. IsOneEach n ms) owners_are each, subst (λ (cs : List Call). HasShares ms cs) calls_are same)
+
+pub returns-in-Some-clause-why : goal.returns-in-Some-clause-why
+returns-in-Some-clause-why g c =
+    let ms = c.args.mutators.now in
+    let owners = c.config-owners.result.owners in
+    let calls = c.calls-calls.result.now in
+    let kept = c.args.kept.now in
+    let owners_are : owners ≡ kept.collector.heap.mutators.roots.owners =
+    ap (λ (d : Config). d.owners) c.config-owners.ensures.config ∙ ap (λ (h : HeapState). h.mutators.config.owners) (c.heap-2.ensures.heap ∙ sym c.heap.ensures.heap)
+    ∙ sym c.used.ensures.heap.mutators.owners ∙ ap (λ (h : HeapState). h.mutators.roots.owners) c.heap.ensures.heap in
+    let calls_are : calls ≡ kept.recorder.history.calls = c.calls-calls.ensures.calls ∙ ap (λ (h : HistoryState). h.calls) c.history.ensures.history in
+    let each : IsOneEach owners ms = c.if-not-is_one_each.ensures.0 refl in
+    let differs : HistoryDiffersAt ms calls c.loop-owner.owner c.in-Some.at = record { differs = c.in-Some.ensures.differs; least = c.loop-owner.invariant } in (
+      subst (λ n. IsOneEach n ms) owners_are each,
+      subst (λ (cs : List Call). HistoryDiffersAt ms cs c.loop-owner.owner c.in-Some.at) calls_are differs,
+    )
