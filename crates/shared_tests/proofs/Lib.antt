@@ -1,1 +1,2 @@
 pub mod EndsHere
+pub mod FreshEnds

@@ -4,11 +4,15 @@
 #[cfg(test)]
 mod beside;
 #[cfg(test)]
+mod beside_calls;
+#[cfg(test)]
 mod closing;
 #[cfg(test)]
 mod crews;
 #[cfg(test)]
 mod expectations;
+#[cfg(test)]
+mod gates;
 #[cfg(test)]
 mod kept;
 #[cfg(test)]
