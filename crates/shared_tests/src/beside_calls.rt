@@ -3,7 +3,7 @@
 ghost use Rattle.std.specs.List.{AllByRecursion};
 ghost use Rattle.rh_shared_trace.specs.Playing.{IsFresh};
 
-use crate::expectations::expect_equal;
+use crate::expectations::{expect_equal, play_again};
 use crate::gates::{LOOKS, Signs, Watched, is_seen};
 use crate::kept::{A, B, NOTHING};
 use crate::starts::{EAGER, SMALL};
@@ -136,11 +136,5 @@ fn meet<R: Threads + Wait + Sync + AllocGlobal + Abort>(rt: &R) -> Result<(), Fa
 
 #[test]
 fn replicators_fold_beside_calls(rt: HostRuntime) -> Result<(), Fail> {
-    let mut met: u32 = 0;
-    for _ in 0..200u32 {
-        meet(&rt)?;
-        met = met.saturating_add(1);
-    }
-    expect_equal(&rt, met, 200);
-    Ok(())
+    play_again(&rt, || meet(&rt))
 }

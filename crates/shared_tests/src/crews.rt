@@ -1,6 +1,6 @@
 //! Crews: replicators in threads of their own, beside work in this one.
 
-use crate::expectations::expect_equal;
+use crate::expectations::{expect_equal, play_again};
 use crate::gates::{LOOKS, Signs, Watched, is_seen};
 use crate::replicators::{piece_of, push, rings_of, waiting};
 use refusing::{RefusingAllocator, refused_in_turn};
@@ -60,30 +60,29 @@ fn meet<R: Threads + Wait + Sync + AllocGlobal + Abort>(rt: &R) -> Result<(), Fa
 
 #[test]
 fn two_replicators_run_beside_work(rt: HostRuntime) -> Result<(), Fail> {
-    let mut met: u32 = 0;
-    for _ in 0..200u32 {
-        meet(&rt)?;
-        met = met.saturating_add(1);
-    }
-    expect_equal(&rt, met, 200);
-    Ok(())
+    play_again(&rt, || meet(&rt))
 }
 
-#[test]
-fn a_crew_without_turns_does_the_work(rt: HostRuntime) -> Result<(), Fail> {
-    let (_link, one) = rings_of(&rt, 0);
+/// Plays a replicator that gets no turns.
+fn spend_no_turns<R: Threads + Wait + Sync + AllocGlobal + Abort>(rt: &R) -> Result<(), Fail> {
+    let (_link, one) = rings_of(rt, 0);
     let mut replicators = Vec::with_capacity(rt.alloc(), 1)?;
     replicators.push((one, OpenGate))?;
     let stop = AtomicBool::new(false);
     let worked = AtomicBool::new(false);
-    let ended = crew(&rt, rt.alloc(), replicators, &stop, 0, || {
+    let ended = crew(rt, rt.alloc(), replicators, &stop, 0, || {
         worked.store(true, Ordering::SeqCst);
     });
     let mut ended = ended.ok().ok_or("it starts")?;
     assert!(rt; worked.load(Ordering::SeqCst) && stop.load(Ordering::SeqCst));
     let (_one, end) = ended.pop().ok_or("the first")?;
-    expect_equal(&rt, end, RunEnd::TurnsSpent);
+    expect_equal(rt, end, RunEnd::TurnsSpent);
     Ok(())
+}
+
+#[test]
+fn a_crew_without_turns_does_the_work(rt: HostRuntime) -> Result<(), Fail> {
+    play_again(&rt, || spend_no_turns(&rt))
 }
 
 /// Whether a crew of two, on rings from memory that is ample, met want of memory. The work wasn't
@@ -114,9 +113,15 @@ where
     }
 }
 
-#[test]
-fn a_refused_crew_does_no_work(rt: HostRuntime) {
+/// Refuses each allocation of a crew in turn.
+fn refuse_crews<R: Threads + Wait + Sync + AllocGlobal + Abort>(rt: &R) -> Result<(), Fail> {
     let ample = RefusingAllocator::new(rt.alloc(), 0);
-    let crews = refused_in_turn(rt.alloc(), |memory| crew_is_refused(&rt, &ample, memory));
-    expect_equal(&rt, crews, Ok(2));
+    let crews = refused_in_turn(rt.alloc(), |memory| crew_is_refused(rt, &ample, memory));
+    expect_equal(rt, crews, Ok(2));
+    Ok(())
+}
+
+#[test]
+fn a_refused_crew_does_no_work(rt: HostRuntime) -> Result<(), Fail> {
+    play_again(&rt, || refuse_crews(&rt))
 }

@@ -1,6 +1,6 @@
 //! Mutators in threads of their own.
 
-use crate::expectations::expect_equal;
+use crate::expectations::{expect_equal, play_again};
 use crate::starts::{EAGER, SMALL};
 use rh_core::Config;
 use rh_layout::{Command, Operand, Refusal, Reply, RootId};
@@ -9,7 +9,7 @@ use rh_shared::{CloseError, Mutator, SharedConfig, SharedHeap, Start, close};
 use std::process::Abort;
 use std::sync::Wait;
 use std::test::Fail;
-use std::thread;
+use std::thread::{self, Threads};
 
 /// Three owners with two slots each, and ample space.
 pub const LARGE: Config = Config {
@@ -113,67 +113,78 @@ fn expect_answers(rt: &impl Abort, calls: &[Call], number: i64) {
     );
 }
 
-#[test]
-fn two_threads_make_one_history(rt: HostRuntime) -> Result<(), Fail> {
-    let (shared, mut mutators) = shared_of(&rt, LARGE, HALF);
+/// Two threads play owners 1 and 2 on one heap.
+fn make_one_history<R: Threads + Wait + Sync + AllocGlobal + Abort>(rt: &R) -> Result<(), Fail> {
+    let (shared, mut mutators) = shared_of(rt, LARGE, HALF);
     let two = mutators.pop().ok_or("owner 2")?;
     let one = mutators.pop().ok_or("owner 1")?;
     let (one, two) = thread::join(
-        &rt,
-        || played(&rt, &shared, &shared, one),
-        || played(&rt, &shared, &shared, two),
+        rt,
+        || played(rt, &shared, &shared, one),
+        || played(rt, &shared, &shared, two),
     );
-    expect_answers(&rt, one.calls(), 1);
-    expect_answers(&rt, two.calls(), 2);
+    expect_answers(rt, one.calls(), 1);
+    expect_answers(rt, two.calls(), 2);
     // In any order of the list.
     mutators.push(two)?;
     mutators.push(one)?;
     let kept = close(shared, mutators).ok().ok_or("all calls are there")?;
     let verdict = check(rt.alloc(), kept.history()).ok();
-    expect_equal(&rt, verdict, Some(Verdict::Legal(10)));
+    expect_equal(rt, verdict, Some(Verdict::Legal(10)));
+    Ok(())
+}
+
+#[test]
+fn two_threads_make_one_history(rt: HostRuntime) -> Result<(), Fail> {
+    play_again(&rt, || make_one_history(&rt))
+}
+
+/// Two threads play both owners, and the heap is closed without the second one's calls.
+fn miss_an_owner<R: Threads + Wait + Sync + AllocGlobal + Abort>(rt: &R) -> Result<(), Fail> {
+    let (shared, mut mutators) = shared_of(rt, LARGE, HALF);
+    let two = mutators.pop().ok_or("owner 2")?;
+    let one = mutators.pop().ok_or("owner 1")?;
+    let (one, two) = thread::join(
+        rt,
+        || played(rt, &shared, &shared, one),
+        || played(rt, &shared, &shared, two),
+    );
+    mutators.push(one)?;
+    expect_equal(rt, two.calls().len(), 5);
+    let left = close(shared, mutators).err().ok_or("owner 2 is missing")?;
+    expect_equal(rt, left.why, CloseError::SharesMissing);
+    expect_equal(rt, left.mutators.len(), 2);
+    expect_equal(rt, left.kept.history().calls().len(), 10);
     Ok(())
 }
 
 #[test]
 fn an_owner_is_missed(rt: HostRuntime) -> Result<(), Fail> {
-    let (shared, mut mutators) = shared_of(&rt, LARGE, HALF);
-    let two = mutators.pop().ok_or("owner 2")?;
-    let one = mutators.pop().ok_or("owner 1")?;
-    let (one, two) = thread::join(
-        &rt,
-        || played(&rt, &shared, &shared, one),
-        || played(&rt, &shared, &shared, two),
-    );
-    mutators.push(one)?;
-    expect_equal(&rt, two.calls().len(), 5);
-    let left = close(shared, mutators).err().ok_or("owner 2 is missing")?;
-    expect_equal(&rt, left.why, CloseError::SharesMissing);
-    expect_equal(&rt, left.mutators.len(), 2);
-    expect_equal(&rt, left.kept.history().calls().len(), 10);
-    Ok(())
+    play_again(&rt, || miss_an_owner(&rt))
 }
 
-#[test]
-fn another_answer_is_found(rt: HostRuntime) -> Result<(), Fail> {
-    let (shared, mut mutators) = shared_of(&rt, LARGE, HALF);
-    let (other, _others) = shared_of(&rt, LARGE, HALF);
+/// Two threads play both owners, the second one's fourth call on another heap.
+fn find_another_answer<R: Threads + Wait + Sync + AllocGlobal + Abort>(rt: &R) -> Result<(), Fail> {
+    let (shared, mut mutators) = shared_of(rt, LARGE, HALF);
+    let (other, _others) = shared_of(rt, LARGE, HALF);
     let two = mutators.pop().ok_or("owner 2")?;
     let one = mutators.pop().ok_or("owner 1")?;
     let (one, two) = thread::join(
-        &rt,
-        || played(&rt, &shared, &shared, one),
-        || played(&rt, &shared, &other, two),
+        rt,
+        || played(rt, &shared, &shared, one),
+        || played(rt, &shared, &other, two),
     );
     mutators.push(one)?;
     mutators.push(two)?;
     let left = close(shared, mutators)
         .err()
         .ok_or("the fourth call went astray")?;
-    expect_equal(
-        &rt,
-        left.why,
-        CloseError::HistoryDiffers { owner: 2, at: 4 },
-    );
-    expect_equal(&rt, left.kept.history().calls().len(), 9);
+    expect_equal(rt, left.why, CloseError::HistoryDiffers { owner: 2, at: 4 });
+    expect_equal(rt, left.kept.history().calls().len(), 9);
     Ok(())
+}
+
+#[test]
+fn another_answer_is_found(rt: HostRuntime) -> Result<(), Fail> {
+    play_again(&rt, || find_another_answer(&rt))
 }

@@ -1,6 +1,6 @@
 //! Traces that are played on a shared heap, with mutators and replicators in threads.
 
-use crate::expectations::{expect_equal, expect_refusals, expect_texts};
+use crate::expectations::{expect_equal, expect_refusals, expect_texts, play_again};
 use refusing::refused_in_turn;
 use rh_core::ConfigFault;
 use rh_replay::{Verdict, check, read_history};
@@ -10,6 +10,7 @@ use rh_syntax::{Kind, TraceFault};
 use std::alloc::Allocator;
 use std::process::Abort;
 use std::sync::Wait;
+use std::test::Fail;
 use std::thread::Threads;
 
 /// No replicators, and no idle words.
@@ -134,7 +135,10 @@ fn faults_of_traces(rt: HostRuntime) {
 
 /// Ends the test unless the history of two owners is read, is legal and has all their calls: none
 /// meets a limit.
-fn plays_legally<R: AllocGlobal + Abort + Threads + Wait + Sync>(rt: &R, options: RunOptions) {
+fn plays_legally<R: AllocGlobal + Abort + Threads + Wait + Sync>(
+    rt: &R,
+    options: RunOptions,
+) -> Result<(), Fail> {
     let mut reader = SHARED;
     let mut written = Vec::new(rt.alloc());
     let outcome = run_shared(rt, rt.alloc(), &mut reader, &mut written, options);
@@ -142,17 +146,18 @@ fn plays_legally<R: AllocGlobal + Abort + Threads + Wait + Sync>(rt: &R, options
     let history = read_history(rt.alloc(), &written).expect(rt, "a history");
     let verdict = check(rt.alloc(), &history).ok();
     expect_equal(rt, verdict, Some(Verdict::Legal(20)));
+    Ok(())
 }
 
 #[test]
-fn histories_of_two_owners(rt: HostRuntime) {
-    plays_legally(&rt, ALONE);
-    plays_legally(&rt, TWO);
+fn histories_of_two_owners(rt: HostRuntime) -> Result<(), Fail> {
+    play_again(&rt, || plays_legally(&rt, ALONE))?;
+    play_again(&rt, || plays_legally(&rt, TWO))?;
     let idle = RunOptions {
         replicators: 2,
         idle: 1,
     };
-    plays_legally(&rt, idle);
+    play_again(&rt, || plays_legally(&rt, idle))
 }
 
 /// Whether memory was refused to a run. Ends the test where anything else came of it but the whole
