@@ -109,9 +109,9 @@ fn meet<R: Threads + Wait + Sync + AllocGlobal + Abort>(rt: &R) -> Result<(), Fa
     let start = Start::new(rt.alloc(), SMALL, GATES)
         .ok()
         .ok_or("it starts")?;
-    let (shared, mut mutators, mut ends) = SharedHeap::new(rt.alloc(), start)
-        .ok()
-        .ok_or("memory is ample")?;
+    let Ok((shared, mut mutators, mut ends)) = SharedHeap::new(rt.alloc(), start) else {
+        return Err(Fail::from("memory is ample"));
+    };
     let mut one = mutators.pop().ok_or("owner 1")?;
     call_thrice(rt, &shared, &mut one);
     let second = last_of(rt.alloc(), &mut ends).ok_or("the second")?;
