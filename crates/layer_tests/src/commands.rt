@@ -29,6 +29,10 @@ pub fn alloc(dst: RootId, fields: u32) -> Command {
     Command::Alloc { dst, fields }
 }
 
+pub fn raw(dst: RootId, fields: u32) -> Command {
+    Command::Raw { dst, fields }
+}
+
 pub fn load(dst: RootId, src: RootId, field: u32) -> Command {
     Command::Load { dst, src, field }
 }

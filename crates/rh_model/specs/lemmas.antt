@@ -1,4 +1,5 @@
 pub mod Elements
+pub mod Objects
 pub mod RootValue
 pub mod SameGraph
 pub mod Step

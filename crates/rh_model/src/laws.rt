@@ -8,6 +8,8 @@ ghost use Rattle.std.specs.Prelude.{
   ◌<◌,
   ◌≤◌,
   Bool,
+  true,
+  false,
   IsTrue,
   List,
   Option,
@@ -26,6 +28,7 @@ ghost use Rattle.rh_layout.specs.declared.refusal.Refusal.{Refusal};
 ghost use Rattle.rh_layout.specs.declared.value.Value.{Value};
 ghost use Rattle.rh_layout.specs.declared.value.Value.TheVariants.{Nil, Int, Ref};
 ghost use Rattle.rh_layout.specs.Refusal.{rank_of};
+ghost use Rattle.rh_layout.specs.Shape.{shape_of};
 ghost use Rattle.rh_model.specs.Effects.{
   IsObject,
   RefersToObjects,
@@ -73,7 +76,7 @@ pub fn same_graph_is_reflexive()
 {}
 
 /// Two graphs are the same where each root holds one value in both, and the objects of a set of
-/// names have the same fields in both, if the set has each name that a root refers to, and each
+/// names have the same fields and kinds in both, if the set has each name that a root refers to, and each
 /// that a field of its objects refers to. So how many owners and slots there are, and what isn't
 /// reached, play no part.
 pub fn same_graph_speaks_of_what_is_reached()
@@ -81,7 +84,8 @@ pub fn same_graph_speaks_of_what_is_reached()
         → ((r : RootId) → root_value g r ≡ root_value h r)
         → ((r : RootId) (a : ℕ) → root_value g r ≡ Ref a → IsTrue (set a))
         → ((a f b : ℕ) → IsTrue (set a) → HoldsField g a f (Ref b) → IsTrue (set b))
-        → ((a : ℕ) → IsTrue (set a) → IsObject g a × (g.fields a ≡ h.fields a))
+        → ((a : ℕ) → IsTrue (set a) → IsObject g a
+        × (g.fields a ≡ h.fields a) × (g.raw a ≡ h.raw a))
         → SameGraph g h }
 {}
 
@@ -166,7 +170,24 @@ pub fn alloc_makes_an_object()
     ensures { (p q : PlainHeap) → IsPlainHeap p
         → (owner : ℕ) (dst : RootId) (fields : ℕ) (reply : Reply)
         → step p owner (commands.Alloc dst fields) ≡ (q, Ok reply)
-        → (reply ≡ replies.Object fields) × MakesObject (graph_of p) (graph_of q) dst fields }
+        → (reply ≡ replies.Object fields)
+        × MakesObject (graph_of p) (graph_of q) dst (shape_of fields false) }
+{}
+
+/// An accepted `Raw` makes a raw object that was none before and that nothing referred to, of the
+/// number of fields asked for, all nil; the root names it, and all else stays.
+pub fn raw_makes_a_raw_object()
+    ensures { (p q : PlainHeap) → IsPlainHeap p
+        → (owner : ℕ) (dst : RootId) (fields : ℕ) (reply : Reply)
+        → step p owner (commands.Raw dst fields) ≡ (q, Ok reply)
+        → (reply ≡ replies.Raw fields)
+        × MakesObject (graph_of p) (graph_of q) dst (shape_of fields true) }
+{}
+
+/// A well-formed plain heap has no reference in a field of a raw object.
+pub fn raw_objects_hold_no_references()
+    ensures { (p : PlainHeap) → IsPlainHeap p → (a f b : ℕ)
+        → IsTrue ((graph_of p).raw a) → ¬ HoldsField (graph_of p) a f (Ref b) }
 {}
 
 /// After an accepted `Load` the root `dst` holds what the field held of the object that `src`

@@ -5,6 +5,7 @@ mod errors;
 pub mod laws;
 mod plain;
 mod plain_value;
+mod stored_object;
 
 pub use errors::{CommandError, PlainError};
 pub use plain::Plain;

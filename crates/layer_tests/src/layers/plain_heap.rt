@@ -1,6 +1,6 @@
 //! The plain heap, where no history reaches.
 
-use crate::commands::{Line, alloc, load, root, store};
+use crate::commands::{Line, alloc, load, raw, root, store};
 use crate::expectations::{expect_equal, expect_refusals, expect_text};
 use refusing::refused_in_turn;
 use rh_layout::{Command, Operand, Refusal, Reply};
@@ -40,6 +40,30 @@ fn texts_of_errors(rt: HostRuntime) {
     expect_text(&rt, PlainError::OutOfMemory, "out of memory");
     expect_text(&rt, CommandError::Refused(Refusal::NoRoot), "NoRoot");
     expect_text(&rt, CommandError::OutOfMemory, "out of memory");
+}
+
+#[test]
+fn raw_objects(rt: HostRuntime) {
+    let (object, other) = (root(1, 0), root(1, 1));
+    let above = Operand::Int(2_305_843_009_213_693_952);
+    let lines = [
+        (raw(object, 2), Ok(Reply::Raw(2))),
+        (store(object, 0, Operand::Root(object)), Err(Refusal::RawField)),
+        (store(object, 2, Operand::Root(object)), Err(Refusal::NoField)),
+        (store(object, 0, Operand::Int(5)), Ok(Reply::Done)),
+        (store(object, 1, Operand::Root(other)), Ok(Reply::Done)),
+        (store(object, 0, above), Err(Refusal::IntRange)),
+        (load(other, object, 0), Ok(Reply::Int(5))),
+        (raw(other, 4096), Err(Refusal::FieldsRange)),
+        (alloc(other, 1), Ok(Reply::Object(1))),
+        (store(other, 0, Operand::Root(object)), Ok(Reply::Done)),
+        (load(other, other, 0), Ok(Reply::Raw(2))),
+    ];
+    let mut plain = Plain::new(rt.alloc(), 2, 2).expect(&rt, "a plain heap");
+    play(&rt, &mut plain, &lines);
+    expect_equal(&rt, plain.raw(0), Some(true));
+    expect_equal(&rt, plain.raw(1), Some(false));
+    expect_equal(&rt, plain.raw(2), None);
 }
 
 /// Makes a plain heap, and two objects of which one refers to the other. Answers whether memory was

@@ -4,7 +4,7 @@ ghost use Rattle.std.specs.Prelude.{◌≡◌, if◌then◌else◌, [], length, 
 ghost use Rattle.std.specs.Option.{option_map};
 ghost use Rattle.rh_layout.specs.Root.{has_root};
 ghost use Rattle.rh_model.specs.Graph.{root_value};
-ghost use Rattle.rh_model.specs.Plain.{graph_of, IsPlain};
+ghost use Rattle.rh_model.specs.Plain.{field_lists, graph_of, kinds, IsPlain};
 ghost use Rattle.rh_model.specs.PlainValue.{value_of_plain};
 
 use crate::plain::Plain;
@@ -37,7 +37,7 @@ impl<A: Allocator + Copy> Plain<A> {
     /// How many fields the object has at this position in the list of objects, counted from 0;
     /// `None` where there is none.
     pub fn fields(&self, position: usize) -> Option<u32>
-        ensures { result ≡ option_map length (slice_get self.now.objects position) }
+        ensures { result ≡ option_map length (slice_get (field_lists self.now.objects) position) }
     {
         match self.fields_of(PlainValue::Object(position)) {
             None => None,
@@ -45,11 +45,23 @@ impl<A: Allocator + Copy> Plain<A> {
         }
     }
 
+    /// Whether the object is raw at this position in the list of objects, counted from 0; `None`
+    /// where there is none.
+    pub fn raw(&self, position: usize) -> Option<bool>
+        ensures { result ≡ slice_get (kinds self.now.objects) position }
+    {
+        if position < self.objects.len() {
+            Some(self.objects[position].raw)
+        } else {
+            None
+        }
+    }
+
     /// What the field, counted from 0, holds of the object at this position in the list of objects;
     /// `None` where there is no such field.
     pub fn field(&self, position: usize, field: u32) -> Option<PlainValue>
         ensures { option_map value_of_plain result
-            ≡ slice_get (unwrap_or (slice_get self.now.objects position) []) field }
+            ≡ slice_get (unwrap_or (slice_get (field_lists self.now.objects) position) []) field }
     {
         match self.fields_of(PlainValue::Object(position)) {
             None => None,
