@@ -54,7 +54,7 @@ impl Spaces {
     fn make(&mut self, rt: &impl Abort, fields: u32) {
         assert!(rt; fields <= 4095);
         from_space_goes_on();
-        let made = self.space.bump(fields);
+        let made = self.space.bump(fields, false);
         assert!(rt; made.is_ok());
     }
 
