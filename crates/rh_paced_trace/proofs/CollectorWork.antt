@@ -3,7 +3,7 @@ use Rattle.std.proofs.Common.{ℕ, zero, suc, Bool, true, false, List, [], ◌�
 use Rattle.std.specs.Prelude.{if◌then◌else◌}
 use Rattle.rh_work.specs.Work.{credit}
 use Rattle.rh_layout.specs.declared.command.Command.{Command}
-use Rattle.rh_layout.specs.declared.command.Command.TheVariants.{Alloc, Load, Store, Copy, Same, Drop}
+use Rattle.rh_layout.specs.declared.command.Command.TheVariants.{Alloc, Raw, Load, Store, Copy, Same, Drop}
 use Rattle.rh_layout.specs.declared.command.Reply.{Reply}
 use Rattle.rh_layout.specs.declared.command.RootId.{RootId}
 use Rattle.rh_layout.specs.declared.refusal.Refusal.{Refusal}
@@ -61,6 +61,7 @@ module _ {R : HeapState → HeapState → Type 0} (laws : WorkLaws R) where
 
   accepted : (command : Command) (s : PacedState) → R s.heap (after_accepted command s).heap
   accepted (Alloc dst fields) s = incremented s.pace.mark s.heap
+  accepted (Raw dst fields) s = incremented s.pace.mark s.heap
   accepted (Load dst src field) s = laws.none s.heap
   accepted (Store obj field operand) s = paid s.heap.mutators.cycle s
   accepted (Copy dst src) s = laws.none s.heap

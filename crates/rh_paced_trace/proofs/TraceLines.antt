@@ -1,12 +1,13 @@
 -- The lines of a trace: its commands, the first line that is none, and the biggest object.
-use Rattle.std.proofs.Common.{◌≡◌, ℕ, zero, suc, ◌+◌, ◌≤◌, ◌⊎◌, inl, inr, min, max, true, false, cond, List, [], ◌∷◌, length, take, map, Some, None, refl, sym, ap, subst, ◌∙◌, arith}
+use Rattle.std.proofs.Common.{◌≡◌, ℕ, zero, suc, ◌+◌, ◌≤◌, ◌⊎◌, inl, inr, min, max, true, false, cond, List, [], ◌∷◌, length, take, map, Option, Some, None, refl, sym, ap, subst, ◌∙◌, arith}
 use Rattle.std.specs.Prelude.{◌↔◌, count_by, slice_get}
 use Rattle.std.proofs.lemmas.Bool.{cases_lt}
 use Rattle.std.proofs.lemmas.List.Elements.{All-nil, All-cons, All-head, All-tail}
 use Rattle.std.proofs.lemmas.Option.{none-some, same_Some}
 use Rattle.rh_layout.specs.declared.command.Command.{Command}
-use Rattle.rh_layout.specs.declared.command.Command.TheVariants.{Alloc}
 use Rattle.rh_layout.specs.declared.command.RootId.{RootId}
+use Rattle.rh_layout.specs.declared.shape.Shape.{Shape}
+use Rattle.rh_layout.specs.Command.{made_by}
 use Rattle.rh_syntax.specs.declared.fault.Kind.TheVariants.{Word}
 use Rattle.rh_syntax.specs.declared.fault.TraceFault.{TraceFault}
 use Rattle.rh_syntax.specs.declared.request.Request.{Request}
@@ -14,7 +15,7 @@ use Rattle.rh_syntax.specs.declared.request.Request.TheVariants as requests
 use Rattle.rh_syntax.specs.Reading.{fault_at}
 use Rattle.rh_trace.specs.Events.{is_command}
 use Rattle.rh_trace.proofs.CountsByHead.{count_by-head}
-use Rattle.rh_paced_trace.specs.Lines.{AreCommands, Commands, IsFirstOther, biggest_of, commands_in, other_fault, words_asked}
+use Rattle.rh_paced_trace.specs.Lines.{AreCommands, Commands, IsFirstOther, biggest_of, commands_in, other_fault, words_asked, words_of_asked}
 
 -- the request is a command
 abbrev IsCommand : Request → Type 0
@@ -86,58 +87,62 @@ none_other number (request ∷ others) = (λ is. absurd (none-some _ (sym is)), 
 
 -- ---- the biggest object
 
--- a line allocates at this place
-abbrev Allocates : List Request → ℕ → ℕ → RootId → ℕ → Type 0
-Allocates all i owner dst fields = slice_get all i ≡ Some (requests.Command owner (Alloc dst fields))
-
--- some line allocates an object of so many words
-abbrev IsAllocated : List Request → ℕ → Type 0
-IsAllocated all words = (i : ℕ) × (owner : ℕ) × (dst : RootId) × (fields : ℕ) × Allocates all i owner dst fields × (words ≡ min fields 4095 + 2)
+-- some line makes an object of so many words
+abbrev IsMade : List Request → ℕ → Type 0
+IsMade all words =
+    (i : ℕ) × (owner : ℕ) × (command : Command) × (dst : RootId) × (shape : Shape)
+    × (slice_get all i ≡ Some (requests.Command owner command)) × (made_by command ≡ Some (dst, shape)) × (words ≡ min shape.fields 4095 + 2)
 
 within_max : (fields n : ℕ) → min fields 4095 + 2 ≤ max (min (fields + 2) 4097) n
 within_max fields n = omega arith
 
-bound_here : (request : Request) (others : List Request) (owner : ℕ) (dst : RootId) (fields : ℕ) → request ≡ requests.Command owner (Alloc dst fields)
-    → min fields 4095 + 2 ≤ biggest_of (commands_in (request ∷ others))
-bound_here request others owner dst fields is =
-    subst (λ (r : Request). min fields 4095 + 2 ≤ biggest_of (commands_in (r ∷ others))) (sym is) (within_max fields (biggest_of (commands_in others)))
+bound_here : (request : Request) (others : List Request) (owner : ℕ) (command : Command) (dst : RootId) (shape : Shape) → request ≡ requests.Command owner command → made_by command ≡ Some (dst, shape)
+    → min shape.fields 4095 + 2 ≤ biggest_of (commands_in (request ∷ others))
+bound_here request others owner command dst shape is made =
+    subst (λ (r : Request). min shape.fields 4095 + 2 ≤ biggest_of (commands_in (r ∷ others))) (sym is)
+    (subst (λ (x : Option (RootId × Shape)). min shape.fields 4095 + 2 ≤ max (words_of_asked x) (biggest_of (commands_in others))) (sym made) (within_max shape.fields (biggest_of (commands_in others))))
 
-pub biggest_bounds : (all : List Request) (i owner : ℕ) (dst : RootId) (fields : ℕ) → Allocates all i owner dst fields → min fields 4095 + 2 ≤ biggest_of (commands_in all)
-biggest_bounds [] i owner dst fields is = absurd (none-some _ is)
-biggest_bounds (request ∷ others) zero owner dst fields is = bound_here request others owner dst fields (same_Some _ _ is)
-biggest_bounds (requests.Command o c ∷ others) (suc i) owner dst fields is =
-    omega (arith, biggest_bounds others i owner dst fields is)
-biggest_bounds (request ∷ others) (suc i) owner dst fields is = biggest_bounds others i owner dst fields is
+pub biggest_bounds : (all : List Request) (i owner : ℕ) (command : Command) → slice_get all i ≡ Some (requests.Command owner command) → (dst : RootId) (shape : Shape) → made_by command ≡ Some (dst, shape)
+    → min shape.fields 4095 + 2 ≤ biggest_of (commands_in all)
+biggest_bounds [] i owner command is dst shape made = absurd (none-some _ is)
+biggest_bounds (request ∷ others) zero owner command is dst shape made = bound_here request others owner command dst shape (same_Some _ _ is) made
+biggest_bounds (requests.Command o c ∷ others) (suc i) owner command is dst shape made =
+    omega (arith, biggest_bounds others i owner command is dst shape made)
+biggest_bounds (request ∷ others) (suc i) owner command is dst shape made = biggest_bounds others i owner command is dst shape made
 
 -- a line further on
-allocated_on : (request : Request) (others : List Request) (words : ℕ) → IsAllocated others words → IsAllocated (request ∷ others) words
-allocated_on request others words is = (suc is.0, is.1, is.2, is.3, is.4, is.5)
+made_on : (request : Request) (others : List Request) (words : ℕ) → IsMade others words → IsMade (request ∷ others) words
+made_on request others words is = (suc is.0, is.1, is.2, is.3, is.4, is.5, is.6, is.7)
 
-reached_on : (request : Request) (others : List Request) (words old : ℕ) → words ≡ old → (old ≡ 2) ⊎ IsAllocated others old → (words ≡ 2) ⊎ IsAllocated (request ∷ others) words
+reached_on : (request : Request) (others : List Request) (words old : ℕ) → words ≡ old → (old ≡ 2) ⊎ IsMade others old → (words ≡ 2) ⊎ IsMade (request ∷ others) words
 reached_on request others words old same (inl is) = inl (same ∙ is)
-reached_on request others words old same (inr is) = inr (allocated_on request others words (subst (IsAllocated others) (sym same) is))
+reached_on request others words old same (inr is) = inr (made_on request others words (subst (IsMade others) (sym same) is))
 
 larger : (m n : ℕ) → (max m n ≡ m) ⊎ (max m n ≡ n)
 larger m n = elim (cases_lt m n) [ inl less ↦ inr (omega (arith, less)) | inr more ↦ inl (omega (arith, more)) ]
 
-pub biggest_reached : (all : List Request) → (biggest_of (commands_in all) ≡ 2) ⊎ IsAllocated all (biggest_of (commands_in all))
-biggest_reached [] = inl refl
-biggest_reached (requests.Command o (Alloc dst fields) ∷ others) =
-    let rest = biggest_of (commands_in others) in
-    let here : min (fields + 2) 4097 ≡ min fields 4095 + 2 = omega arith in
-    elim (larger (min (fields + 2) 4097) rest) [
-      | inl is ↦ inr (0, o, dst, fields, refl, is ∙ here)
-      | inr is ↦ reached_on (requests.Command o (Alloc dst fields)) others (biggest_of (commands_in (requests.Command o (Alloc dst fields) ∷ others))) rest is (biggest_reached others)
+reached_made : (o : ℕ) (c : Command) (others : List Request) (made : Option (RootId × Shape)) → made_by c ≡ made → (biggest_of (commands_in others) ≡ 2) ⊎ IsMade others (biggest_of (commands_in others))
+    → (biggest_of (commands_in (requests.Command o c ∷ others)) ≡ 2) ⊎ IsMade (requests.Command o c ∷ others) (biggest_of (commands_in (requests.Command o c ∷ others)))
+reached_made o c others None none so =
+    let asked : words_asked c ≡ 0 = ap words_of_asked none in
+    reached_on (requests.Command o c) others (biggest_of (commands_in (requests.Command o c ∷ others))) (biggest_of (commands_in others)) (omega (arith, asked)) so
+reached_made o c others (Some made) is so =
+    let asked : words_asked c ≡ min (made.1.fields + 2) 4097 = ap words_of_asked is in
+    elim (larger (words_asked c) (biggest_of (commands_in others))) [
+      | inl same ↦ inr (0, o, c, made.0, made.1, refl, is, omega (arith, same, asked))
+      | inr same ↦ reached_on (requests.Command o c) others (biggest_of (commands_in (requests.Command o c ∷ others))) (biggest_of (commands_in others)) same so
     ]
-biggest_reached (requests.Command o c ∷ others) =
-    reached_on (requests.Command o c) others (biggest_of (commands_in (requests.Command o c ∷ others))) (biggest_of (commands_in others)) (omega arith) (biggest_reached others)
+
+pub biggest_reached : (all : List Request) → (biggest_of (commands_in all) ≡ 2) ⊎ IsMade all (biggest_of (commands_in all))
+biggest_reached [] = inl refl
+biggest_reached (requests.Command o c ∷ others) = reached_made o c others (made_by c) refl (biggest_reached others)
 biggest_reached (request ∷ others) =
     reached_on request others (biggest_of (commands_in others)) (biggest_of (commands_in others)) refl (biggest_reached others)
 
-asked_at_most : (command : Command) → words_asked command ≤ 4097
-asked_at_most (Alloc dst fields) = omega arith
-asked_at_most command = omega arith
+asked_at_most : (made : Option (RootId × Shape)) → words_of_asked made ≤ 4097
+asked_at_most None = omega arith
+asked_at_most (Some made) = omega arith
 
 pub biggest_at_most : (commands : Commands) → biggest_of commands ≤ 4097
 biggest_at_most [] = omega arith
-biggest_at_most (owned ∷ others) = omega (arith, asked_at_most owned.1, biggest_at_most others)
+biggest_at_most (owned ∷ others) = omega (arith, asked_at_most (made_by owned.1), biggest_at_most others)

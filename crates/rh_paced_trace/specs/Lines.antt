@@ -1,7 +1,9 @@
 -- The commands of a trace, its lines that are none, and the biggest object that it asks for.
 use Rattle.std.specs.Prelude.{◌≡◌, ℕ, ◌+◌, min, max, true, false, All, List, [], ◌∷◌, take, slice_get, IsSomeAnd, Option, Some, None, Result, Ok, Err}
 use Rattle.rh_layout.specs.declared.command.Command.{Command}
-use Rattle.rh_layout.specs.declared.command.Command.TheVariants.{Alloc, Load, Store, Copy, Same, Drop}
+use Rattle.rh_layout.specs.declared.command.RootId.{RootId}
+use Rattle.rh_layout.specs.declared.shape.Shape.{Shape}
+use Rattle.rh_layout.specs.Command.{made_by}
 use Rattle.rh_syntax.specs.declared.fault.Kind.TheVariants.{Word}
 use Rattle.rh_syntax.specs.declared.fault.TraceFault.{TraceFault}
 use Rattle.rh_syntax.specs.declared.request.Request.{Request}
@@ -32,14 +34,14 @@ abbrev pub fault_in : Result Script TraceFault → Option TraceFault
 fault_in (Err fault) = Some fault
 fault_in (Ok script) = other_fault 2 script.requests
 
--- the words of the object that a command asks for: its fields and 2, and at most 4,097
+-- the words of an object, where one is asked for: its fields and 2, and at most 4,097
+abbrev pub words_of_asked : Option (RootId × Shape) → ℕ
+words_of_asked None = 0
+words_of_asked (Some made) = min (made.1.fields + 2) 4097
+
+-- the words of the object that a command asks for
 abbrev pub words_asked : Command → ℕ
-words_asked (Alloc dst fields) = min (fields + 2) 4097
-words_asked (Load dst src field) = 0
-words_asked (Store obj field operand) = 0
-words_asked (Copy dst src) = 0
-words_asked (Same a b) = 0
-words_asked (Drop root) = 0
+words_asked command = words_of_asked (made_by command)
 
 -- the words of the biggest object that commands ask for, and at least 2
 abbrev pub biggest_of : Commands → ℕ

@@ -3,6 +3,8 @@
 ghost use Rattle.std.specs.Prelude.{◌≡◌, ◌↔◌, ◌⊎◌, ◌+◌, ◌≤◌, ℕ, List, [], length, map, min, take, count_by, slice_get, false, Some, None};
 ghost use Rattle.rh_layout.specs.declared.command.Command.{Command as CommandOf};
 ghost use Rattle.rh_layout.specs.declared.command.RootId.{RootId};
+ghost use Rattle.rh_layout.specs.declared.shape.Shape.{Shape};
+ghost use Rattle.rh_layout.specs.Command.{made_by};
 ghost use Rattle.rh_mutator.specs.Config.{fault_of};
 ghost use Rattle.rh_core.specs.runs.Programs.{AreUnlimited};
 ghost use Rattle.rh_syntax.specs.declared.fault.Kind.TheVariants.{Word};
@@ -58,16 +60,18 @@ pub fn the_first_line_that_is_no_command_is_told()
 {}
 
 /// The biggest object of a trace has as many words as the largest that a line allocates, its fields
-/// and 2: none has more, and one has as many, unless all have 2, or there is none. An allocation of
-/// more than 4,095 fields, which every heap refuses, counts as one of 4,095.
+/// and 2: none has more, and one has as many, unless all have 2, or there is none. One of more than
+/// 4,095 fields, which every heap refuses, counts as one of 4,095.
 pub fn the_biggest_object_is_the_largest_that_a_line_allocates()
-    ensures bound { (requests : List RequestOf) (i owner : ℕ) (dst : RootId) (fields : ℕ)
-        → slice_get requests i ≡ Some (RequestOf.Command owner (CommandOf.Alloc dst fields))
-        → min fields 4095 + 2 ≤ biggest_of (commands_in requests) }
+    ensures bound { (requests : List RequestOf) (i owner : ℕ) (command : CommandOf)
+        → slice_get requests i ≡ Some (RequestOf.Command owner command)
+        → (dst : RootId) (shape : Shape) → made_by command ≡ Some (dst, shape)
+        → min shape.fields 4095 + 2 ≤ biggest_of (commands_in requests) }
     ensures reached { (requests : List RequestOf) → (biggest_of (commands_in requests) ≡ 2)
-        ⊎ ((i : ℕ) × (owner : ℕ) × (dst : RootId) × (fields : ℕ)
-        × (slice_get requests i ≡ Some (RequestOf.Command owner (CommandOf.Alloc dst fields)))
-        × (biggest_of (commands_in requests) ≡ min fields 4095 + 2)) }
+        ⊎ ((i : ℕ) × (owner : ℕ) × (command : CommandOf) × (dst : RootId) × (shape : Shape)
+        × (slice_get requests i ≡ Some (RequestOf.Command owner command))
+        × (made_by command ≡ Some (dst, shape))
+        × (biggest_of (commands_in requests) ≡ min shape.fields 4095 + 2)) }
     ensures range { (requests : List RequestOf) → (2 ≤ biggest_of (commands_in requests))
         × (biggest_of (commands_in requests) ≤ 4097) }
 {}

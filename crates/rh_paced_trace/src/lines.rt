@@ -50,12 +50,8 @@ pub fn biggest_of(requests: &[Request]) -> u32
 fn words_asked(command: &Command) -> u32
     ensures { result ≡ words_asked command.now }
 {
-    match *command {
-        Command::Alloc { fields, .. } => fields.min(MAX_FIELDS) + HEADER_WORDS,
-        Command::Load { .. }
-        | Command::Store { .. }
-        | Command::Copy { .. }
-        | Command::Same { .. }
-        | Command::Drop { .. } => 0,
+    match command.made() {
+        Some((_, shape)) => shape.fields.min(MAX_FIELDS) + HEADER_WORDS,
+        None => 0,
     }
 }

@@ -1,8 +1,9 @@
 -- Which histories are of a trace: each owner's lines stand there, in order, with their answers.
-use Rattle.std.specs.Prelude.{◌≡◌, ◌⊎◌, ℕ, ◌<◌, ◌≤◌, ◌==◌, Bool, true, false, if◌then◌else◌, List, [], ◌∷◌, length}
+use Rattle.std.specs.Prelude.{◌≡◌, ◌⊎◌, ℕ, ◌<◌, ◌≤◌, ◌==◌, Bool, true, false, is_some, if◌then◌else◌, List, [], ◌∷◌, length}
 use Rattle.std.specs.List.{AllByRecursion}
 use Rattle.rh_layout.specs.declared.command.Command.{Command}
-use Rattle.rh_layout.specs.declared.command.Command.TheVariants.{Alloc, Load, Store, Copy, Same, Drop}
+use Rattle.rh_layout.specs.declared.command.Command.TheVariants.{Store}
+use Rattle.rh_layout.specs.Command.{made_by}
 use Rattle.rh_syntax.specs.declared.request.Request.{Request}
 use Rattle.rh_syntax.specs.declared.request.Request.TheVariants as requests
 use Rattle.rh_syntax.specs.Spelling.{Script}
@@ -19,12 +20,8 @@ lines_of owner (other ∷ others) = lines_of owner others
 
 -- whether a limit of the heap may refuse the command: only these take room or a number
 abbrev pub may_be_limited : Command → Bool
-may_be_limited (Alloc dst fields) = true
-may_be_limited (Load dst src field) = false
 may_be_limited (Store obj field operand) = true
-may_be_limited (Copy dst src) = false
-may_be_limited (Same a b) = false
-may_be_limited (Drop root) = false
+may_be_limited command = is_some (made_by command)
 
 -- a command may be left out of a history: it may have been refused for a limit of the heap, or the
 -- history is full

@@ -120,7 +120,7 @@ fn may_be_limited(command: &Command) -> bool
     ensures { result ≡ may_be_limited command.now }
 {
     match *command {
-        Command::Alloc { .. } | Command::Store { .. } => true,
+        Command::Alloc { .. } | Command::Raw { .. } | Command::Store { .. } => true,
         Command::Load { .. } | Command::Copy { .. } | Command::Same { .. } | Command::Drop { .. } =>
             false,
     }
