@@ -41,7 +41,7 @@ impl Spaces {
             return None;
         }
         from_space_goes_on();
-        self.space.bump(fields).ok()
+        self.space.bump(fields, false).ok()
     }
 
     /// Places the object at `a`, where there is one that isn't placed. Answers whether it did.
