@@ -6,6 +6,7 @@ use Rattle.std.proofs.Math.ListN.{length-map}
 use Rattle.std.proofs.lemmas.Bool.{and_parts, leb-true}
 use Rattle.std.proofs.lemmas.Option.{none-some, same_Some, slice_get-map, slice_get_within, get_or_from_slice_get}
 use Rattle.rh_layout.specs.Item.{Pair}
+use Rattle.rh_layout.specs.Value.{is_reference}
 use Rattle.rh_layout.specs.Root.{has_root, root_position}
 use Rattle.rh_layout.specs.declared.value.Value.{Value}
 use Rattle.rh_layout.specs.declared.value.Value.TheVariants.{Nil, Int, Ref}
@@ -16,7 +17,7 @@ use Rattle.rh_model.specs.Graph.{Graph, root_value}
 use Rattle.rh_model.specs.Reach.{Reached}
 use Rattle.rh_model.specs.SameGraph.{AreFieldsRenamed, IsPairing, SameGraph}
 use Rattle.rh_model.specs.Plain as plain
-use Rattle.rh_model.specs.Plain.{PlainHeap}
+use Rattle.rh_model.specs.Plain.{PlainHeap, PlainObject, field_lists}
 use Rattle.rh_mutator.specs.declared.config.ConfigFault.TheVariants.{BadSpace, BadRatio, BadRoots, BadLog, BadNumbers}
 use Rattle.rh_mutator.specs.declared.config.Config.{Config}
 use Rattle.rh_core.specs.Config.{is_within, fault_of}
@@ -75,13 +76,17 @@ module _ (m : MutatorState) (kept : IsMutator m) where
   found_pair None v is = absurd (none-some v is)
   found_pair (Some pair) v is = (pair, refl, same_Some pair.1 v is)
 
-  IsTellable-field : (a f : ℕ) (fields : List Value) (v : Value) → (graph_of m).fields a ≡ Some fields → slice_get fields f ≡ Some v → IsTellable (graph_of m) v
-  IsTellable-field a f fields v is at =
+  -- a value of an object's is that of its pair
+  value_of-pair : (a f : ℕ) (fields : List Value) (v : Value) → (graph_of m).fields a ≡ Some fields → slice_get fields f ≡ Some v → (pair_in m.space.objects a f).1 ≡ v
+  value_of-pair a f fields v is at =
       let o = object_of (object_at m.space.objects a) fields is in
       let pair = found_pair (slice_get o.0.fields f) v (sym (slice_get-map (λ (p : Pair). p.1) o.0.fields f) ∙ ap (λ l. slice_get l f) o.2 ∙ at) in
       let same : pair_in m.space.objects a f ≡ pair.0 =
       ap (λ l. slice_index_or l f (0, Nil)) (fields_at-is m.space.objects o.0 a o.1) ∙ get_or_from_slice_get o.0.fields f pair.0 (0, Nil) pair.1 in
-      IsTellable-storable v (subst (IsStorable m.space.objects) (ap (λ (p : Pair). p.1) same ∙ pair.2) (kept.fields a f))
+      ap (λ (p : Pair). p.1) same ∙ pair.2
+
+  IsTellable-field : (a f : ℕ) (fields : List Value) (v : Value) → (graph_of m).fields a ≡ Some fields → slice_get fields f ≡ Some v → IsTellable (graph_of m) v
+  IsTellable-field a f fields v is at = IsTellable-storable v (subst (IsStorable m.space.objects) (value_of-pair a f fields v is at) (kept.fields a f))
 
   -- a heap reaches objects, whose addresses are below the used words
   pub reaches-heap : ReachesObjectsBelow (used_words m.space.objects) (graph_of m)
@@ -99,6 +104,7 @@ module _ (m : MutatorState) (kept : IsMutator m) where
         let o = object_of (object_at m.space.objects a) fields is in
         omega (arith, (IsObject-object_at m.space.objects o.0 a space.objects o.1).few_fields, length-map o.0.fields (λ (p : Pair). p.1), ap length o.2);
     fields = IsTellable-field;
+    raw = λ a f fields v kind is at. subst (λ w. is_reference w ≡ false) (value_of-pair a f fields v is at) (kept.raw a f kind);
   }
 
 -- what one graph reaches, a pairing pairs with what the other reaches, and the other way round
@@ -131,7 +137,7 @@ dump_of-plain exact there back h p stands =
     (λ a reached.
     let b = there (plain.graph_of p) (graph_of h.mutators) pairing paired a reached in
     let these = (renamed_fields pairing ((plain.graph_of p).fields a) ((graph_of h.mutators).fields b.0) (paired.fields a b.0 b.1)).0 in
-    (has_fields ((plain.graph_of p).fields a) these.0 these.1, slice_get_within p.objects a these.0 these.1))
+    (has_fields ((plain.graph_of p).fields a) these.0 these.1, let within = slice_get_within (field_lists p.objects) a these.0 these.1 in let count = length-map p.objects (λ (o : PlainObject). o.fields) in omega (arith, within, count)))
     (λ b reached.
     let a = back (plain.graph_of p) (graph_of h.mutators) pairing paired b reached in
     let those = (renamed_fields pairing ((plain.graph_of p).fields a.0) ((graph_of h.mutators).fields b) (paired.fields a.0 b a.1)).1 in

@@ -7,7 +7,7 @@ ghost use Rattle.rh_trace.specs.HeapDump.{dump_of};
 
 use rh_core::Heap;
 use rh_dump::{Graph, ObjectGraph, numbered_graph};
-use rh_layout::{OutOfMemory, RootId, Value};
+use rh_layout::{OutOfMemory, RootId, Shape, Value};
 use std::alloc::Allocator;
 
 /// A heap, as the numbering of its objects reads it.
@@ -34,11 +34,16 @@ impl<'a, A: Allocator + Copy> ObjectGraph for HeapGraph<'a, A> {
         }
     }
 
-    fn count(&self, name: u32) -> u32 {
-        match self.heap.fields(name) {
-            Some(count) => count,
+    fn shape(&self, name: u32) -> Shape {
+        let fields = match self.heap.fields(name) {
+            Some(fields) => fields,
             None => 0,
-        }
+        };
+        let raw = match self.heap.raw(name) {
+            Some(raw) => raw,
+            None => false,
+        };
+        Shape { fields, raw }
     }
 
     fn value(&self, name: u32, field: u32) -> Value {
