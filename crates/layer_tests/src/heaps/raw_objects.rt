@@ -37,7 +37,11 @@ fn copies<A: Allocator + Copy>(
         stale: 0,
         placed,
     };
-    expect_equal(rt, heap.give(&replica_of(rt, memory, &dealt.piece)), Ok(given));
+    expect_equal(
+        rt,
+        heap.give(&replica_of(rt, memory, &dealt.piece)),
+        Ok(given),
+    );
 }
 
 #[test]
@@ -52,11 +56,24 @@ fn raw_objects_take_no_references(rt: HostRuntime) {
     ] {
         expect_equal(&rt, heap.command(1, &store(RAW, field, operand)), answer);
     }
-    expect_equal(&rt, heap.command(1, &load(OTHER, RAW, 0)), Ok(Reply::Int(5)));
-    expect_equal(&rt, heap.alloc_raw(1, OTHER, 4096), Err(Refusal::FieldsRange));
+    expect_equal(
+        &rt,
+        heap.command(1, &load(OTHER, RAW, 0)),
+        Ok(Reply::Int(5)),
+    );
+    expect_equal(
+        &rt,
+        heap.alloc_raw(1, OTHER, 4096),
+        Err(Refusal::FieldsRange),
+    );
     expect_equal(&rt, heap.alloc_raw(1, OTHER, 1), Ok(Reply::Raw(1)));
     expect_equal(&rt, heap.alloc(1, root(0, 0), 1), Ok(Reply::Object(1)));
-    for (address, kind) in [(0, Some(true)), (4, Some(true)), (7, Some(false)), (1, None)] {
+    for (address, kind) in [
+        (0, Some(true)),
+        (4, Some(true)),
+        (7, Some(false)),
+        (1, None),
+    ] {
         expect_equal(&rt, heap.raw(address), kind);
     }
 }
@@ -81,7 +98,11 @@ fn raw_objects_stay_raw_over_a_flip(rt: HostRuntime) {
     assert!(rt; replica.raw(3));
     assert!(rt; heap.flip().is_ok());
     expect_equal(&rt, (heap.raw(0), heap.raw(3)), (Some(false), Some(true)));
-    expect_equal(&rt, heap.command(1, &load(RAW, OTHER, 0)), Ok(Reply::Raw(2)));
+    expect_equal(
+        &rt,
+        heap.command(1, &load(RAW, OTHER, 0)),
+        Ok(Reply::Raw(2)),
+    );
     let answer = heap.command(1, &store(RAW, 1, Operand::Root(OTHER)));
     expect_equal(&rt, answer, Err(Refusal::RawField));
 }

@@ -48,8 +48,14 @@ fn raw_objects(rt: HostRuntime) {
     let above = Operand::Int(2_305_843_009_213_693_952);
     let lines = [
         (raw(object, 2), Ok(Reply::Raw(2))),
-        (store(object, 0, Operand::Root(object)), Err(Refusal::RawField)),
-        (store(object, 2, Operand::Root(object)), Err(Refusal::NoField)),
+        (
+            store(object, 0, Operand::Root(object)),
+            Err(Refusal::RawField),
+        ),
+        (
+            store(object, 2, Operand::Root(object)),
+            Err(Refusal::NoField),
+        ),
         (store(object, 0, Operand::Int(5)), Ok(Reply::Done)),
         (store(object, 1, Operand::Root(other)), Ok(Reply::Done)),
         (store(object, 0, above), Err(Refusal::IntRange)),
