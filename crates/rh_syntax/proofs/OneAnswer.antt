@@ -2,9 +2,9 @@
 use Rattle.std.specs.Prelude.{◌≡◌, ℕ, ◌==◌, if◌then◌else◌, pos, true, false, List, drop, slice_index_or, unwrap_or, Result, Ok, Err, codes}
 use Rattle.std.proofs.Common.{refl, sym, ap, ◌∙◌}
 use Rattle.rh_layout.specs.declared.command.Reply.{Reply}
-use Rattle.rh_layout.specs.declared.command.Reply.TheVariants.{Done, Nil, Int, Object, Same}
+use Rattle.rh_layout.specs.declared.command.Reply.TheVariants.{Done, Nil, Int, Object, Raw, Same}
 use Rattle.rh_layout.specs.declared.refusal.Refusal.{Refusal}
-use Rattle.rh_layout.specs.declared.refusal.Refusal.TheVariants.{NoRoot, NotYours, NotObject, NoField, IntRange, FieldsRange, SpaceFull, LogFull, NumbersSpent}
+use Rattle.rh_layout.specs.declared.refusal.Refusal.TheVariants.{NoRoot, NotYours, NotObject, NoField, RawField, IntRange, FieldsRange, SpaceFull, LogFull, NumbersSpent}
 use Rattle.rh_text.specs.Number.{integer_of}
 use Rattle.rh_text.specs.lemmas.Integers.{integer_of-decimal}
 use Rattle.rh_syntax.specs.CommandAnswers.{answer_text, refused_text, IsToldAnswer, IsToldRefusal}
@@ -23,12 +23,13 @@ refusal_told text =
     if byte text 10 == 82 then NoRoot
     else if byte text 10 == 70 then NoField
     else if byte text 10 == 116 then (if byte text 11 == 89 then NotYours else if byte text 11 == 79 then NotObject else IntRange)
+    else if byte text 10 == 119 then RawField
     else if byte text 10 == 101 then FieldsRange
     else if byte text 10 == 97 then SpaceFull (number text 0) (number text 1)
     else if byte text 10 == 103 then LogFull
     else NumbersSpent
 
--- the answer that a text tells, by its first letter
+-- the answer that a text tells, by its first two letters
 abbrev answer_told : List ℕ → Result Reply Refusal
 answer_told text =
     if byte text 0 == 100 then Ok Done
@@ -36,6 +37,7 @@ answer_told text =
     else if byte text 0 == 105 then Ok (Int (unwrap_or (integer_of (drop 4 text)) (pos 0)))
     else if byte text 0 == 111 then Ok (Object (number text 0))
     else if byte text 0 == 115 then Ok (Same (byte text 5 == 121))
+    else if byte text 1 == 97 then Ok (Raw (number text 0))
     else Err (refusal_told text)
 
 refusal_told-text : (refusal : Refusal) → IsToldRefusal refusal → answer_told (refused_text refusal) ≡ Err refusal
@@ -43,6 +45,7 @@ refusal_told-text NoRoot fits = refl
 refusal_told-text NotYours fits = refl
 refusal_told-text NotObject fits = refl
 refusal_told-text NoField fits = refl
+refusal_told-text RawField fits = refl
 refusal_told-text IntRange fits = refl
 refusal_told-text FieldsRange fits = refl
 refusal_told-text (SpaceFull need free) fits =
@@ -55,6 +58,7 @@ answer_told-text (Ok Done) fits = refl
 answer_told-text (Ok Nil) fits = refl
 answer_told-text (Ok (Int n)) fits = ap (λ o. Ok (Int (unwrap_or o (pos 0)))) (integer_of-decimal n fits)
 answer_told-text (Ok (Object fields)) fits = ap (λ ns. Ok (Object (slice_index_or ns 0 0))) (numbers_in-one fields fits)
+answer_told-text (Ok (Raw fields)) fits = ap (λ ns. Ok (Raw (slice_index_or ns 0 0))) (numbers_in-one fields fits)
 answer_told-text (Ok (Same true)) fits = refl
 answer_told-text (Ok (Same false)) fits = refl
 answer_told-text (Err refusal) fits = refusal_told-text refusal fits

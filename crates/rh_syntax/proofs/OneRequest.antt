@@ -10,6 +10,7 @@ use Rattle.rh_syntax.specs.Line.{line_of}
 -- the request whose line this is
 abbrev pub request_of : Line → Request
 request_of (lines.Alloc owner dst fields) = requests.Command owner (commands.Alloc dst fields)
+request_of (lines.Raw owner dst fields) = requests.Command owner (commands.Raw dst fields)
 request_of (lines.Load owner dst src field) = requests.Command owner (commands.Load dst src field)
 request_of (lines.Store owner obj field operand) = requests.Command owner (commands.Store obj field operand)
 request_of (lines.Copy owner dst src) = requests.Command owner (commands.Copy dst src)
@@ -30,6 +31,7 @@ request_of lines.Dump = requests.Dump
 
 request_of-line_of : (request : Request) → request_of (line_of request) ≡ request
 request_of-line_of (requests.Command owner (commands.Alloc dst fields)) = refl
+request_of-line_of (requests.Command owner (commands.Raw dst fields)) = refl
 request_of-line_of (requests.Command owner (commands.Load dst src field)) = refl
 request_of-line_of (requests.Command owner (commands.Store obj field operand)) = refl
 request_of-line_of (requests.Command owner (commands.Copy dst src)) = refl
@@ -50,6 +52,7 @@ request_of-line_of requests.Dump = refl
 
 pub line_of-request_of : (line : Line) → line_of (request_of line) ≡ line
 line_of-request_of (lines.Alloc owner dst fields) = refl
+line_of-request_of (lines.Raw owner dst fields) = refl
 line_of-request_of (lines.Load owner dst src field) = refl
 line_of-request_of (lines.Store owner obj field operand) = refl
 line_of-request_of (lines.Copy owner dst src) = refl

@@ -3,7 +3,7 @@ use Rattle.std.proofs.Common.{◌≡◌, ℕ, List, [], ◌∷◌, ◌++◌, Res
 use Rattle.std.specs.Prelude.{codes, map}
 use Rattle.std.specs.Fmt.{digits}
 use Rattle.std.specs.List.{flat_map}
-use Rattle.rh_layout.specs.declared.command.Command.TheVariants.{Alloc, Load, Store, Copy, Same, Drop}
+use Rattle.rh_layout.specs.declared.command.Command.TheVariants.{Alloc, Raw, Load, Store, Copy, Same, Drop}
 use Rattle.rh_layout.specs.declared.kind.Kind.TheVariants.{Copies, Entries}
 use Rattle.rh_text.specs.Number.{number_of, integer_of}
 use Rattle.rh_text.specs.Parts.{is_formed, one_part, two_parts, three_parts, six_parts}
@@ -16,7 +16,7 @@ use Rattle.rh_syntax.specs.declared.request.Request.TheVariants.{Command, Begin,
 use Rattle.rh_syntax.specs.Spelling.{Script}
 use Rattle.rh_layout.specs.declared.command.RootId.{RootId}
 use Rattle.rh_layout.specs.declared.command.Operand.TheVariants as operands
-use Rattle.rh_syntax.specs.Reading.{operand_or_fault, read_alloc, read_load, read_store, read_copy, read_same, read_drop, command_or_fault, kind_or_fault, read_shade, read_deal, read_give, read_join, read_idle, keyword_request, request_of_parts, sizes_of, header_of_parts, checked_parts, request_or_kind, header_or_kind, requests_from, script_or_fault, trace_of}
+use Rattle.rh_syntax.specs.Reading.{operand_or_fault, read_alloc, read_raw, read_load, read_store, read_copy, read_same, read_drop, command_or_fault, kind_or_fault, read_shade, read_deal, read_give, read_join, read_idle, keyword_request, request_of_parts, sizes_of, header_of_parts, checked_parts, request_or_kind, header_or_kind, requests_from, script_or_fault, trace_of}
 use Rattle.rh_syntax.specs.TrayName.{is_tray_name}
 
 -- so many lines, each ended
@@ -60,6 +60,7 @@ faulty =
     (codes "1 begin", Word)
     ∷ (codes "1 shade", Word)
     ∷ (codes "alloc 1 1.0 2", Word)
+    ∷ (codes "raw 1 1.0 2", Word)
     ∷ (codes "begin 1", Form)
     ∷ (codes "shade 10", Root)
     ∷ (codes "deal bogus 1", Form)
@@ -109,11 +110,11 @@ root owner slot = record { owner = owner; slot = slot }
 
 -- a command line of each keyword
 commands : List (List ℕ)
-commands = codes "3 alloc 1.0 2" ∷ codes "3 load 1.1 1.0 4" ∷ codes "3 store 1.0 4 nil" ∷ codes "3 copy 0.1 1.0" ∷ codes "3 same 1.0 1.1" ∷ codes "3 drop 1.0" ∷ []
+commands = codes "3 alloc 1.0 2" ∷ codes "3 raw 1.0 2" ∷ codes "3 load 1.1 1.0 4" ∷ codes "3 store 1.0 4 nil" ∷ codes "3 copy 0.1 1.0" ∷ codes "3 same 1.0 1.1" ∷ codes "3 drop 1.0" ∷ []
 
 command_requests : List Request
-command_requests = Command 3 (Alloc (root 1 0) 2) ∷ Command 3 (Load (root 1 1) (root 1 0) 4) ∷ Command 3 (Store (root 1 0) 4 operands.Nil) ∷ Command 3 (Copy (root 0 1) (root 1 0)) ∷ Command 3 (Same (root 1 0) (root 1 1)) ∷ Command 3 (Drop (root 1 0)) ∷ []
+command_requests = Command 3 (Alloc (root 1 0) 2) ∷ Command 3 (Raw (root 1 0) 2) ∷ Command 3 (Load (root 1 1) (root 1 0) 4) ∷ Command 3 (Store (root 1 0) 4 operands.Nil) ∷ Command 3 (Copy (root 0 1) (root 1 0)) ∷ Command 3 (Same (root 1 0) (root 1 1)) ∷ Command 3 (Drop (root 1 0)) ∷ []
 
 read_commands : trace_of (text (header ∷ commands)) ≡ Ok (record { header = record { words = 16; ratio = 8; log = 4; owners = 2; slots = 2 }; requests = command_requests })
-unfolding digits script_or_fault header_or_kind request_or_kind requests_from checked_parts is_formed header_of_parts six_parts sizes_of number_of integer_of request_of_parts command_or_fault read_alloc read_load read_store read_copy read_same read_drop one_part two_parts three_parts root_of operand_or_fault text header commands command_requests root
+unfolding digits script_or_fault header_or_kind request_or_kind requests_from checked_parts is_formed header_of_parts six_parts sizes_of number_of integer_of request_of_parts command_or_fault read_alloc read_raw read_load read_store read_copy read_same read_drop one_part two_parts three_parts root_of operand_or_fault text header commands command_requests root
 read_commands = refl

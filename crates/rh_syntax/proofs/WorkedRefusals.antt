@@ -13,6 +13,7 @@ refused =
     ∷ (refusals.NotYours, codes "refused NotYours")
     ∷ (refusals.NotObject, codes "refused NotObject")
     ∷ (refusals.NoField, codes "refused NoField")
+    ∷ (refusals.RawField, codes "refused RawField")
     ∷ (refusals.IntRange, codes "refused IntRange")
     ∷ (refusals.FieldsRange, codes "refused FieldsRange")
     ∷ (refusals.SpaceFull 10 9, codes "refused SpaceFull need 10 free 9")

@@ -2,9 +2,9 @@
 use Rattle.std.specs.Prelude.{ℕ, ◌<◌, ◌^◌, ⊤, true, false, List, [], ◌++◌, Result, Ok, Err, codes, decimal}
 use Rattle.std.specs.Fmt.{signed_decimal}
 use Rattle.rh_layout.specs.declared.command.Reply.{Reply}
-use Rattle.rh_layout.specs.declared.command.Reply.TheVariants.{Done, Nil, Int, Object, Same}
+use Rattle.rh_layout.specs.declared.command.Reply.TheVariants.{Done, Nil, Int, Object, Raw, Same}
 use Rattle.rh_layout.specs.declared.refusal.Refusal.{Refusal}
-use Rattle.rh_layout.specs.declared.refusal.Refusal.TheVariants.{NoRoot, NotYours, NotObject, NoField, IntRange, FieldsRange, SpaceFull, LogFull, NumbersSpent}
+use Rattle.rh_layout.specs.declared.refusal.Refusal.TheVariants.{NoRoot, NotYours, NotObject, NoField, RawField, IntRange, FieldsRange, SpaceFull, LogFull, NumbersSpent}
 use Rattle.rh_text.specs.Number.{IsI64}
 
 -- what a reply is written as
@@ -13,6 +13,7 @@ reply_text Done = codes "done"
 reply_text Nil = codes "nil"
 reply_text (Int n) = codes "int " ++ signed_decimal n
 reply_text (Object fields) = codes "object " ++ decimal fields
+reply_text (Raw fields) = codes "raw " ++ decimal fields
 reply_text (Same true) = codes "same yes"
 reply_text (Same false) = codes "same no"
 
@@ -22,6 +23,7 @@ refusal_name NoRoot = codes "NoRoot"
 refusal_name NotYours = codes "NotYours"
 refusal_name NotObject = codes "NotObject"
 refusal_name NoField = codes "NoField"
+refusal_name RawField = codes "RawField"
 refusal_name IntRange = codes "IntRange"
 refusal_name FieldsRange = codes "FieldsRange"
 refusal_name (SpaceFull need free) = codes "SpaceFull"
@@ -34,6 +36,7 @@ refusal_parts NoRoot = []
 refusal_parts NotYours = []
 refusal_parts NotObject = []
 refusal_parts NoField = []
+refusal_parts RawField = []
 refusal_parts IntRange = []
 refusal_parts FieldsRange = []
 refusal_parts (SpaceFull need free) =
@@ -58,6 +61,7 @@ IsU128 n = n < 2 ^ 128
 abbrev pub IsToldReply : Reply → Type 0
 IsToldReply (Int n) = IsI64 n
 IsToldReply (Object fields) = IsU128 fields
+IsToldReply (Raw fields) = IsU128 fields
 IsToldReply other = ⊤
 
 -- the numbers that a refusal tells fit

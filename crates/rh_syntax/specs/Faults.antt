@@ -29,6 +29,7 @@ header_form = keyword ∷ number ∷ number ∷ number ∷ number ∷ number ∷
 abbrev pub command_forms : List (List ℕ × List Sort)
 command_forms =
     (codes "alloc", number ∷ keyword ∷ root ∷ number ∷ [])
+    ∷ (codes "raw", number ∷ keyword ∷ root ∷ number ∷ [])
     ∷ (codes "load", number ∷ keyword ∷ root ∷ root ∷ number ∷ [])
     ∷ (codes "store", number ∷ keyword ∷ root ∷ number ∷ operand ∷ [])
     ∷ (codes "copy", number ∷ keyword ∷ root ∷ root ∷ [])

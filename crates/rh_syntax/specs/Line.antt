@@ -1,13 +1,14 @@
 -- The line of a request.
 use Rattle.rh_layout.specs.declared.command.Command.TheVariants as commands
 use Rattle.rh_syntax.specs.declared.line.Line.{Line}
-use Rattle.rh_syntax.specs.declared.line.Line.TheVariants.{Alloc, Load, Store, Copy, Same, Drop, Begin, Shade, Deal, Give, Join, Flip, Recall, Abandon, Idle, Trays, Stat, Dump}
+use Rattle.rh_syntax.specs.declared.line.Line.TheVariants.{Alloc, Raw, Load, Store, Copy, Same, Drop, Begin, Shade, Deal, Give, Join, Flip, Recall, Abandon, Idle, Trays, Stat, Dump}
 use Rattle.rh_syntax.specs.declared.request.Request.{Request}
 use Rattle.rh_syntax.specs.declared.request.Request.TheVariants as requests
 
 -- a request as a line, which has one form for each keyword
 abbrev pub line_of : Request → Line
 line_of (requests.Command owner (commands.Alloc dst fields)) = Alloc owner dst fields
+line_of (requests.Command owner (commands.Raw dst fields)) = Raw owner dst fields
 line_of (requests.Command owner (commands.Load dst src field)) = Load owner dst src field
 line_of (requests.Command owner (commands.Store obj field operand)) = Store owner obj field operand
 line_of (requests.Command owner (commands.Copy dst src)) = Copy owner dst src

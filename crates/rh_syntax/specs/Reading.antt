@@ -2,7 +2,7 @@
 use Rattle.std.specs.Prelude.{◌≡◌, ℕ, ◌+◌, List, [], ◌∷◌, length, Result, Ok, Err, nat_lt, ◌||◌, not, if◌then◌else◌, codes, ℤ}
 use Rattle.std.specs.Str.{bytes_eq}
 use Rattle.rh_layout.specs.declared.command.Command.{Command}
-use Rattle.rh_layout.specs.declared.command.Command.TheVariants.{Alloc, Load, Store, Copy, Same, Drop}
+use Rattle.rh_layout.specs.declared.command.Command.TheVariants.{Alloc, Raw, Load, Store, Copy, Same, Drop}
 use Rattle.rh_layout.specs.declared.command.Operand.{Operand}
 use Rattle.rh_layout.specs.declared.command.Operand.TheVariants as operands
 use Rattle.rh_layout.specs.declared.command.RootId.{RootId}
@@ -73,6 +73,15 @@ read_alloc owner args = do
   fields ← number_or_fault parts.1
   Ok (owner, Alloc dst fields)
 
+-- OWNER raw ROOT FIELDS
+unfoldable pub read_raw : List ℕ → List (List ℕ) → Result (ℕ × Command) Kind
+read_raw owner args = do
+  parts ← or_fault (two_parts args) Form
+  owner ← number_or_fault owner
+  dst ← root_or_fault parts.0
+  fields ← number_or_fault parts.1
+  Ok (owner, Raw dst fields)
+
 -- OWNER load DST SRC FIELD
 unfoldable pub read_load : List ℕ → List (List ℕ) → Result (ℕ × Command) Kind
 read_load owner args = do
@@ -124,6 +133,7 @@ unfoldable pub command_or_fault : List ℕ → List (List ℕ) → Result (ℕ �
 command_or_fault owner [] = Err Form
 command_or_fault owner (keyword ∷ args) =
     if bytes_eq keyword (codes "alloc") then read_alloc owner args
+    else if bytes_eq keyword (codes "raw") then read_raw owner args
     else if bytes_eq keyword (codes "load") then read_load owner args
     else if bytes_eq keyword (codes "store") then read_store owner args
     else if bytes_eq keyword (codes "copy") then read_copy owner args

@@ -3,7 +3,7 @@ use Rattle.std.specs.Prelude.{ℕ, ◌<◌, List, [], ◌∷◌, ◌++◌, lengt
 use Rattle.std.specs.Fmt.{signed_decimal}
 use Rattle.std.specs.List.{flat_map, join_with_byte, AllByRecursion}
 use Rattle.rh_layout.specs.declared.command.Command.{Command}
-use Rattle.rh_layout.specs.declared.command.Command.TheVariants.{Alloc, Load, Store, Copy, Same, Drop}
+use Rattle.rh_layout.specs.declared.command.Command.TheVariants.{Alloc, Raw, Load, Store, Copy, Same, Drop}
 use Rattle.rh_layout.specs.declared.command.Operand.{Operand}
 use Rattle.rh_layout.specs.declared.command.Operand.TheVariants as operands
 use Rattle.rh_layout.specs.declared.kind.Kind.{Kind}
@@ -32,6 +32,8 @@ operand_text (operands.Root root) = root_text root
 abbrev pub command_parts : ℕ → Command → List (List ℕ)
 command_parts owner (Alloc dst fields) =
     decimal owner ∷ codes "alloc" ∷ root_text dst ∷ decimal fields ∷ []
+command_parts owner (Raw dst fields) =
+    decimal owner ∷ codes "raw" ∷ root_text dst ∷ decimal fields ∷ []
 command_parts owner (Load dst src field) =
     decimal owner ∷ codes "load" ∷ root_text dst ∷ root_text src ∷ decimal field ∷ []
 command_parts owner (Store obj field operand) =
@@ -98,6 +100,7 @@ OperandFits (operands.Root root) = RootFits root
 -- an owner and a command whose numbers are below 2^32, and an operand's whole number of 64 bits
 abbrev pub CommandFits : ℕ → Command → Type 0
 CommandFits owner (Alloc dst fields) = IsU32 owner × RootFits dst × IsU32 fields
+CommandFits owner (Raw dst fields) = IsU32 owner × RootFits dst × IsU32 fields
 CommandFits owner (Load dst src field) = IsU32 owner × RootFits dst × RootFits src × IsU32 field
 CommandFits owner (Store obj field operand) =
     IsU32 owner × RootFits obj × IsU32 field × OperandFits operand

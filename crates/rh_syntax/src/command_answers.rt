@@ -23,6 +23,10 @@ fn put_reply(text: &mut LineText, reply: Reply)
             text.put(b"object ");
             text.put_integer(fields);
         }
+        Reply::Raw(fields) => {
+            text.put(b"raw ");
+            text.put_integer(fields);
+        }
         Reply::Same(true) => text.put(b"same yes"),
         Reply::Same(false) => text.put(b"same no"),
     }
@@ -38,6 +42,7 @@ fn name_of(refusal: Refusal) -> &'static [u8]
         Refusal::NotYours => b"NotYours",
         Refusal::NotObject => b"NotObject",
         Refusal::NoField => b"NoField",
+        Refusal::RawField => b"RawField",
         Refusal::IntRange => b"IntRange",
         Refusal::FieldsRange => b"FieldsRange",
         Refusal::SpaceFull { .. } => b"SpaceFull",

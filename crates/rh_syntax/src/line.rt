@@ -35,6 +35,15 @@ pub enum Line {
         /// How many fields the object has.
         fields: u32,
     },
+    /// `OWNER raw ROOT FIELDS`: the root `dst` names a new raw object of so many fields.
+    Raw {
+        /// Whose command it is.
+        owner: u32,
+        /// The root that names the new object.
+        dst: RootId,
+        /// How many fields the object has.
+        fields: u32,
+    },
     /// `OWNER load DST SRC FIELD`: the root `dst` takes the value of a field of the object that
     /// `src` names.
     Load {
@@ -162,6 +171,7 @@ fn command_line(owner: u32, command: Command) -> Line
 {
     match command {
         Command::Alloc { dst, fields } => Line::Alloc { owner, dst, fields },
+        Command::Raw { dst, fields } => Line::Raw { owner, dst, fields },
         Command::Load { dst, src, field } => Line::Load {
             owner,
             dst,

@@ -32,7 +32,7 @@ use Rattle.rh_syntax.specs.declared.line as declared
 use Rattle.rh_syntax.specs.declared.request.Request.{Request}
 use Rattle.rh_syntax.specs.declared.request.Request.TheVariants as requests
 use Rattle.rh_syntax.specs.Faults.{Sort, keyword, number, root, operand, copies_or_entries, tray, header_form, command_forms, keyword_forms, lookup, IsNumber, IsRoot, IsInteger, HasDot, IsDigitFirst, each_part, form_faults, BeginsWithOwner, LacksKeyword, form_of, command_part_faults, command_faults, keyword_part_faults, line_part_faults, IsFirstPart, header_part_faults, raw_line_faults, header_faults, line_faults, trace_faults}
-use Rattle.rh_syntax.specs.Reading.{number_or_fault, integer_or_fault, root_or_fault, operand_or_fault, read_alloc, read_load, read_store, read_copy, read_same, read_drop, command_or_fault, owned_command, single_command, alone, tray_or_fault, kind_or_fault, read_shade, read_deal, read_give, read_join, read_idle, keyword_request, request_of_parts, sizes_of, header_of_parts, checked_parts, fault_at, request_or_kind, header_or_kind, requests_from, script_or_fault, trace_of}
+use Rattle.rh_syntax.specs.Reading.{number_or_fault, integer_or_fault, root_or_fault, operand_or_fault, read_alloc, read_raw, read_load, read_store, read_copy, read_same, read_drop, command_or_fault, owned_command, single_command, alone, tray_or_fault, kind_or_fault, read_shade, read_deal, read_give, read_join, read_idle, keyword_request, request_of_parts, sizes_of, header_of_parts, checked_parts, fault_at, request_or_kind, header_or_kind, requests_from, script_or_fault, trace_of}
 use Rattle.rh_syntax.specs.Spelling.{Script, spell_request, spell_header, RequestFits, HeaderFits}
 use Rattle.rh_syntax.specs.TrayName.{tray_name_of, IsTrayName}
 use Rattle.rh_syntax.specs.lemmas.ReadIsSpelled.{request_or_fault-means, header_or_fault-means}
@@ -178,6 +178,11 @@ unfolding read_alloc
 judges-alloc owner word args = judges-two owner_and_keyword (owner ∷ word ∷ []) refl root number args _ (λ a b.
     judges-number owner _ _ (λ o. judges-root a _ _ (λ r. judges-number b _ _ (λ n. judges-end _))))
 
+judges-raw : (owner word : List ℕ) (args : List (List ℕ)) → Judges (form_faults (Some (number ∷ keyword ∷ root ∷ number ∷ [])) (owner ∷ word ∷ args)) (read_raw owner args)
+unfolding read_raw
+judges-raw owner word args = judges-two owner_and_keyword (owner ∷ word ∷ []) refl root number args _ (λ a b.
+    judges-number owner _ _ (λ o. judges-root a _ _ (λ r. judges-number b _ _ (λ n. judges-end _))))
+
 judges-load : (owner word : List ℕ) (args : List (List ℕ)) → Judges (form_faults (Some (number ∷ keyword ∷ root ∷ root ∷ number ∷ [])) (owner ∷ word ∷ args)) (read_load owner args)
 unfolding read_load
 judges-load owner word args = judges-three owner_and_keyword (owner ∷ word ∷ []) refl root root number args _ (λ a b c.
@@ -237,12 +242,13 @@ judges-keyword owner word args owned =
     let parts = owner ∷ word ∷ args in
     let known = owned_form parts owned in
     by_keyword (LacksCommand parts) parts known (bytes_eq word (codes "alloc")) _ _ _ _ (judges-alloc owner word args)
+    (by_keyword (LacksCommand parts) parts known (bytes_eq word (codes "raw")) _ _ _ _ (judges-raw owner word args)
     (by_keyword (LacksCommand parts) parts known (bytes_eq word (codes "load")) _ _ _ _ (judges-load owner word args)
     (by_keyword (LacksCommand parts) parts known (bytes_eq word (codes "store")) _ _ _ _ (judges-store owner word args)
     (by_keyword (LacksCommand parts) parts known (bytes_eq word (codes "copy")) _ _ _ _ (judges-copy owner word args)
     (by_keyword (LacksCommand parts) parts known (bytes_eq word (codes "same")) _ _ _ _ (judges-same owner word args)
     (by_keyword (LacksCommand parts) parts known (bytes_eq word (codes "drop")) _ _ _ _ (judges-drop owner word args)
-    (unknown (LacksCommand parts) parts (inr refl)))))))
+    (unknown (LacksCommand parts) parts (inr refl))))))))
 
 judges-command : (owner : List ℕ) (rest : List (List ℕ)) → IsDigitFirst owner → Judges (command_part_faults (owner ∷ rest)) (command_or_fault owner rest)
 unfolding command_or_fault

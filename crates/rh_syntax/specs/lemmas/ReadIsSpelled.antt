@@ -8,7 +8,7 @@ use Rattle.std.proofs.lemmas.Bool.{not-false}
 use Rattle.std.proofs.lemmas.Slice.Eq.{bytes_eq-Decides}
 use Rattle.std.proofs.lemmas.List.Splits.{join_with_byte-slice_split}
 use Rattle.rh_layout.specs.declared.command.Command.{Command}
-use Rattle.rh_layout.specs.declared.command.Command.TheVariants.{Alloc, Load, Store, Copy, Same, Drop}
+use Rattle.rh_layout.specs.declared.command.Command.TheVariants.{Alloc, Raw, Load, Store, Copy, Same, Drop}
 use Rattle.rh_layout.specs.declared.command.Operand.{Operand}
 use Rattle.rh_layout.specs.declared.command.Operand.TheVariants as operands
 use Rattle.rh_layout.specs.declared.command.RootId.{RootId}
@@ -35,7 +35,7 @@ use Rattle.rh_syntax.specs.declared.request.Request.{Request}
 use Rattle.rh_syntax.specs.declared.request.Request.TheVariants as requests
 use Rattle.rh_syntax.specs.TrayName.{tray_name_of, IsTrayName}
 use Rattle.rh_syntax.specs.Spelling.{Script, operand_text, kind_text, command_parts, command_text, request_parts, header_parts, spell_request, spell_header, spelling, OperandFits, CommandFits, RequestFits, HeaderFits, IsScript}
-use Rattle.rh_syntax.specs.Reading.{number_or_fault, integer_or_fault, root_or_fault, operand_or_fault, tray_or_fault, kind_or_fault, read_alloc, read_load, read_store, read_copy, read_same, read_drop, command_or_fault, owned_command, single_command, alone, read_shade, read_deal, read_give, read_join, read_idle, keyword_request, request_of_parts, sizes_of, header_of_parts, checked_parts, fault_at, request_or_kind, header_or_kind, request_or_fault, header_or_fault, requests_from, script_or_fault, trace_of, Gives}
+use Rattle.rh_syntax.specs.Reading.{number_or_fault, integer_or_fault, root_or_fault, operand_or_fault, tray_or_fault, kind_or_fault, read_alloc, read_raw, read_load, read_store, read_copy, read_same, read_drop, command_or_fault, owned_command, single_command, alone, read_shade, read_deal, read_give, read_join, read_idle, keyword_request, request_of_parts, sizes_of, header_of_parts, checked_parts, fault_at, request_or_kind, header_or_kind, request_or_fault, header_or_fault, requests_from, script_or_fault, trace_of, Gives}
 use Rattle.rh_syntax.specs.lemmas.LinesInTurn.{number_within}
 use Rattle.rh_syntax.specs.lemmas.TrayNames.{name-from_read}
 
@@ -126,6 +126,20 @@ read_alloc-means owner args owned e =
     let whole : owner ∷ codes "alloc" ∷ args ≡ command_parts b.0 (Alloc c.0 d.0) = after_owner owner (decimal b.0) (codes "alloc") args (root_text c.0 ∷ decimal d.0 ∷ []) owner_is.0 (args_2 a.0.0 a.0.1 (root_text c.0) (decimal d.0) args args_are dst_is.0 fields_is.0) in
     subst (Reads (owner ∷ codes "alloc" ∷ args)) (ok_is (b.0, Alloc c.0 d.0) owned d.2) (whole, (owner_is.1, dst_is.1, fields_is.1))
 
+read_raw-means : (owner : List ℕ) (args : List (List ℕ)) (owned : ℕ × Command) → read_raw owner args ≡ Ok owned → Reads (owner ∷ codes "raw" ∷ args) owned
+unfolding read_raw
+read_raw-means owner args owned e =
+    let a = bind_ok (or_fault (two_parts args) Form) (λ parts. number_or_fault owner >>= λ o. root_or_fault parts.0 >>= λ d. number_or_fault parts.1 >>= λ f. Ok (o, Raw d f)) owned e in
+    let b = bind_ok (number_or_fault owner) (λ o. root_or_fault a.0.0 >>= λ d. number_or_fault a.0.1 >>= λ f. Ok (o, Raw d f)) owned a.2 in
+    let c = bind_ok (root_or_fault a.0.0) (λ d. number_or_fault a.0.1 >>= λ f. Ok (b.0, Raw d f)) owned b.2 in
+    let d = bind_ok (number_or_fault a.0.1) (λ f. Ok (b.0, Raw c.0 f)) owned c.2 in
+    let args_are = two_parts-means args a.0 (or_fault_ok (two_parts args) Form a.0 a.1) in
+    let owner_is = number_or_fault-means owner b.0 b.1 in
+    let dst_is = root_or_fault-means a.0.0 c.0 c.1 in
+    let fields_is = number_or_fault-means a.0.1 d.0 d.1 in
+    let whole : owner ∷ codes "raw" ∷ args ≡ command_parts b.0 (Raw c.0 d.0) = after_owner owner (decimal b.0) (codes "raw") args (root_text c.0 ∷ decimal d.0 ∷ []) owner_is.0 (args_2 a.0.0 a.0.1 (root_text c.0) (decimal d.0) args args_are dst_is.0 fields_is.0) in
+    subst (Reads (owner ∷ codes "raw" ∷ args)) (ok_is (b.0, Raw c.0 d.0) owned d.2) (whole, (owner_is.1, dst_is.1, fields_is.1))
+
 read_load-means : (owner : List ℕ) (args : List (List ℕ)) (owned : ℕ × Command) → read_load owner args ≡ Ok owned → Reads (owner ∷ codes "load" ∷ args) owned
 unfolding read_load
 read_load-means owner args owned e =
@@ -207,13 +221,15 @@ command_or_fault-means owner (keyword ∷ args) owned e =
     let copies : Result (ℕ × Command) Kind = cond (bytes_eq keyword (codes "copy")) (read_copy owner args) sames in
     let stores : Result (ℕ × Command) Kind = cond (bytes_eq keyword (codes "store")) (read_store owner args) copies in
     let loads : Result (ℕ × Command) Kind = cond (bytes_eq keyword (codes "load")) (read_load owner args) stores in
+    let raws : Result (ℕ × Command) Kind = cond (bytes_eq keyword (codes "raw")) (read_raw owner args) loads in
     let says : List ℕ → ℕ × Command → Type 0 = λ w x. Reads (owner ∷ w ∷ args) x in
-    by_keyword says keyword (codes "alloc") (read_alloc owner args) loads owned (read_alloc-means owner args owned)
+    by_keyword says keyword (codes "alloc") (read_alloc owner args) raws owned (read_alloc-means owner args owned)
+    (by_keyword says keyword (codes "raw") (read_raw owner args) loads owned (read_raw-means owner args owned)
     (by_keyword says keyword (codes "load") (read_load owner args) stores owned (read_load-means owner args owned)
     (by_keyword says keyword (codes "store") (read_store owner args) copies owned (read_store-means owner args owned)
     (by_keyword says keyword (codes "copy") (read_copy owner args) sames owned (read_copy-means owner args owned)
     (by_keyword says keyword (codes "same") (read_same owner args) drops owned (read_same-means owner args owned)
-    (by_keyword says keyword (codes "drop") (read_drop owner args) (Err Word) owned (read_drop-means owner args owned) (λ no. absurd cc)))))) e
+    (by_keyword says keyword (codes "drop") (read_drop owner args) (Err Word) owned (read_drop-means owner args owned) (λ no. absurd cc))))))) e
 
 pub owned_command-means : (parts : List (List ℕ)) (owned : ℕ × Command) → owned_command parts ≡ Ok owned → Reads parts owned
 unfolding owned_command

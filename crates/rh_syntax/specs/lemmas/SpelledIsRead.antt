@@ -8,7 +8,7 @@ use Rattle.std.proofs.lemmas.Bool.{false≢true, false_from_ne_true, or_right, a
 use Rattle.std.proofs.lemmas.List.Folds.{list_any-append}
 use Rattle.std.proofs.lemmas.Slice.Eq.{bytes_eq-Decides}
 use Rattle.rh_layout.specs.declared.command.Command.{Command}
-use Rattle.rh_layout.specs.declared.command.Command.TheVariants.{Alloc, Load, Store, Copy, Same, Drop}
+use Rattle.rh_layout.specs.declared.command.Command.TheVariants.{Alloc, Raw, Load, Store, Copy, Same, Drop}
 use Rattle.rh_layout.specs.declared.command.Operand.{Operand}
 use Rattle.rh_layout.specs.declared.command.Operand.TheVariants as operands
 use Rattle.rh_layout.specs.declared.command.RootId.{RootId}
@@ -31,7 +31,7 @@ use Rattle.rh_syntax.specs.declared.request.Request.{Request}
 use Rattle.rh_syntax.specs.declared.request.Request.TheVariants as requests
 use Rattle.rh_syntax.specs.TrayName.{IsNameByte, IsTrayName}
 use Rattle.rh_syntax.specs.Spelling.{Script, operand_text, kind_text, command_parts, command_text, request_parts, header_parts, spell_request, spelling, OperandFits, CommandFits, RequestFits, HeaderFits, IsScript}
-use Rattle.rh_syntax.specs.Reading.{number_or_fault, integer_or_fault, root_or_fault, operand_or_fault, tray_or_fault, kind_or_fault, read_alloc, read_load, read_store, read_copy, read_same, read_drop, command_or_fault, owned_command, single_command, read_shade, read_deal, read_give, read_join, read_idle, keyword_request, request_of_parts, sizes_of, header_of_parts, checked_parts, fault_at, request_or_kind, header_or_kind, request_or_fault, header_or_fault, requests_from, script_or_fault, trace_of}
+use Rattle.rh_syntax.specs.Reading.{number_or_fault, integer_or_fault, root_or_fault, operand_or_fault, tray_or_fault, kind_or_fault, read_alloc, read_raw, read_load, read_store, read_copy, read_same, read_drop, command_or_fault, owned_command, single_command, read_shade, read_deal, read_give, read_join, read_idle, keyword_request, request_of_parts, sizes_of, header_of_parts, checked_parts, fault_at, request_or_kind, header_or_kind, request_or_fault, header_or_fault, requests_from, script_or_fault, trace_of}
 use Rattle.rh_syntax.specs.lemmas.TrayNames.{read-from_name}
 
 -- ---- what the parts of a spelled line are like
@@ -150,6 +150,10 @@ alloc-read : (owner : ℕ) (dst : RootId) (fields : ℕ) → CommandFits owner (
 unfolding command_or_fault read_alloc two_parts
 alloc-read owner dst fields fits = rw (number_or_fault-decimal owner fits.0, root_or_fault-text dst fits.1, number_or_fault-decimal fields fits.2) refl
 
+raw-read : (owner : ℕ) (dst : RootId) (fields : ℕ) → CommandFits owner (Raw dst fields) → command_or_fault (decimal owner) (codes "raw" ∷ root_text dst ∷ decimal fields ∷ []) ≡ Ok (owner, Raw dst fields)
+unfolding command_or_fault read_raw two_parts
+raw-read owner dst fields fits = rw (number_or_fault-decimal owner fits.0, root_or_fault-text dst fits.1, number_or_fault-decimal fields fits.2) refl
+
 load-read : (owner : ℕ) (dst src : RootId) (field : ℕ) → CommandFits owner (Load dst src field) → command_or_fault (decimal owner) (codes "load" ∷ root_text dst ∷ root_text src ∷ decimal field ∷ []) ≡ Ok (owner, Load dst src field)
 unfolding command_or_fault read_load three_parts
 load-read owner dst src field fits = rw (number_or_fault-decimal owner fits.0, root_or_fault-text dst fits.1, root_or_fault-text src fits.2, number_or_fault-decimal field fits.3) refl
@@ -185,6 +189,13 @@ command-read owner (Alloc dst fields) fits = record {
   spelled = refl;
   are = record { each = (number_part owner fits.0, (keyword_part (codes "alloc") refl refl refl, (root_part dst fits.1, (number_part fields fits.2, tt)))); few = omega arith };
   read = owned_command-decimal owner (codes "alloc" ∷ root_text dst ∷ decimal fields ∷ []) fits.0 ∙ alloc-read owner dst fields fits;
+}
+command-read owner (Raw dst fields) fits = record {
+  first = decimal owner;
+  others = codes "raw" ∷ root_text dst ∷ decimal fields ∷ [];
+  spelled = refl;
+  are = record { each = (number_part owner fits.0, (keyword_part (codes "raw") refl refl refl, (root_part dst fits.1, (number_part fields fits.2, tt)))); few = omega arith };
+  read = owned_command-decimal owner (codes "raw" ∷ root_text dst ∷ decimal fields ∷ []) fits.0 ∙ raw-read owner dst fields fits;
 }
 command-read owner (Load dst src field) fits = record {
   first = decimal owner;

@@ -1,9 +1,9 @@
 //! Command lines, each keyword's reading and spelling side by side.
 
 ghost use Rattle.std.specs.Prelude.{◌≡◌, ◌≤◌, length};
-ghost use Rattle.rh_layout.specs.declared.command.Command.TheVariants.{Alloc, Load, Store, Copy, Same, Drop};
+ghost use Rattle.rh_layout.specs.declared.command.Command.TheVariants.{Alloc, Raw, Load, Store, Copy, Same, Drop};
 ghost use Rattle.rh_text.specs.Parts.{parts_left};
-ghost use Rattle.rh_syntax.specs.Reading.{read_alloc, read_load, read_store, read_copy, read_same, read_drop, command_or_fault, owned_command};
+ghost use Rattle.rh_syntax.specs.Reading.{read_alloc, read_raw, read_load, read_store, read_copy, read_same, read_drop, command_or_fault, owned_command};
 ghost use Rattle.rh_syntax.specs.Spelling.{command_text, spell_command};
 
 use crate::fault::Kind;
@@ -31,6 +31,31 @@ fn put_alloc(text: &mut LineText, owner: u32, dst: RootId, fields: u32)
     text.clear();
     text.put_integer(owner);
     text.put(b" alloc ");
+    text.put_root(dst);
+    text.put(b" ");
+    text.put_integer(fields);
+}
+
+/// `OWNER raw ROOT FIELDS`, from the owner and what stands after the keyword.
+#[tactic(auto, unfolding(crate::specs::Reading::read_raw))]
+fn read_raw(owner: &[u8], rest: Option<&[u8]>) -> Result<(u32, Command), Kind>
+    ensures { result ≡ read_raw owner.now (parts_left rest.entry) }
+{
+    let (dst, fields) = two_parts(rest).ok_or(Kind::Form)?;
+    let owner = number_or_fault(owner)?;
+    let dst = root_or_fault(dst)?;
+    let fields = number_or_fault(fields)?;
+    Ok((owner, Command::Raw { dst, fields }))
+}
+
+/// The text becomes that of a `raw` line.
+fn put_raw(text: &mut LineText, owner: u32, dst: RootId, fields: u32)
+    ensures value { text.new ≡ command_text owner (Raw dst fields) }
+    ensures len { length text.new ≤ 100 }
+{
+    text.clear();
+    text.put_integer(owner);
+    text.put(b" raw ");
     text.put_root(dst);
     text.put(b" ");
     text.put_integer(fields);
@@ -178,6 +203,9 @@ pub(crate) fn command_or_fault(owner: &[u8], rest: Option<&[u8]>) -> Result<(u32
     if keyword == b"alloc".as_slice() {
         return read_alloc(owner, rest);
     }
+    if keyword == b"raw".as_slice() {
+        return read_raw(owner, rest);
+    }
     if keyword == b"load".as_slice() {
         return read_load(owner, rest);
     }
@@ -222,6 +250,7 @@ pub fn put_command_text(text: &mut LineText, owner: u32, command: &Command)
 {
     match *command {
         Command::Alloc { dst, fields } => put_alloc(text, owner, dst, fields),
+        Command::Raw { dst, fields } => put_raw(text, owner, dst, fields),
         Command::Load { dst, src, field } => put_load(text, owner, dst, src, field),
         Command::Store {
             obj,

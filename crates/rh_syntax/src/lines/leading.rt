@@ -45,6 +45,18 @@ fn leading_alloc(owner: u32, text: &[u8]) -> Option<(u32, Command, &[u8])>
     Some((owner, Command::Alloc { dst, fields }, rest))
 }
 
+/// `ROOT FIELDS`, with which the text begins, as the line `OWNER raw ROOT FIELDS`.
+#[inline(always)]
+fn leading_raw(owner: u32, text: &[u8]) -> Option<(u32, Command, &[u8])>
+    ensures { IfSome result (λ x. BeginsWith (decimal owner ++ 32 ∷ (codes "raw " ++ text.now))
+        x.0 x.1 x.2.now) }
+{
+    let (dst, rest) = leading_root(text)?;
+    let rest = after_byte(b' ', rest)?;
+    let (fields, rest) = leading_number(rest)?;
+    Some((owner, Command::Raw { dst, fields }, rest))
+}
+
 /// `DST SRC FIELD`, with which the text begins, as the line `OWNER load DST SRC FIELD`.
 #[inline(always)]
 fn leading_load(owner: u32, text: &[u8]) -> Option<(u32, Command, &[u8])>
@@ -120,6 +132,9 @@ fn leading_command(owner: u32, text: &[u8]) -> Option<(u32, Command, &[u8])>
 {
     if let Some(rest) = after_bytes(b"alloc ", text) {
         return leading_alloc(owner, rest);
+    }
+    if let Some(rest) = after_bytes(b"raw ", text) {
+        return leading_raw(owner, rest);
     }
     if let Some(rest) = after_bytes(b"load ", text) {
         return leading_load(owner, rest);
