@@ -1,16 +1,18 @@
 -- What a dump says of a heap: its roots, and its objects by their numbers.
-use Rattle.std.specs.Prelude.{◌≡◌, ◌≢◌, ℕ, ◌+◌, ◌<◌, ◌≤◌, ◌⊎◌, ⊤, nat_lt, if◌then◌else◌, List, [], ◌∷◌, ◌++◌, length, map, Option, Some, None}
+use Rattle.std.specs.Prelude.{◌≡◌, ◌≢◌, ℕ, ◌+◌, ◌<◌, ◌≤◌, ◌⊎◌, ⊤, true, false, nat_lt, if◌then◌else◌, List, [], ◌∷◌, ◌++◌, length, map, Option, Some, None}
 use Rattle.std.specs.List.{flat_map, AllByRecursion}
 use Rattle.rh_layout.specs.declared.value.Value.{Value}
 use Rattle.rh_layout.specs.declared.value.Value.TheVariants.{Nil, Int, Ref}
 use Rattle.rh_layout.specs.declared.command.RootId.{RootId}
+use Rattle.rh_layout.specs.Value.{is_reference}
 use Rattle.rh_layout.specs.Word.{IsWhole}
+use Rattle.rh_model.specs.Plain.{PlainObject}
 
 -- The roots that aren't nil, each with what it holds, and for each object, in order of its number,
--- what its fields hold. A reference is to the object of that number.
+-- whether it is raw and what its fields hold. A reference is to the object of that number.
 pub record GraphState : Type 0 where
   pub roots : List (RootId × Value)
-  pub objects : List (List Value)
+  pub objects : List PlainObject
 
 -- what the roots hold, in order
 abbrev pub root_values : List (RootId × Value) → List Value
@@ -18,7 +20,7 @@ root_values roots = map (λ root. root.1) roots
 
 -- all values in the order of the text: those of the roots, then those of each object's fields
 abbrev pub values_of : GraphState → List Value
-values_of g = root_values g.roots ++ flat_map (λ fields. fields) g.objects
+values_of g = root_values g.roots ++ flat_map (λ object. object.fields) g.objects
 
 -- how many objects are met with this value, where so many were met before it: a reference meets the
 -- objects up to its own
@@ -47,10 +49,10 @@ AreNumbered met (value ∷ values) =
 
 -- each object, numbered from this number on, is met before its own fields, where so many were met
 -- before those of the first
-abbrev pub AreMetBefore : ℕ → ℕ → List (List Value) → Type 0
+abbrev pub AreMetBefore : ℕ → ℕ → List PlainObject → Type 0
 AreMetBefore number met [] = ⊤
-AreMetBefore number met (fields ∷ others) =
-    (number < met) × AreMetBefore (number + 1) (met_after met fields) others
+AreMetBefore number met (object ∷ others) =
+    (number < met) × AreMetBefore (number + 1) (met_after met object.fields) others
 
 -- a value that a text can say: a whole number has a word
 abbrev pub IsTold : Value → Type 0
@@ -76,10 +78,15 @@ abbrev pub RootsRise : Option RootId → List (RootId × Value) → Type 0
 RootsRise last [] = ⊤
 RootsRise last (root ∷ roots) = IsRootAfter last root.0 × RootsRise (Some root.0) roots
 
--- an object's fields are at most 4,095, and each can be told
-pub record IsObjectTold (fields : List Value) : Type 0 where
-  pub few : length fields ≤ 4095
-  pub told : AllByRecursion IsTold fields
+-- a value that a raw object may hold
+abbrev pub IsUnreferring : Value → Type 0
+IsUnreferring value = is_reference value ≡ false
+
+-- an object's fields are at most 4,095, each can be told, and those of a raw one are no references
+pub record IsObjectTold (object : PlainObject) : Type 0 where
+  pub few : length object.fields ≤ 4095
+  pub told : AllByRecursion IsTold object.fields
+  pub raw : object.raw ≡ true → AllByRecursion IsUnreferring object.fields
 
 -- What every graph keeps: its roots stand in order, its objects are numbered breadth first, and all
 -- of them are met.

@@ -1,8 +1,9 @@
 -- What can be dumped.
-use Rattle.std.specs.Prelude.{◌≡◌, ◌<◌, ◌≤◌, ℕ, List, length, slice_get, Some}
+use Rattle.std.specs.Prelude.{◌≡◌, ◌<◌, ◌≤◌, ℕ, true, false, List, length, slice_get, Some}
 use Rattle.rh_layout.specs.declared.value.Value.{Value}
 use Rattle.rh_layout.specs.declared.value.Value.TheVariants.{Nil, Int, Ref}
 use Rattle.rh_layout.specs.declared.command.RootId.{RootId}
+use Rattle.rh_layout.specs.Value.{is_reference}
 use Rattle.rh_layout.specs.Word.{IsWhole}
 use Rattle.rh_model.specs.Graph.{Graph, root_value}
 use Rattle.rh_model.specs.Effects.{IsObject}
@@ -24,3 +25,6 @@ pub record IsDumpable (limit : ℕ) (g : Graph) : Type 0 where
   pub counts : (a : ℕ) (fields : List Value) → g.fields a ≡ Some fields → length fields ≤ 4095
   pub fields : (a f : ℕ) (fields : List Value) (v : Value)
       → g.fields a ≡ Some fields → slice_get fields f ≡ Some v → IsTellable g v
+  -- and no reference in a field of a raw object
+  pub raw : (a f : ℕ) (fields : List Value) (v : Value) → g.raw a ≡ true
+      → g.fields a ≡ Some fields → slice_get fields f ≡ Some v → is_reference v ≡ false

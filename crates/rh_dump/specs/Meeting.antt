@@ -1,11 +1,13 @@
 -- A dump as it is put together: each value is numbered as it is met.
-use Rattle.std.specs.Prelude.{◌≡◌, ◌<◌, ℕ, zero, suc, List, [], ◌∷◌, ◌++◌, map, length, slice_get, Some}
+use Rattle.std.specs.Prelude.{◌≡◌, ◌<◌, ℕ, zero, suc, List, [], ◌∷◌, ◌++◌, map, length, slice_get, Option, Some}
 use Rattle.rh_layout.specs.declared.value.Value.{Value}
 use Rattle.rh_layout.specs.declared.value.Value.TheVariants.{Nil, Int, Ref}
 use Rattle.rh_layout.specs.declared.command.RootId.{RootId}
+use Rattle.rh_layout.specs.declared.shape.Shape.{Shape}
+use Rattle.rh_layout.specs.Shape.{shape_of}
 use Rattle.rh_model.specs.Graph.{Graph}
 use Rattle.rh_dump.specs.Graph.{FlatGraph, empty_flat}
-use Rattle.rh_dump.specs.Numbering.{roots_of, with_value, with_values, values_at, names_after, numbered_value, numbered_root}
+use Rattle.rh_dump.specs.Numbering.{roots_of, with_value, with_values, values_at, kind_at, names_after, numbered_value, numbered_root}
 
 -- values as they are numbered when they are met, after these names
 abbrev pub met_values : List ℕ → List Value → List Value
@@ -19,11 +21,14 @@ met_roots names [] = []
 met_roots names (root ∷ roots) =
     numbered_root (with_value names root.1) root ∷ met_roots (with_value names root.1) roots
 
--- how many fields each object has, once so many were looked at
-abbrev pub counts_after : Graph → ℕ → List ℕ
-counts_after g zero = []
-counts_after g (suc n) =
-    counts_after g n ++ length (values_at g (slice_get (names_after g n) n)) ∷ []
+-- the shape of the object with this name, where there is such a name
+abbrev pub shape_at : Graph → Option ℕ → Shape
+shape_at g name = shape_of (length (values_at g name)) (kind_at g name)
+
+-- the shape of each object, once so many were looked at
+abbrev pub shapes_after : Graph → ℕ → List Shape
+shapes_after g zero = []
+shapes_after g (suc n) = shapes_after g n ++ shape_at g (slice_get (names_after g n) n) ∷ []
 
 -- what their fields hold, numbered, one object after the other
 abbrev pub values_after : Graph → ℕ → List Value
@@ -35,7 +40,7 @@ values_after g (suc n) =
 abbrev pub flat_after : Graph → ℕ → FlatGraph
 flat_after g n = record {
   roots = met_roots [] (roots_of g);
-  counts = counts_after g n;
+  shapes = shapes_after g n;
   values = values_after g n;
 }
 
@@ -61,18 +66,18 @@ with_roots s roots = record {
   names = with_values s.names (map (λ (root : RootId × Value). root.1) roots);
   flat = record {
     roots = s.flat.roots ++ met_roots s.names roots;
-    counts = s.flat.counts;
+    shapes = s.flat.shapes;
     values = s.flat.values;
   };
 }
 
--- an object of so many fields begins
-abbrev pub with_count : NumberingState → ℕ → NumberingState
-with_count s count = record {
+-- an object of this shape begins
+abbrev pub with_shape : NumberingState → Shape → NumberingState
+with_shape s shape = record {
   limit = s.limit;
   names = s.names;
   flat =
-      record { roots = s.flat.roots; counts = s.flat.counts ++ count ∷ []; values = s.flat.values };
+      record { roots = s.flat.roots; shapes = s.flat.shapes ++ shape ∷ []; values = s.flat.values };
 }
 
 -- these values are put, which fields hold, and met
@@ -82,7 +87,7 @@ with_fields s vs = record {
   names = with_values s.names vs;
   flat = record {
     roots = s.flat.roots;
-    counts = s.flat.counts;
+    shapes = s.flat.shapes;
     values = s.flat.values ++ met_values s.names vs;
   };
 }

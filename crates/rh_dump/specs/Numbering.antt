@@ -1,10 +1,11 @@
 -- The dump of a graph: the objects that are reached from its roots, numbered breadth first.
-use Rattle.std.specs.Prelude.{◌<◌, ℕ, zero, suc, ◌==◌, if◌then◌else◌, List, [], ◌∷◌, ◌++◌, map, slice_get, Option, Some, None}
+use Rattle.std.specs.Prelude.{◌<◌, ℕ, zero, suc, Bool, false, ◌==◌, if◌then◌else◌, List, [], ◌∷◌, ◌++◌, map, slice_get, Option, Some, None}
 use Rattle.rh_layout.specs.declared.value.Value.{Value}
 use Rattle.rh_layout.specs.declared.value.Value.TheVariants.{Nil, Int, Ref}
 use Rattle.rh_layout.specs.declared.command.RootId.{RootId}
 use Rattle.rh_model.specs.Graph.{Graph, root_value}
 use Rattle.rh_model.specs.Effects.{IsObject}
+use Rattle.rh_model.specs.Plain.{PlainObject}
 use Rattle.rh_model.specs.Reach.{Reached}
 use Rattle.rh_dump.specs.Dump.{GraphState}
 
@@ -60,6 +61,11 @@ abbrev pub values_at : Graph → Option ℕ → List Value
 values_at g None = []
 values_at g (Some a) = values_in (g.fields a)
 
+-- whether the object with this name is raw, where there is such a name
+abbrev pub kind_at : Graph → Option ℕ → Bool
+kind_at g None = false
+kind_at g (Some a) = g.raw a
+
 -- The names of the objects met, in order of first meeting, once the roots were looked at, and then
 -- so many objects in order of their numbers: the position of a name is the number of its object.
 abbrev pub names_after : Graph → ℕ → List ℕ
@@ -82,11 +88,16 @@ numbered_value names (Ref a) = Ref (number_in names a)
 abbrev pub numbered_root : List ℕ → RootId × Value → RootId × Value
 numbered_root names root = (root.0, numbered_value names root.1)
 
+-- the object with this name, with its values numbered
+abbrev pub numbered_object : Graph → List ℕ → ℕ → PlainObject
+numbered_object g names a =
+    record { raw = g.raw a; fields = map (numbered_value names) (values_in (g.fields a)) }
+
 -- the dump of a graph whose objects have these names, in order of their numbers
 abbrev pub dump_by : Graph → List ℕ → GraphState
 dump_by g names = record {
   roots = map (numbered_root names) (roots_of g);
-  objects = map (λ a. map (numbered_value names) (values_in (g.fields a))) names;
+  objects = map (numbered_object g names) names;
 }
 
 -- The dump of a graph that reaches only names below a limit: so many objects are looked at, which

@@ -4,7 +4,7 @@ ghost use Rattle.std.specs.Prelude.{◌≡◌, ◌↔◌, IsTrue};
 ghost use Rattle.rh_dump.specs.texts.Line.{dump_text};
 
 use crate::dump_graph::Graph;
-use rh_layout::{RootId, Value};
+use rh_layout::{RootId, Shape, Value};
 use std::alloc::Allocator;
 
 /// The roots and what they hold are equal, one by one.
@@ -14,11 +14,11 @@ fn same_roots(a: &[(RootId, Value)], b: &[(RootId, Value)]) -> bool
     a == b
 }
 
-/// The numbers are equal, one by one.
-fn same_counts(these: &[u32], those: &[u32]) -> bool
-    ensures { IsTrue result ↔ (these.now ≡ those.now) }
+/// The shapes are equal, one by one.
+fn same_shapes(a: &[Shape], b: &[Shape]) -> bool
+    ensures { IsTrue result ↔ (a.now ≡ b.now) }
 {
-    these == those
+    a == b
 }
 
 /// The values are equal, one by one.
@@ -36,7 +36,7 @@ pub fn same_text<A: Allocator, B: Allocator>(a: &Graph<A>, b: &Graph<B>) -> bool
     if !same_roots(&a.roots, &b.roots) {
         return false;
     }
-    if !same_counts(&a.counts, &b.counts) {
+    if !same_shapes(&a.shapes, &b.shapes) {
         return false;
     }
     same_values(&a.values, &b.values)

@@ -3,18 +3,19 @@
 ghost use Rattle.std.specs.Prelude.{◌≡◌, length};
 ghost use Rattle.rh_dump.specs.Dump.{IsGraph};
 
-use rh_layout::{RootId, Value};
+use rh_layout::{RootId, Shape, Value};
 use std::alloc::{Allocator, Global};
 use std::marker::Model;
 
 /// What a heap's roots reach: the roots that aren't nil, in order of owner, then slot, each with
-/// what it holds, and the objects in order of their numbers, each with what its fields hold.
+/// what it holds, and the objects in order of their numbers, each with whether it is raw and what
+/// its fields hold.
 /// Objects are numbered breadth first, and a reference is to the object of that number. It takes
-/// 24 bytes a root, 4 bytes an object and 16 bytes a field, and the room that its vectors grew by.
+/// 24 bytes a root, 8 bytes an object and 16 bytes a field, and the room that its vectors grew by.
 #[derive(Drop)]
 pub struct Graph<A: Allocator = Global> {
     pub(crate) roots: Vec<(RootId, Value), A>,
-    pub(crate) counts: Vec<u32, A>,
+    pub(crate) shapes: Vec<Shape, A>,
     pub(crate) values: Vec<Value, A>,
 }
 
@@ -26,18 +27,18 @@ impl<A: Allocator> Model for Graph<A> {
 
     ghost view = { λ g. graph_in (record {
       roots = g.roots.items;
-      counts = g.counts.items;
+      shapes = g.shapes.items;
       values = g.values.items;
     }) };
 
     ghost invariant = { λ g. IsFilled (record {
       roots = g.roots.items;
-      counts = g.counts.items;
+      shapes = g.shapes.items;
       values = g.values.items;
     })
         × IsGraph (graph_in (record {
           roots = g.roots.items;
-          counts = g.counts.items;
+          shapes = g.shapes.items;
           values = g.values.items;
         })) };
 }
@@ -55,6 +56,6 @@ impl<A: Allocator> Graph<A> {
     pub fn objects(&self) -> u64
         ensures { result ≡ length self.now.objects }
     {
-        self.counts.len() as u64
+        self.shapes.len() as u64
     }
 }

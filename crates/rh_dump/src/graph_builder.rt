@@ -5,16 +5,16 @@ ghost use Rattle.rh_dump.specs.Dump.{IsGraph};
 ghost use Rattle.rh_dump.specs.Graph.{empty_flat, graph_in, IsFilled};
 
 use crate::dump_graph::Graph;
-use rh_layout::{OutOfMemory, RootId, Value};
+use rh_layout::{OutOfMemory, RootId, Shape, Value};
 use std::alloc::{Allocator, Global};
 use std::marker::Model;
 
-/// A graph that is being put together: its roots, how many fields each object has, and what the
-/// fields hold, one after the other. In between it needn't be a graph.
+/// A graph that is being put together: its roots, the shape of each object, and what the fields
+/// hold, one after the other. In between it needn't be a graph.
 #[derive(Drop)]
 pub struct GraphBuilder<A: Allocator = Global> {
     roots: Vec<(RootId, Value), A>,
-    counts: Vec<u32, A>,
+    shapes: Vec<Shape, A>,
     values: Vec<Value, A>,
 }
 
@@ -25,7 +25,7 @@ impl<A: Allocator> Model for GraphBuilder<A> {
 
     ghost view = { λ g. record {
       roots = g.roots.items;
-      counts = g.counts.items;
+      shapes = g.shapes.items;
       values = g.values.items;
     } };
 }
@@ -37,7 +37,7 @@ impl<A: Allocator + Copy> GraphBuilder<A> {
     {
         GraphBuilder {
             roots: Vec::new(alloc),
-            counts: Vec::new(alloc),
+            shapes: Vec::new(alloc),
             values: Vec::new(alloc),
         }
     }
@@ -58,17 +58,17 @@ impl<A: Allocator + Copy> GraphBuilder<A> {
         Ok(())
     }
 
-    /// Begins the next object, which has so many fields.
+    /// Begins the next object, which has this shape.
     ///
     /// # Errors
     ///
     /// The allocator refused memory. Nothing has changed then.
-    pub(crate) fn begin_object(&mut self, fields: u32) -> Result<(), OutOfMemory>
+    pub(crate) fn begin_object(&mut self, shape: Shape) -> Result<(), OutOfMemory>
         ensures ok { OnOk result
-            (self.new ≡ record self.old { counts = self.old.counts ++ fields ∷ [] }) }
+            (self.new ≡ record self.old { shapes = self.old.shapes ++ shape ∷ [] }) }
         ensures err { OnErr result (self.new ≡ self.old) }
     {
-        if self.counts.push(fields).is_err() {
+        if self.shapes.push(shape).is_err() {
             return Err(OutOfMemory);
         }
         Ok(())
@@ -98,7 +98,7 @@ impl<A: Allocator + Copy> GraphBuilder<A> {
     {
         Graph {
             roots: self.roots,
-            counts: self.counts,
+            shapes: self.shapes,
             values: self.values,
         }
     }

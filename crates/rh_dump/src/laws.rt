@@ -1,6 +1,7 @@
 //! Laws of the definitions alone. Each function does nothing: its contract is the law.
 
-ghost use Rattle.std.specs.Prelude.{◌≡◌, ◌↔◌, ◌≤◌, ℕ, List, Some, Ok, Err, length, slice_get};
+ghost use Rattle.std.specs.Prelude.{◌≡◌, ◌↔◌, ◌≤◌, ℕ, false, List, Some, Ok, Err, length, slice_get};
+ghost use Rattle.std.specs.List.{AllByRecursion};
 ghost use Rattle.rh_text.specs.RawLine.{lines_of};
 ghost use Rattle.rh_text.specs.Stages.{IsFaultless, IsFirst};
 ghost use Rattle.rh_model.specs.Graph.{Graph};
@@ -13,7 +14,9 @@ ghost use Rattle.rh_dump.specs.Dumpable.{IsDumpable};
 ghost use Rattle.rh_dump.specs.Numbering.{names_after, dump_below, ReachesObjectsBelow};
 ghost use Rattle.rh_dump.specs.Dump.{GraphState, IsGraph};
 ghost use Rattle.rh_dump.specs.texts.Faults.{dump_faults};
-ghost use Rattle.rh_dump.specs.texts.Line.{dump_text};
+ghost use Rattle.rh_dump.specs.declared.reading.due.Version.{Version};
+ghost use Rattle.rh_dump.specs.declared.reading.due.Version.TheVariants.{One};
+ghost use Rattle.rh_dump.specs.texts.Line.{CanSay, IsTextOf, dump_text, text_in};
 ghost use Rattle.rh_dump.specs.texts.Reading.{graph_of_text};
 ghost use Rattle.rh_dump.specs.declared.reading.fault.DumpFault.{DumpFault as FaultOf};
 
@@ -73,18 +76,24 @@ pub fn equal_dump_texts_are_same_graphs()
         ↔ SameGraph (plain.graph_of p) (plain.graph_of q) }
 {}
 
-/// What a graph is spelled as is read as that graph, where it has at most 268,435,456 bytes, and
-/// nothing else is read as it.
+/// Each graph is read from its text of version 2, and from its text of version 1 where it has no
+/// raw object, if the text has at most 268,435,456 bytes; and nothing else is read as it.
 pub fn what_is_spelled_is_read()
     ensures spelled { (g : GraphState) → IsGraph g → length (dump_text g) ≤ MAX_DUMP_BYTES
         → graph_of_text (dump_text g) ≡ Ok g }
+    ensures version_1 { (g : GraphState) → IsGraph g
+        → AllByRecursion (λ object. object.raw ≡ false) g.objects
+        → length (text_in One g) ≤ MAX_DUMP_BYTES → graph_of_text (text_in One g) ≡ Ok g }
     ensures read { (text : List ℕ) (g : GraphState) → graph_of_text text ≡ Ok g
-        → IsGraph g × (text ≡ dump_text g) × (length text ≤ MAX_DUMP_BYTES) }
+        → IsGraph g × IsTextOf text g × (length text ≤ MAX_DUMP_BYTES) }
 {}
 
-/// Graphs with equal texts are equal, however long these are.
+/// Graphs with equal texts are equal, however long these are, and of one version.
 pub fn equal_texts_are_of_equal_graphs()
-    ensures { (a b : GraphState) → IsGraph a → IsGraph b → dump_text a ≡ dump_text b → a ≡ b }
+    ensures dumps { (a b : GraphState) → IsGraph a → IsGraph b → dump_text a ≡ dump_text b → a ≡ b }
+    ensures versions { (v w : Version) (a b : GraphState) → IsGraph a → IsGraph b
+        → AllByRecursion (CanSay v) a.objects → AllByRecursion (CanSay w) b.objects
+        → text_in v a ≡ text_in w b → (v ≡ w) × (a ≡ b) }
 {}
 
 /// What every graph keeps is what every dump of a plain heap of at most 16,777,216 objects keeps,
@@ -96,15 +105,19 @@ pub fn graphs_are_the_dumps_of_plain_heaps()
     ensures described { (g : GraphState) → IsGraph g
         → IsPlain (plain_heap_of g) × (plain_dump_of (plain_heap_of g) ≡ g) }
     ensures texts { (text : List ℕ) (g : GraphState) → graph_of_text text ≡ Ok g
-        → IsPlain (plain_heap_of g) × (text ≡ dump_text (plain_dump_of (plain_heap_of g))) }
+        → IsPlain (plain_heap_of g) × IsTextOf text (plain_dump_of (plain_heap_of g)) }
 {}
 
-/// Each graph has one spelling: two texts that are read are equal exactly where the plain heaps
-/// that they describe are the same graph, up to the names of their objects, and so are two graphs.
-/// The dump of a plain heap describes the same graph as the heap.
+/// Each graph has one spelling in a version: two texts of one version that are read are equal
+/// exactly where the plain heaps that they describe are the same graph, up to the names of their
+/// objects, and so are two graphs. Texts of two versions are read as equal graphs exactly where
+/// these heaps are the same graph. The dump of a plain heap describes the same graph as the heap.
 pub fn each_graph_has_one_text()
-    ensures texts { (s t : List ℕ) (g h : GraphState) → graph_of_text s ≡ Ok g
-        → graph_of_text t ≡ Ok h → (s ≡ t)
+    ensures texts { (v : Version) (s t : List ℕ) (g h : GraphState) → graph_of_text s ≡ Ok g
+        → graph_of_text t ≡ Ok h → s ≡ text_in v g → t ≡ text_in v h → (s ≡ t)
+        ↔ SameGraph (plain.graph_of (plain_heap_of g)) (plain.graph_of (plain_heap_of h)) }
+    ensures read { (s t : List ℕ) (g h : GraphState) → graph_of_text s ≡ Ok g
+        → graph_of_text t ≡ Ok h → (g ≡ h)
         ↔ SameGraph (plain.graph_of (plain_heap_of g)) (plain.graph_of (plain_heap_of h)) }
     ensures graphs { (g h : GraphState) → IsGraph g → IsGraph h → (g ≡ h)
         ↔ SameGraph (plain.graph_of (plain_heap_of g)) (plain.graph_of (plain_heap_of h)) }
@@ -121,7 +134,7 @@ pub fn the_first_fault_is_named()
     ensures none { (text : List ℕ) (g : GraphState) → graph_of_text text ≡ Ok g
         → (n : ℕ) → IsFaultless (dump_faults (lines_of text) n) }
     ensures spelled { (text : List ℕ) → ((n : ℕ) → IsFaultless (dump_faults (lines_of text) n))
-        → (g : GraphState) × IsGraph g × (text ≡ dump_text g) }
+        → (g : GraphState) × IsGraph g × IsTextOf text g }
 {}
 
 /// The limits that clauses and code name are those that definitions and the format say.

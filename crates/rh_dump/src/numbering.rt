@@ -1,6 +1,7 @@
 //! The numbering of objects, breadth first.
 
 ghost use Rattle.std.specs.Prelude.{◌≡◌, ◌<◌, ◌≤◌, ℕ, [], ◌∷◌, ◌++◌, length, OnOk, OnErr, IfOk, IfSome, slice_get, Some, None};
+ghost use Rattle.rh_layout.specs.Shape.{shape_of};
 ghost use Rattle.rh_dump.specs.Dump.{IsGraph};
 ghost use Rattle.rh_dump.specs.Graph.{graph_in, IsFilled};
 ghost use Rattle.rh_model.specs.Graph.{root_value};
@@ -21,7 +22,7 @@ ghost use Rattle.rh_dump.specs.Meeting.{
   IsBelow,
   empty_numbering,
   with_roots,
-  with_count,
+  with_shape,
   with_fields,
   numbering_after,
 };
@@ -31,7 +32,7 @@ use crate::graph_builder::GraphBuilder;
 use crate::limits::MAX_OBJECTS;
 use crate::object_graph::ObjectGraph;
 use rh_layout::limits::{MAX_OWNERS, MAX_SLOTS};
-use rh_layout::{OutOfMemory, RootId, Value};
+use rh_layout::{OutOfMemory, RootId, Shape, Value};
 use std::alloc::{AllocError, Allocator, Global};
 use std::marker::Model;
 
@@ -139,11 +140,11 @@ impl<A: Allocator + Copy> Numbering<A> {
         self.graph.push_root(id, numbered)
     }
 
-    /// Begins an object of so many fields.
-    fn put_count(&mut self, count: u32) -> Result<(), OutOfMemory>
-        ensures { OnOk result (self.new ≡ with_count self.old count) }
+    /// Begins an object of this shape.
+    fn put_shape(&mut self, shape: Shape) -> Result<(), OutOfMemory>
+        ensures { OnOk result (self.new ≡ with_shape self.old shape) }
     {
-        self.graph.begin_object(count)
+        self.graph.begin_object(shape)
     }
 
     /// The name of the object of this number.
@@ -205,11 +206,12 @@ impl<A: Allocator + Copy> Numbering<A> {
         requires small { H.is_small heap.now }
         requires dumpable { IsDumpable self.old.limit (H.graph heap.now) }
         ensures { let fields = values_in ((H.graph heap.now).fields name)
-            in OnOk result (self.new ≡ with_fields (with_count self.old (length fields)) fields) }
+            in OnOk result (self.new ≡ with_fields (with_shape self.old
+            (shape_of (length fields) ((H.graph heap.now).raw name))) fields) }
     {
-        let count = heap.count(name);
-        self.put_count(count)?;
-        for field in 0..count {
+        let shape = heap.shape(name);
+        self.put_shape(shape)?;
+        for field in 0..shape.fields {
             self.put_field(heap.value(name, field))?;
         }
         Ok(())

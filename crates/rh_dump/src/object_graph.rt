@@ -1,12 +1,13 @@
 //! A heap, as the numbering reads it.
 
 ghost use Rattle.std.specs.Prelude.{◌≡◌, ◌<◌, ℕ, length, slice_index_or};
+ghost use Rattle.rh_layout.specs.Shape.{shape_of};
 ghost use Rattle.rh_layout.specs.declared.value.Value.TheVariants.{Nil};
 ghost use Rattle.rh_model.specs.Graph.{Graph, root_value};
 ghost use Rattle.rh_dump.specs.Numbering.{values_in};
 ghost use Rattle.rh_dump.specs.Dumpable.{IsDumpable};
 
-use rh_layout::{RootId, Value};
+use rh_layout::{RootId, Shape, Value};
 
 /// A heap as the numbering reads it: its roots, and objects with fields, whose names are numbers
 /// below a limit. Whoever has a heap of a kind of its own dumps it by
@@ -23,7 +24,7 @@ pub trait ObjectGraph {
 
     /// What all names are below. The heap holds nothing that a dump can't say: there are at most
     /// 16,777,216 names, 16 owners with 256 slots each, and 4,095 fields of an object; each whole
-    /// number has a word, and each reference is to an object.
+    /// number has a word, each reference is to an object, and no field of a raw object holds one.
     fn limit(&self) -> u32
         requires { is_small self.now }
         ensures limit { result ≡ limit_of self.now }
@@ -34,10 +35,11 @@ pub trait ObjectGraph {
         requires { is_small self.now }
         ensures { result ≡ root_value (graph self.now) id };
 
-    /// How many fields the object with this name has; none where there is no such object.
-    fn count(&self, name: u32) -> u32
+    /// The shape of the object with this name; no fields where there is no such object.
+    fn shape(&self, name: u32) -> Shape
         requires { is_small self.now }
-        ensures { result ≡ length (values_in ((graph self.now).fields name)) };
+        ensures { result ≡ shape_of (length (values_in ((graph self.now).fields name)))
+            ((graph self.now).raw name) };
 
     /// What the field holds of the object with this name.
     fn value(&self, name: u32, field: u32) -> Value

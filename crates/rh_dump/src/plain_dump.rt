@@ -10,7 +10,7 @@ use crate::dump_graph::Graph;
 use crate::limits::MAX_OBJECTS;
 use crate::numbering::numbered_graph;
 use crate::object_graph::ObjectGraph;
-use rh_layout::{OutOfMemory, RootId, Value};
+use rh_layout::{OutOfMemory, RootId, Shape, Value};
 use rh_model::{Plain, PlainValue};
 use std::alloc::Allocator;
 
@@ -36,11 +36,16 @@ impl<A: Allocator + Copy> ObjectGraph for Plain<A> {
         }
     }
 
-    fn count(&self, name: u32) -> u32 {
-        match self.fields(name as usize) {
-            Some(count) => count,
+    fn shape(&self, name: u32) -> Shape {
+        let fields = match self.fields(name as usize) {
+            Some(fields) => fields,
             None => 0,
-        }
+        };
+        let raw = match self.raw(name as usize) {
+            Some(raw) => raw,
+            None => false,
+        };
+        Shape { fields, raw }
     }
 
     fn value(&self, name: u32, field: u32) -> Value {

@@ -83,7 +83,7 @@ fn graph_in_text<A: Allocator + Copy>(alloc: A, text: &[u8]) -> Result<Graph<A>,
     }
 }
 
-/// Reads a dump whole and gives its graph. It takes at most twice the text beside what the graph
+/// Reads a dump of version 1 or 2 whole and gives its graph. It takes at most twice the text beside what the graph
 /// keeps.
 ///
 /// # Errors

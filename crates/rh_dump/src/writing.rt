@@ -14,7 +14,7 @@ use crate::dump_graph::Graph;
 use crate::writing::spelling::{
     put_head, put_next_value, put_object_head, put_objects_line, put_root_line,
 };
-use rh_layout::{RootId, Value};
+use rh_layout::{RootId, Shape, Value};
 use rh_text::{IoLog, LineText, Write, send};
 use std::alloc::Allocator;
 use std::io;
@@ -49,19 +49,20 @@ fn write_object<W: io::Write>(
     writer: &mut W,
     writes: &mut IoLog,
     number: usize,
+    raw: bool,
     fields: &[Value],
 ) -> Result<(), Write>
     requires { writes.old.failed ≡ false }
     ensures ok { OnOk result (Appends (W.contents writer.old) (W.contents writer.new)
-        (spell_dump_line (object_line number fields.now))) }
+        (spell_dump_line (object_line number (record { raw = raw; fields = fields.now })))) }
     ensures err { OnErr result (AppendsLess (W.contents writer.old) (W.contents writer.new)
-        (spell_dump_line (object_line number fields.now))) }
+        (spell_dump_line (object_line number (record { raw = raw; fields = fields.now })))) }
     ensures failed { OnErr result (AreSpent writes.new) }
     ensures none_failed { OnOk result (writes.new.failed ≡ false) }
     ensures spent { OnErr result (AreSpentSince writes.old writes.new) }
     ensures counted { MadeSince 0 writes.old writes.new }
 {
-    put_object_head(text, number, fields.len());
+    put_object_head(text, number, raw, fields.len());
     send(writer, writes, text.as_bytes())?;
     for value in fields {
         put_next_value(text, *value);
@@ -75,15 +76,15 @@ fn write_objects<W: io::Write>(
     text: &mut LineText,
     writer: &mut W,
     writes: &mut IoLog,
-    counts: &[u32],
+    shapes: &[Shape],
     values: &[Value],
 ) -> Result<(), Write>
     requires none_failed { writes.old.failed ≡ false }
-    requires filled { total counts.now ≡ length values.now }
+    requires filled { total shapes.now ≡ length values.now }
     ensures ok { OnOk result (Appends (W.contents writer.old) (W.contents writer.new)
-        (flat_map spell_dump_line (object_lines 0 (objects_in counts.now values.now)))) }
+        (flat_map spell_dump_line (object_lines 0 (objects_in shapes.now values.now)))) }
     ensures err { OnErr result (AppendsLess (W.contents writer.old) (W.contents writer.new)
-        (flat_map spell_dump_line (object_lines 0 (objects_in counts.now values.now)))) }
+        (flat_map spell_dump_line (object_lines 0 (objects_in shapes.now values.now)))) }
     ensures failed { OnErr result (AreSpent writes.new) }
     ensures none_failed { OnOk result (writes.new.failed ≡ false) }
     ensures spent { OnErr result (AreSpentSince writes.old writes.new) }
@@ -91,9 +92,9 @@ fn write_objects<W: io::Write>(
 {
     let mut rest = values;
     let mut number = 0;
-    for count in counts {
-        let (fields, others) = rest.split_at(*count as usize);
-        write_object(text, writer, writes, number, fields)?;
+    for shape in shapes {
+        let (fields, others) = rest.split_at(shape.fields as usize);
+        write_object(text, writer, writes, number, shape.raw, fields)?;
         number += 1;
         rest = others;
     }
@@ -105,21 +106,21 @@ fn write_flat<W: io::Write>(
     writer: &mut W,
     writes: &mut IoLog,
     roots: &[(RootId, Value)],
-    counts: &[u32],
+    shapes: &[Shape],
     values: &[Value],
 ) -> Result<(), Write>
     requires none_failed { writes.old.failed ≡ false }
-    requires filled { total counts.now ≡ length values.now }
+    requires filled { total shapes.now ≡ length values.now }
     ensures ok { OnOk result (Appends (W.contents writer.old) (W.contents writer.new)
         (dump_text (graph_in (record {
           roots = roots.now;
-          counts = counts.now;
+          shapes = shapes.now;
           values = values.now;
         })))) }
     ensures err { OnErr result (AppendsLess (W.contents writer.old) (W.contents writer.new)
         (dump_text (graph_in (record {
           roots = roots.now;
-          counts = counts.now;
+          shapes = shapes.now;
           values = values.now;
         })))) }
     ensures failed { OnErr result (AreSpent writes.new) }
@@ -131,13 +132,13 @@ fn write_flat<W: io::Write>(
     put_head(&mut text, roots.len());
     send(writer, writes, text.as_bytes())?;
     write_roots(&mut text, writer, writes, roots)?;
-    put_objects_line(&mut text, counts.len());
+    put_objects_line(&mut text, shapes.len());
     send(writer, writes, text.as_bytes())?;
-    write_objects(&mut text, writer, writes, counts, values)?;
+    write_objects(&mut text, writer, writes, shapes, values)?;
     send(writer, writes, b"end\n")
 }
 
-/// Writes the dump text of a graph, a line or a part of a line in each write that the writer takes
+/// Writes the dump text of a graph, in version 2, a line or a part of a line in each write that the writer takes
 /// whole. It takes no memory.
 ///
 /// # Errors
@@ -179,5 +180,5 @@ pub fn write_dump_logged<A: Allocator, W: io::Write>(
     // No fewer were made than before.
     ensures counted { MadeSince 0 writes.old writes.new }
 {
-    write_flat(writer, writes, &graph.roots, &graph.counts, &graph.values)
+    write_flat(writer, writes, &graph.roots, &graph.shapes, &graph.values)
 }

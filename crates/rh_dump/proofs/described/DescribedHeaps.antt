@@ -2,24 +2,27 @@
 use Rattle.std.specs.Prelude.{◌≡◌, ◌↔◌, ◌<◌, ◌≤◌, ◌*◌, ℕ, Bool, true, false, nat_lt, if◌then◌else◌, All, List, [], ◌∷◌, length, replicate, slice_get, slice_index_or, slice_set, Option, Some, None, Ok}
 use Rattle.std.specs.List.{AllByRecursion}
 use Rattle.std.proofs.Common.{refl, sym, ap, subst, ◌∙◌, arith, inl, inr}
-use Rattle.std.proofs.Math.ListN.{get_or}
+use Rattle.std.specs.Option.{option_map}
+use Rattle.std.proofs.Math.ListN.{get_or, length-map}
 use Rattle.std.proofs.lemmas.Bool.{cases_eq, cases_lt, lt-ltb, and_from}
 use Rattle.std.proofs.lemmas.List.{get_or-set_same, get_or-set_other, set_past, get_or_past, length-replicate, get_or-replicate}
 use Rattle.std.proofs.lemmas.List.Elements.{All-from_get_or}
-use Rattle.std.proofs.lemmas.Option.{slice_get-get_or}
+use Rattle.std.proofs.lemmas.Option.{slice_get-get_or, slice_get-map, get_or_from_slice_get}
 use Rattle.rh_layout.specs.declared.value.Value.{Value}
 use Rattle.rh_layout.specs.declared.value.Value.TheVariants.{Nil, Int, Ref}
 use Rattle.rh_layout.specs.declared.command.RootId.{RootId}
 use Rattle.rh_layout.specs.Root.{has_root, root_position}
 use Rattle.rh_model.specs.Graph.{root_value, field_value}
-use Rattle.rh_model.specs.Plain.{PlainHeap, IsPlain, IsStorable, empty_plain, with_root, graph_of}
+use Rattle.rh_layout.specs.Value.{is_reference}
+use Rattle.rh_model.specs.Plain.{PlainObject, PlainHeap, field_lists, kinds, IsPlain, IsStorable, empty_plain, with_root, graph_of}
 use Rattle.rh_model.specs.SameGraph.{SameGraph}
 use Rattle.rh_text.specs.lemmas.Steps.{ok_is}
-use Rattle.rh_dump.specs.Dump.{GraphState, IsTold, IsRootTold, IsObjectTold, IsGraph}
+use Rattle.rh_dump.specs.Dump.{GraphState, IsTold, IsRootTold, IsUnreferring, IsObjectTold, IsGraph}
 use Rattle.rh_dump.specs.Meeting.{IsBelow}
 use Rattle.rh_dump.specs.Numbering.{dump_below}
 use Rattle.rh_dump.specs.PlainDump.{plain_dump_of, plain_heap_of, with_held}
-use Rattle.rh_dump.specs.texts.Line.{dump_text}
+use Rattle.rh_dump.specs.declared.reading.due.Version.{Version}
+use Rattle.rh_dump.specs.texts.Line.{text_in, IsTextOf}
 use Rattle.rh_dump.specs.texts.Reading.{graph_of_text}
 use Rattle.rh_dump.proofs.numbers.Names.{Member, Member-at}
 use Rattle.rh_dump.proofs.numbers.FlatDump.{AllByRecursion-members}
@@ -36,13 +39,13 @@ each_of P (y ∷ ys) all x (inl is) = subst P is all.0
 each_of P (y ∷ ys) all x (inr m) = each_of P ys all.1 x m
 
 -- what can be told, and refers to one of the objects, may be stored
-storable : (objects : List (List Value)) (v : Value) → IsTold v → IsBelow (length objects) v → IsStorable objects v
+storable : (objects : List PlainObject) (v : Value) → IsTold v → IsBelow (length objects) v → IsStorable objects v
 storable objects Nil told below = tt
 storable objects (Int n) told below = told
 storable objects (Ref a) told below = below
 
 -- roots that may be stored still may once one is given another
-storable_with : (objects : List (List Value)) (values : List Value) (place : ℕ) (v : Value) → IsStorable objects v → ((i : ℕ) → IsStorable objects (slice_index_or values i Nil))
+storable_with : (objects : List PlainObject) (values : List Value) (place : ℕ) (v : Value) → IsStorable objects v → ((i : ℕ) → IsStorable objects (slice_index_or values i Nil))
     → (i : ℕ) → IsStorable objects (slice_index_or (slice_set values place v) i Nil)
 storable_with objects values place v stored all i = elim (cases_lt place (length values)) [
   | inr past ↦ subst (λ l. IsStorable objects (slice_index_or l i Nil)) (sym (set_past values place v (omega (arith, past)))) (all i)
@@ -54,34 +57,47 @@ storable_with objects values place v stored all i = elim (cases_lt place (length
   ]
 ]
 
-storable_held : (objects : List (List Value)) (p : PlainHeap) (xs : List (RootId × Value)) → ((x : RootId × Value) → Member x xs → IsStorable objects x.1) → ((i : ℕ) → IsStorable objects (slice_index_or p.roots i Nil))
+storable_held : (objects : List PlainObject) (p : PlainHeap) (xs : List (RootId × Value)) → ((x : RootId × Value) → Member x xs → IsStorable objects x.1) → ((i : ℕ) → IsStorable objects (slice_index_or p.roots i Nil))
     → (i : ℕ) → IsStorable objects (slice_index_or (with_held p xs).roots i Nil)
 storable_held objects p [] each all i = all i
 storable_held objects p (x ∷ xs) each all i =
     storable_held objects (with_root p x.0 x.1) xs (λ y m. each y (inr m)) (storable_with objects p.roots (root_position p.slots x.0) x.1 (each x (inl refl)) all) i
 
 -- what a field holds may be stored, where what each field of each object holds may be
-storable_field : (objects : List (List Value)) → ((fields : List Value) (v : Value) → Member fields objects → Member v fields → IsStorable objects v) → (a f : ℕ) → IsStorable objects (field_value (slice_get objects a) f)
-storable_field objects each a f = by (slice_get objects a) refl
+field_by : (P : Value → Type 0) (objects : List PlainObject) → P Nil → (a f : ℕ) → ((object : PlainObject) → slice_get objects a ≡ Some object → (v : Value) → Member v object.fields → P v) → P (field_value (slice_get (field_lists objects) a) f)
+field_by P objects nil a f each = by (slice_get objects a) refl (slice_get-map (λ (o : PlainObject). o.fields) objects a)
   where
-    by : (o : Option (List Value)) → slice_get objects a ≡ o → IsStorable objects (field_value o f)
-    by None is = tt
-    by (Some fields) is = elim (cases_lt f (length fields)) [
-      | inl inside ↦ each fields (slice_index_or fields f Nil) (Member-at fields objects a is) (Member-at (slice_index_or fields f Nil) fields f (slice_get-get_or fields f Nil inside))
-      | inr past ↦ subst (IsStorable objects) (sym (get_or_past fields f Nil (omega (arith, past)))) tt
-    ]
+    by : (o : Option PlainObject) → slice_get objects a ≡ o → slice_get (field_lists objects) a ≡ option_map (λ (o : PlainObject). o.fields) (slice_get objects a) → P (field_value (slice_get (field_lists objects) a) f)
+    by None none is = subst (λ (o : Option (List Value)). P (field_value o f)) (sym (is ∙ ap (option_map (λ (o : PlainObject). o.fields)) none)) nil
+    by (Some object) there is =
+        let fields = object.fields in
+        subst (λ (o : Option (List Value)). P (field_value o f)) (sym (is ∙ ap (option_map (λ (o : PlainObject). o.fields)) there)) (elim (cases_lt f (length fields)) [
+          | inl inside ↦ each object there (slice_index_or fields f Nil) (Member-at (slice_index_or fields f Nil) fields f (slice_get-get_or fields f Nil inside))
+          | inr past ↦ subst P (sym (get_or_past fields f Nil (omega (arith, past)))) nil
+        ])
+
+storable_field : (objects : List PlainObject) → ((object : PlainObject) (v : Value) → Member object objects → Member v object.fields → IsStorable objects v) → (a f : ℕ) → IsStorable objects (field_value (slice_get (field_lists objects) a) f)
+storable_field objects each a f = field_by (IsStorable objects) objects tt a f (λ object at v m. each object v (Member-at object objects a at) m)
+
+-- what a field of a raw object holds is no reference
+unreferring_field : (objects : List PlainObject) → AllByRecursion IsObjectTold objects → (a f : ℕ) → slice_index_or (kinds objects) a false ≡ true → is_reference (field_value (slice_get (field_lists objects) a) f) ≡ false
+unreferring_field objects told a f raw =
+    field_by IsUnreferring objects refl a f (λ object at v m.
+    let kind : slice_get (kinds objects) a ≡ Some object.raw = slice_get-map (λ (o : PlainObject). o.raw) objects a ∙ ap (option_map (λ (o : PlainObject). o.raw)) at in
+    let is : object.raw ≡ true = sym (get_or_from_slice_get (kinds objects) a object.raw false kind) ∙ raw in
+    each_of IsUnreferring object.fields ((each_of IsObjectTold objects told object (Member-at object objects a at)).raw is) v m)
 
 -- a plain heap with these objects whose roots are nil, of so many owners with so many slots
-abbrev bare : ℕ → ℕ → List (List Value) → PlainHeap
+abbrev bare : ℕ → ℕ → List PlainObject → PlainHeap
 bare owners slots objects = record (empty_plain owners slots) { objects = objects }
 
-bare_root : (owners slots : ℕ) (objects : List (List Value)) (i : ℕ) → slice_index_or (bare owners slots objects).roots i Nil ≡ Nil
+bare_root : (owners slots : ℕ) (objects : List PlainObject) (i : ℕ) → slice_index_or (bare owners slots objects).roots i Nil ≡ Nil
 bare_root owners slots objects i = elim (cases_lt i (owners * slots)) [
   | inl inside ↦ get_or-replicate (owners * slots) i Nil Nil inside
   | inr past ↦ get_or_past (replicate (owners * slots) Nil) i Nil (omega (arith, past, length-replicate (owners * slots) Nil))
 ]
 
-bare_held : (owners slots : ℕ) (objects : List (List Value)) (r : RootId) → root_value (graph_of (bare owners slots objects)) r ≡ Nil
+bare_held : (owners slots : ℕ) (objects : List PlainObject) (r : RootId) → root_value (graph_of (bare owners slots objects)) r ≡ Nil
 bare_held owners slots objects r = by (has_root owners slots r)
   where
     by : (t : Bool) → (if t then slice_index_or (replicate (owners * slots) Nil) (root_position slots r) Nil else Nil) ≡ Nil
@@ -110,10 +126,10 @@ module _ (owners slots : ℕ) (some_owner : 1 ≤ owners) (few_owners : owners �
   root_storable : (x : RootId × Value) → Member x g.roots → IsStorable g.objects x.1
   root_storable x m = storable g.objects x.1 (told x m).3 (IsBelow-root g is x m)
 
-  field_storable : (fields : List Value) (v : Value) → Member fields g.objects → Member v fields → IsStorable g.objects v
-  field_storable fields v m at =
-      let object = each_of IsObjectTold g.objects is.objects fields m in
-      storable g.objects v (each_of IsTold fields object.told v at) (IsBelow-field g is fields v m at)
+  field_storable : (object : PlainObject) (v : Value) → Member object g.objects → Member v object.fields → IsStorable g.objects v
+  field_storable object v m at =
+      let told = each_of IsObjectTold g.objects is.objects object m in
+      storable g.objects v (each_of IsTold object.fields told.told v at) (IsBelow-field g is object v m at)
 
   heap_objects : heap.objects ≡ g.objects
   heap_objects = objects-with_held empty g.roots
@@ -127,23 +143,32 @@ module _ (owners slots : ℕ) (some_owner : 1 ≤ owners) (few_owners : owners �
     root_count =
         root_count-with_held empty g.roots ∙ length-replicate (owners * slots) Nil
         ∙ ap (λ n. n * slots) (sym (owners-with_held empty g.roots)) ∙ ap (λ n. heap.owners * n) (sym (slots-with_held empty g.roots));
-    field_counts = subst (All (λ fields. length fields ≤ 4095)) (sym heap_objects) few_fields;
+    field_counts = subst (λ objects. All (λ fields. length fields ≤ 4095) (field_lists objects)) (sym heap_objects) few_fields;
     roots = subst (λ objects. (place : ℕ) → IsStorable objects (slice_index_or heap.roots place Nil)) (sym heap_objects)
         (storable_held g.objects empty g.roots root_storable (λ i. subst (IsStorable g.objects) (sym (bare_root owners slots g.objects i)) tt));
-    fields = subst (λ objects. (a f : ℕ) → IsStorable objects (field_value (slice_get objects a) f)) (sym heap_objects) (storable_field g.objects field_storable);
+    fields = subst (λ objects. (a f : ℕ) → IsStorable objects (field_value (slice_get (field_lists objects) a) f)) (sym heap_objects) (storable_field g.objects field_storable);
+    raw = subst (λ objects. (a f : ℕ) → slice_index_or (kinds objects) a false ≡ true → is_reference (field_value (slice_get (field_lists objects) a) f) ≡ false) (sym heap_objects) (unreferring_field g.objects is.objects);
   }
     where
-      few_fields : All (λ fields. length fields ≤ 4095) g.objects
+      none : PlainObject
+      none = record { raw = false; fields = [] }
+
+      few_fields : All (λ fields. length fields ≤ 4095) (field_lists g.objects)
       few_fields =
-          All-from_get_or (λ fields. length fields ≤ 4095) g.objects [] (λ i less.
-          (each_of IsObjectTold g.objects is.objects (get_or g.objects i []) (Member-at (get_or g.objects i []) g.objects i (slice_get-get_or g.objects i [] less))).few)
+          All-from_get_or (λ fields. length fields ≤ 4095) (field_lists g.objects) [] (λ i less.
+          let inside : i < length g.objects = omega (arith, less, length-map g.objects (λ (o : PlainObject). o.fields)) in
+          let object : PlainObject = get_or g.objects i none in
+          let at : slice_get g.objects i ≡ Some object = slice_get-get_or g.objects i none inside in
+          let found : slice_get (field_lists g.objects) i ≡ Some object.fields = slice_get-map (λ (o : PlainObject). o.fields) g.objects i ∙ ap (option_map (λ (o : PlainObject). o.fields)) at in
+          subst (λ (fields : List Value). length fields ≤ 4095) (sym (get_or_from_slice_get (field_lists g.objects) i object.fields [] found)) (each_of IsObjectTold g.objects is.objects object (Member-at object g.objects i at)).few)
 
   heap_dump : plain_dump_of heap ≡ g
   heap_dump =
-      ap (λ (objects : List (List Value)). dump_below (length objects) (graph_of heap)) heap_objects
+      ap (λ (objects : List PlainObject). dump_below (length objects) (graph_of heap)) heap_objects
       ∙ dump_below-graph g is (graph_of heap)
       (roots_of-with_held empty g.roots (length-replicate (owners * slots) Nil) (bare_held owners slots g.objects) are_roots)
-      (λ a. ap (λ objects. slice_get objects a) heap_objects)
+      (λ a. ap (λ objects. slice_get (field_lists objects) a) heap_objects)
+      (λ a. ap (λ objects. slice_index_or (kinds objects) a false) heap_objects)
 
 module _ (g : GraphState) (is : IsGraph g) where
   few_owners_and_slots : (x : RootId × Value) → Member x g.roots → (x.0.owner < 16) × (x.0.slot < 256)
@@ -183,14 +208,16 @@ described-exact a b is other =
       λ alike. sym (plain_dump_of-plain_heap_of a is) ∙ exact.1 alike ∙ plain_dump_of-plain_heap_of b other,
     )
 
--- and so are two texts that are read
-pub texts-exact : (s t : List ℕ) (a b : GraphState) → graph_of_text s ≡ Ok a → graph_of_text t ≡ Ok b → (s ≡ t) ↔ SameGraph (graph_of (plain_heap_of a)) (graph_of (plain_heap_of b))
-texts-exact s t a b first second =
-    let one = graph_within-means 268435456 s a first in
-    let other = graph_within-means 268435456 t b second in
-    let exact = described-exact a b one.0 other.0 in (
+-- and so are two that are read
+pub read-exact : (s t : List ℕ) (a b : GraphState) → graph_of_text s ≡ Ok a → graph_of_text t ≡ Ok b → (a ≡ b) ↔ SameGraph (graph_of (plain_heap_of a)) (graph_of (plain_heap_of b))
+read-exact s t a b first second = described-exact a b (graph_within-means 268435456 s a first).0 (graph_within-means 268435456 t b second).0
+
+-- and their texts, where these are of one version
+pub texts-exact : (v : Version) (s t : List ℕ) (a b : GraphState) → graph_of_text s ≡ Ok a → graph_of_text t ≡ Ok b → s ≡ text_in v a → t ≡ text_in v b → (s ≡ t) ↔ SameGraph (graph_of (plain_heap_of a)) (graph_of (plain_heap_of b))
+texts-exact v s t a b first second one other =
+    let exact = read-exact s t a b first second in (
       λ same. exact.0 (ok_is a b (sym first ∙ ap graph_of_text same ∙ second)),
-      λ alike. one.1 ∙ ap dump_text (exact.1 alike) ∙ sym other.1,
+      λ alike. one ∙ ap (text_in v) (exact.1 alike) ∙ sym other,
     )
 
 -- the dump of a plain heap describes the same graph
@@ -200,7 +227,7 @@ described-back p plain few =
     (plain_exact p (plain_heap_of (plain_dump_of p)) plain (IsPlain-plain_heap_of (plain_dump_of p) is)).0 (sym (plain_dump_of-plain_heap_of (plain_dump_of p) is))
 
 -- a text that is read is that of the plain heap that it describes
-pub text_of_described : (text : List ℕ) (g : GraphState) → graph_of_text text ≡ Ok g → IsPlain (plain_heap_of g) × (text ≡ dump_text (plain_dump_of (plain_heap_of g)))
+pub text_of_described : (text : List ℕ) (g : GraphState) → graph_of_text text ≡ Ok g → IsPlain (plain_heap_of g) × IsTextOf text (plain_dump_of (plain_heap_of g))
 text_of_described text g read =
     let means = graph_within-means 268435456 text g read in
-    (IsPlain-plain_heap_of g means.0, means.1 ∙ ap dump_text (sym (plain_dump_of-plain_heap_of g means.0)))
+    (IsPlain-plain_heap_of g means.0, subst (IsTextOf text) (sym (plain_dump_of-plain_heap_of g means.0)) means.1)

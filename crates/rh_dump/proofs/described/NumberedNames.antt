@@ -1,5 +1,5 @@
 -- Objects that are numbered breadth first already keep their numbers: the names met are 0, 1, 2 and so on.
-use Rattle.std.specs.Prelude.{◌≡◌, ◌<◌, ◌≤◌, ◌+◌, ℕ, zero, suc, if◌then◌else◌, List, [], ◌∷◌, ◌++◌, map, length, slice_get, Some}
+use Rattle.std.specs.Prelude.{◌≡◌, ◌<◌, ◌≤◌, ◌+◌, ℕ, zero, suc, Bool, false, if◌then◌else◌, List, [], ◌∷◌, ◌++◌, map, length, slice_get, slice_index_or, Option, Some}
 use Rattle.std.specs.List.{flat_map}
 use Rattle.std.specs.Option.{option_map}
 use Rattle.std.proofs.Common.{refl, sym, ap, subst, ◌∙◌, arith, inl, inr}
@@ -12,8 +12,9 @@ use Rattle.rh_layout.specs.declared.value.Value.TheVariants.{Nil, Int, Ref}
 use Rattle.rh_layout.specs.declared.command.RootId.{RootId}
 use Rattle.rh_layout.specs.lemmas.Elements.{slice_get-append, slice_get-pushed}
 use Rattle.rh_model.specs.Graph.{Graph}
+use Rattle.rh_model.specs.Plain.{PlainObject, field_lists, kinds}
 use Rattle.rh_dump.specs.Dump.{GraphState, IsGraph, root_values, values_of, met_with, met_after, IsNumberedAfter, AreNumbered, AreMetBefore}
-use Rattle.rh_dump.specs.Numbering.{with_name, with_value, with_values, roots_of, values_in, values_at, names_after, number_in, numbered_value, numbered_root, dump_by, dump_below}
+use Rattle.rh_dump.specs.Numbering.{with_name, with_value, with_values, roots_of, values_in, values_at, names_after, number_in, numbered_value, numbered_root, numbered_object, dump_by, dump_below}
 use Rattle.rh_dump.specs.Meeting.{IsBelow}
 use Rattle.rh_dump.proofs.numbers.Names.{Member, Member-at, Member-left, Member-right, HasName, HasName-at, name_cases, with_name-known, with_name-new}
 use Rattle.rh_dump.proofs.numbers.Numbered.{Member-map}
@@ -83,8 +84,8 @@ AreNumbered-parts met (x ∷ xs) ys numbered =
     let rest = AreNumbered-parts (met_with met x) xs ys numbered.1 in ((numbered.0, rest.0), rest.1)
 
 -- what the fields of all objects hold
-abbrev all_fields : List (List Value) → List Value
-all_fields objects = flat_map (λ fields. fields) objects
+abbrev all_fields : List PlainObject → List Value
+all_fields objects = flat_map (λ object. object.fields) objects
 
 module _ (h : Graph) where
   -- one object more is looked at
@@ -97,10 +98,11 @@ module _ (h : Graph) where
       ∙ with_values-names_below m fields numbered
 
   -- so many objects are looked at, from a number on
-  looks : (k m : ℕ) (objects : List (List Value)) → ((i : ℕ) → h.fields (k + i) ≡ slice_get objects i) → AreMetBefore k m objects → AreNumbered m (all_fields objects)
+  looks : (k m : ℕ) (objects : List PlainObject) → ((i : ℕ) → h.fields (k + i) ≡ slice_get (field_lists objects) i) → AreMetBefore k m objects → AreNumbered m (all_fields objects)
       → names_after h k ≡ names_below m → names_after h (k + length objects) ≡ names_below (met_after m (all_fields objects))
   looks k m [] at before numbered names = let none : k + 0 ≡ k = omega arith in ap (names_after h) none ∙ names
-  looks k m (fields ∷ others) at before numbered names =
+  looks k m (object ∷ others) at before numbered names =
+      let fields = object.fields in
       let parts = AreNumbered-parts m fields (all_fields others) numbered in
       let here : k + 0 ≡ k = omega arith in
       let found : values_in (h.fields k) ≡ fields = ap values_in (ap h.fields (sym here) ∙ at 0) in
@@ -170,10 +172,10 @@ map-names_below f d xs made = ext_get_or d (map f (names_below (length xs))) xs 
         get_or_from_slice_get (map f (names_below (length xs))) i (f i) d named ∙ made i (get_or xs i d) (slice_get-get_or xs i d less)
 
 -- what a field of an object holds is among what all fields hold
-pub Member-fields : (objects : List (List Value)) (fields : List Value) (v : Value) → Member fields objects → Member v fields → Member v (all_fields objects)
-Member-fields [] fields v m at = absurd m
-Member-fields (other ∷ objects) fields v (inl is) at = Member-left v other (all_fields objects) (subst (Member v) (sym is) at)
-Member-fields (other ∷ objects) fields v (inr m) at = Member-right v other (all_fields objects) (Member-fields objects fields v m at)
+pub Member-fields : (objects : List PlainObject) (object : PlainObject) (v : Value) → Member object objects → Member v object.fields → Member v (all_fields objects)
+Member-fields [] object v m at = absurd m
+Member-fields (other ∷ objects) object v (inl is) at = Member-left v other.fields (all_fields objects) (subst (λ (o : PlainObject). Member v o.fields) (sym is) at)
+Member-fields (other ∷ objects) object v (inr m) at = Member-right v other.fields (all_fields objects) (Member-fields objects object v m at)
 
 -- A heap with a graph's roots and objects has the graph as its dump
 
@@ -184,12 +186,12 @@ module _ (g : GraphState) (is : IsGraph g) where
       subst (λ n. IsBelow n x.1) is.all_met
       (IsBelow-member 0 (values_of g) x.1 (Member-left x.1 (root_values g.roots) (all_fields g.objects) (Member-map (λ (root : RootId × Value). root.1) x g.roots m)))
 
-  pub IsBelow-field : (fields : List Value) (v : Value) → Member fields g.objects → Member v fields → IsBelow (length g.objects) v
-  IsBelow-field fields v m at =
+  pub IsBelow-field : (object : PlainObject) (v : Value) → Member object g.objects → Member v object.fields → IsBelow (length g.objects) v
+  IsBelow-field object v m at =
       subst (λ n. IsBelow n v) is.all_met
-      (IsBelow-member 0 (values_of g) v (Member-right v (root_values g.roots) (all_fields g.objects) (Member-fields g.objects fields v m at)))
+      (IsBelow-member 0 (values_of g) v (Member-right v (root_values g.roots) (all_fields g.objects) (Member-fields g.objects object v m at)))
 
-  module _ (h : Graph) (roots : roots_of h ≡ g.roots) (fields : (a : ℕ) → h.fields a ≡ slice_get g.objects a) where
+  module _ (h : Graph) (roots : roots_of h ≡ g.roots) (fields : (a : ℕ) → h.fields a ≡ slice_get (field_lists g.objects) a) (kinds_are : (a : ℕ) → h.raw a ≡ slice_index_or (kinds g.objects) a false) where
     names : names_after h (length g.objects) ≡ names_below (length g.objects)
     names =
         let parts = AreNumbered-parts 0 (root_values g.roots) (all_fields g.objects) is.numbered in
@@ -206,17 +208,22 @@ module _ (g : GraphState) (is : IsGraph g) where
         let entry : Value → RootId × Value = λ v. (x.0, v) in
         ap entry (numbered_value-names_below (length g.objects) x.1 (IsBelow-root x m))
 
-    object_numbered : (i : ℕ) (these : List Value) → slice_get g.objects i ≡ Some these → map (numbered_value (names_below (length g.objects))) (values_in (h.fields i)) ≡ these
-    object_numbered i these at =
-        ap (λ o. map (numbered_value (names_below (length g.objects))) (values_in o)) (fields i ∙ at)
-        ∙ map-same (numbered_value (names_below (length g.objects))) these
-        (λ v m. numbered_value-names_below (length g.objects) v (IsBelow-field these v (Member-at these g.objects i at) m))
+    object_numbered : (i : ℕ) (object : PlainObject) → slice_get g.objects i ≡ Some object → numbered_object h (names_below (length g.objects)) i ≡ object
+    object_numbered i object at =
+        let all : List ℕ = names_below (length g.objects) in
+        let made : Bool → List Value → PlainObject = λ raw values. record { raw = raw; fields = values } in
+        let found : slice_get (field_lists g.objects) i ≡ Some object.fields = slice_get-map (λ (o : PlainObject). o.fields) g.objects i ∙ ap (option_map (λ (o : PlainObject). o.fields)) at in
+        let kind : slice_get (kinds g.objects) i ≡ Some object.raw = slice_get-map (λ (o : PlainObject). o.raw) g.objects i ∙ ap (option_map (λ (o : PlainObject). o.raw)) at in
+        ap (λ (o : Option (List Value)). made (h.raw i) (map (numbered_value all) (values_in o))) (fields i ∙ found)
+        ∙ ap (λ (raw : Bool). made raw (map (numbered_value all) object.fields)) (kinds_are i ∙ get_or_from_slice_get (kinds g.objects) i object.raw false kind)
+        ∙ ap (made object.raw) (map-same (numbered_value all) object.fields
+        (λ v m. numbered_value-names_below (length g.objects) v (IsBelow-field object v (Member-at object g.objects i at) m)))
 
     pub dump_below-graph : dump_below (length g.objects) h ≡ g
     dump_below-graph =
         let all : List ℕ = names_below (length g.objects) in
         let same_roots : map (numbered_root all) (roots_of h) ≡ g.roots = ap (map (numbered_root all)) roots ∙ map-same (numbered_root all) g.roots root_numbered in
-        let same_objects : map (λ a. map (numbered_value all) (values_in (h.fields a))) all ≡ g.objects =
-        map-names_below (λ a. map (numbered_value all) (values_in (h.fields a))) [] g.objects object_numbered in
+        let none : PlainObject = record { raw = false; fields = [] } in
+        let same_objects : map (numbered_object h all) all ≡ g.objects = map-names_below (numbered_object h all) none g.objects object_numbered in
         let both : dump_by h all ≡ g = λ i. record { roots = same_roots i; objects = same_objects i } in
         ap (dump_by h) names ∙ both

@@ -9,13 +9,14 @@ use Rattle.rh_layout.specs.declared.value.Value.TheVariants.{Nil, Ref}
 use Rattle.rh_layout.specs.declared.command.RootId.{RootId}
 use Rattle.rh_layout.specs.Root.{has_root}
 use Rattle.rh_model.specs.Graph.{Graph, root_value}
+use Rattle.rh_model.specs.Plain.{PlainObject}
 use Rattle.rh_model.specs.Reach.{Reached}
 use Rattle.rh_model.specs.SameGraph.{renamed_value, AreRenamed, AreFieldsRenamed, IsPairing, SameGraph}
 use Rattle.rh_model.specs.lemmas.SameGraph.{renamed_cases}
 use Rattle.rh_layout.specs.lemmas.Root.{has_root-slot, has_root-owner}
 use Rattle.rh_model.specs.lemmas.RootValue.{root_value-missing}
 use Rattle.rh_dump.specs.Dump.{GraphState}
-use Rattle.rh_dump.specs.Numbering.{filled_root, filled_slots, filled_roots, roots_of, with_name, with_value, with_values, values_in, values_at, names_after, number_in, numbered_value, numbered_root, dump_by, dump_below}
+use Rattle.rh_dump.specs.Numbering.{filled_root, filled_slots, filled_roots, roots_of, with_name, with_value, with_values, values_in, values_at, names_after, number_in, numbered_value, numbered_root, numbered_object, dump_by, dump_below}
 use Rattle.rh_dump.proofs.numbers.Names.{by_names}
 use Rattle.rh_dump.proofs.numbers.RootLists.{root_named, filled_roots-more}
 use Rattle.rh_dump.proofs.numbers.Numbered.{held_values, names_after-enough}
@@ -194,24 +195,27 @@ module _ (g h : Graph) (pairing : ℕ → Option ℕ) (p : IsPairing g h pairing
       (values_at-renamed (slice_get (names_after g n) n) (slice_get (names_after h n) n)
       (sym (slice_get-map pairing (names_after g n) n) ∙ ap (λ l. slice_get l n) (names_after-paired n) ∙ slice_get-map Some (names_after h n) n))
 
+  abbrev made : Bool → List Value → PlainObject
+  made raw fields = record { raw = raw; fields = fields }
+
   objects-paired : (xs ys all these : List ℕ) → ArePaired pairing xs ys → ArePaired pairing all these
-      → map (λ a. map (numbered_value all) (values_in (g.fields a))) xs ≡ map (λ a. map (numbered_value these) (values_in (h.fields a))) ys
+      → map (numbered_object g all) xs ≡ map (numbered_object h these) ys
   objects-paired [] [] all these paired whole = refl
   objects-paired [] (y ∷ ys) all these paired whole = cc
   objects-paired (x ∷ xs) [] all these paired whole = cc
   objects-paired (x ∷ xs) (y ∷ ys) all these paired whole =
       let head : pairing x ≡ Some y = same_head (pairing x) (Some y) None (map pairing xs) (map Some ys) paired in
-      cons_both (map (numbered_value all) (values_in (g.fields x))) (map (numbered_value these) (values_in (h.fields y)))
-      (map (λ a. map (numbered_value all) (values_in (g.fields a))) xs) (map (λ a. map (numbered_value these) (values_in (h.fields a))) ys)
-      (numbered_values-paired pairing p.one_to_one all these whole (values_in (g.fields x)) (values_in (h.fields y)) (values_in-renamed (g.fields x) (h.fields y) (p.fields x y head)))
+      cons_both (numbered_object g all x) (numbered_object h these y) (map (numbered_object g all) xs) (map (numbered_object h these) ys)
+      (ap (λ (raw : Bool). made raw (map (numbered_value all) (values_in (g.fields x)))) (p.kinds x y head)
+      ∙ ap (made (h.raw y)) (numbered_values-paired pairing p.one_to_one all these whole (values_in (g.fields x)) (values_in (h.fields y)) (values_in-renamed (g.fields x) (h.fields y) (p.fields x y head))))
       (objects-paired xs ys all these (same_rest (pairing x) (Some y) (map pairing xs) (map Some ys) paired) whole)
 
   dump_by-paired : (xs ys : List ℕ) → ArePaired pairing xs ys → dump_by g xs ≡ dump_by h ys
   dump_by-paired xs ys paired =
       let roots = numbered_roots-paired pairing p.one_to_one xs ys paired (roots_of g) (roots_of h) roots_of-renamed in
       let objects = objects-paired xs ys xs ys paired paired in
-      ap (λ (r : List (RootId × Value)). let d : GraphState = record { roots = r; objects = map (λ a. map (numbered_value xs) (values_in (g.fields a))) xs } in d) roots
-      ∙ ap (λ (o : List (List Value)). let d : GraphState = record { roots = map (numbered_root ys) (roots_of h); objects = o } in d) objects
+      ap (λ (r : List (RootId × Value)). let d : GraphState = record { roots = r; objects = map (numbered_object g xs) xs } in d) roots
+      ∙ ap (λ (o : List PlainObject). let d : GraphState = record { roots = map (numbered_root ys) (roots_of h); objects = o } in d) objects
 
 -- the same graph has the same dump
 pub dump_below-same : (g h : Graph) (m n : ℕ) → ((a : ℕ) → Reached g a → a < m) → ((a : ℕ) → Reached h a → a < n) → SameGraph g h → dump_below m g ≡ dump_below n h

@@ -8,10 +8,11 @@ use Rattle.rh_layout.specs.declared.value.Value.{Value}
 use Rattle.rh_layout.specs.declared.value.Value.TheVariants.{Nil, Int, Ref}
 use Rattle.rh_layout.specs.declared.command.RootId.{RootId}
 use Rattle.rh_model.specs.Graph.{Graph, root_value}
+use Rattle.rh_model.specs.Plain.{PlainObject}
 use Rattle.rh_model.specs.Reach.{Reached}
 use Rattle.rh_model.specs.SameGraph.{renamed_value, AreRenamed, AreFieldsRenamed, SameGraph}
 use Rattle.rh_dump.specs.Dump.{GraphState}
-use Rattle.rh_dump.specs.Numbering.{roots_of, values_in, names_after, number_in, numbered_value, numbered_root, dump_by, dump_below, ReachesObjectsBelow}
+use Rattle.rh_dump.specs.Numbering.{roots_of, values_in, names_after, number_in, numbered_value, numbered_root, numbered_object, dump_by, dump_below, ReachesObjectsBelow}
 use Rattle.rh_dump.proofs.numbers.Names.{Member, IsOnce, HasName, name_cases}
 use Rattle.rh_dump.proofs.numbers.RootLists.{entry_of_roots}
 use Rattle.rh_dump.proofs.graphs.SameDumps.{dump_below-same}
@@ -113,19 +114,23 @@ module _ (g h : Graph) (xs ys : List ℕ) (roots : map (numbered_root xs) (roots
 module _ (g h : Graph) (xs ys : List ℕ) (once : IsOnce ys) (same : dump_by g xs ≡ dump_by h ys) where
   as_many : length xs ≡ length ys
   as_many =
-      let objects : map (λ a. map (numbered_value xs) (values_in (g.fields a))) xs ≡ map (λ a. map (numbered_value ys) (values_in (h.fields a))) ys = ap (λ (d : GraphState). d.objects) same in
-      sym (length-map xs (λ a. map (numbered_value xs) (values_in (g.fields a)))) ∙ ap length objects ∙ length-map ys (λ a. map (numbered_value ys) (values_in (h.fields a)))
+      let objects : map (numbered_object g xs) xs ≡ map (numbered_object h ys) ys = ap (λ (d : GraphState). d.objects) same in
+      sym (length-map xs (numbered_object g xs)) ∙ ap length objects ∙ length-map ys (numbered_object h ys)
 
-  -- objects of one number have fields that are numbered alike
-  fields_alike : (a k : ℕ) → HasName xs a → number_pairing xs ys a ≡ Some k → map (numbered_value xs) (values_in (g.fields a)) ≡ map (numbered_value ys) (values_in (h.fields k))
-  fields_alike a k has paired =
-      let fields_here : ℕ → List Value = λ b. map (numbered_value xs) (values_in (g.fields b)) in
-      let fields_there : ℕ → List Value = λ b. map (numbered_value ys) (values_in (h.fields b)) in
-      let objects : map fields_here xs ≡ map fields_there ys = ap (λ (d : GraphState). d.objects) same in
-      same_Some (fields_here a) (fields_there k)
-      (sym (slice_get-map fields_here xs (number_in xs a) ∙ ap (option_map fields_here) has)
+  -- objects of one number are of one kind, and have fields that are numbered alike
+  objects_alike : (a k : ℕ) → HasName xs a → number_pairing xs ys a ≡ Some k → numbered_object g xs a ≡ numbered_object h ys k
+  objects_alike a k has paired =
+      let objects : map (numbered_object g xs) xs ≡ map (numbered_object h ys) ys = ap (λ (d : GraphState). d.objects) same in
+      same_Some (numbered_object g xs a) (numbered_object h ys k)
+      (sym (slice_get-map (numbered_object g xs) xs (number_in xs a) ∙ ap (option_map (numbered_object g xs)) has)
       ∙ ap (λ l. slice_get l (number_in xs a)) objects
-      ∙ slice_get-map fields_there ys (number_in xs a) ∙ ap (option_map fields_there) paired)
+      ∙ slice_get-map (numbered_object h ys) ys (number_in xs a) ∙ ap (option_map (numbered_object h ys)) paired)
+
+  fields_alike : (a k : ℕ) → HasName xs a → number_pairing xs ys a ≡ Some k → map (numbered_value xs) (values_in (g.fields a)) ≡ map (numbered_value ys) (values_in (h.fields k))
+  fields_alike a k has paired = ap (λ (o : PlainObject). o.fields) (objects_alike a k has paired)
+
+  kinds_alike : (a k : ℕ) → HasName xs a → number_pairing xs ys a ≡ Some k → g.raw a ≡ h.raw k
+  kinds_alike a k has paired = ap (λ (o : PlainObject). o.raw) (objects_alike a k has paired)
 
 -- graphs with equal dumps are the same
 pub SameGraph-from_dumps : (g h : Graph) (m n : ℕ) → ReachesObjectsBelow m g → ReachesObjectsBelow n h → dump_below m g ≡ dump_below n h → SameGraph g h
@@ -147,6 +152,8 @@ SameGraph-from_dumps g h m n here there same =
             (there k (names_after-reached h n (number_in (names_after g m) a) k paired)).0
             (λ b member. names_after-closed h n few (number_in (names_after g m) a) k b paired member)
             (fields_alike g h (names_after g m) (names_after h n) once same a k has paired);
+        kinds = λ a k paired.
+            kinds_alike g h (names_after g m) (names_after h n) once same a k (number_pairing-has (names_after g m) (names_after h n) once many a k paired) paired;
       },
     )
 

@@ -1,4 +1,4 @@
--- The derived tests of values and roots tell them apart.
+-- The derived tests of values, roots and shapes tell them apart.
 use Rattle.std.proofs.Common.{◌≡◌, ℕ, Bool, false, ◌&&◌, eqb, refl, ap, ◌∙◌}
 use Rattle.std.specs.Bool.{Decides}
 use Rattle.std.specs.Ordering.{int_eq}
@@ -8,7 +8,9 @@ use Rattle.rh_layout.specs.declared.value.Value.{Value}
 use Rattle.rh_layout.specs.declared.value.Value.TheVariants.{Nil, Int, Ref}
 use Rattle.rh_layout.specs.declared.command.RootId.{RootId}
 use Rattle.rh_layout.specs.contracts.value.ValuePartialEq.TheImpl as values
+use Rattle.rh_layout.specs.declared.shape.Shape.{Shape}
 use Rattle.rh_layout.specs.contracts.command.RootIdPartialEq.TheImpl as roots
+use Rattle.rh_layout.specs.contracts.shape.ShapePartialEq.TheImpl as shapes
 
 abbrev made : ℕ → ℕ → RootId
 made owner slot = record { owner = owner; slot = slot }
@@ -49,3 +51,13 @@ pair_from a b h = ap (λ (r : RootId). pair r a.1) h.0 ∙ ap (λ (v : Value). p
 pub entry_eq-Decides : (a b : RootId × Value) → Decides (roots.ghosts.eq a.0 b.0 && values.ghosts.eq a.1 b.1) (a ≡ b)
 entry_eq-Decides a b =
     by (roots.ghosts.eq a.0 b.0 && values.ghosts.eq a.1 b.1) ((a.0 ≡ b.0) × (a.1 ≡ b.1)) (a ≡ b) (both (roots.ghosts.eq a.0 b.0) (values.ghosts.eq a.1 b.1) (a.0 ≡ b.0) (a.1 ≡ b.1) (root_eq-Decides a.0 b.0) (value_eq-Decides a.1 b.1)) (pair_from a b) (λ e. (ap (λ (r : RootId × Value). r.0) e, ap (λ (r : RootId × Value). r.1) e))
+
+abbrev shaped : ℕ → Bool → Shape
+shaped fields raw = record { fields = fields; raw = raw }
+
+shape_from : (a b : Shape) → (a.fields ≡ b.fields) × (a.raw ≡ b.raw) → a ≡ b
+shape_from a b h = ap (λ (n : ℕ). shaped n a.raw) h.0 ∙ ap (λ (t : Bool). shaped b.fields t) h.1
+
+pub shape_eq-Decides : (a b : Shape) → Decides (shapes.ghosts.eq a b) (a ≡ b)
+shape_eq-Decides a b =
+    by (eqb a.fields b.fields && bool_eq a.raw b.raw) ((a.fields ≡ b.fields) × (a.raw ≡ b.raw)) (a ≡ b) (both (eqb a.fields b.fields) (bool_eq a.raw b.raw) (a.fields ≡ b.fields) (a.raw ≡ b.raw) (Decides-eqb a.fields b.fields) (Decides-bool_eq a.raw b.raw)) (shape_from a b) (λ e. (ap (λ (s : Shape). s.fields) e, ap (λ (s : Shape). s.raw) e))

@@ -1,5 +1,5 @@
 -- What is stored once all objects were looked at is the dump, and every dump of a heap is a graph.
-use Rattle.std.specs.Prelude.{◌≡◌, ◌≢◌, ◌⊎◌, ◌<◌, ◌≤◌, ◌+◌, ◌-◌, ℕ, zero, suc, List, [], ◌∷◌, ◌++◌, map, length, take, drop, slice_get, Option, Some, None}
+use Rattle.std.specs.Prelude.{◌≡◌, ◌≢◌, ◌⊎◌, ◌<◌, ◌≤◌, ◌+◌, ◌-◌, ℕ, zero, suc, Bool, true, false, List, [], ◌∷◌, ◌++◌, map, length, take, drop, slice_get, Option, Some, None}
 use Rattle.std.specs.List.{flat_map, AllByRecursion}
 use Rattle.std.proofs.Common.{refl, sym, ap, subst, ◌∙◌, arith, inl, inr, append_assoc}
 use Rattle.std.proofs.lemmas.Option.{none-some, same_Some, slice_get-get_or}
@@ -9,21 +9,25 @@ use Rattle.std.proofs.lemmas.Bool.{cases_lt}
 use Rattle.rh_layout.specs.declared.value.Value.{Value}
 use Rattle.rh_layout.specs.declared.value.Value.TheVariants.{Nil, Int, Ref}
 use Rattle.rh_layout.specs.declared.command.RootId.{RootId}
+use Rattle.rh_layout.specs.declared.shape.Shape.{Shape}
+use Rattle.rh_layout.specs.Shape.{shape_of}
+use Rattle.rh_layout.specs.Value.{is_reference}
+use Rattle.rh_model.specs.Plain.{PlainObject}
 use Rattle.rh_model.specs.Graph.{Graph, root_value}
-use Rattle.rh_dump.specs.Dump.{GraphState, values_of, root_values, met_after, AreNumbered, AreMetBefore, IsTold, IsRootTold, IsRootBefore, IsRootAfter, RootsRise, IsObjectTold, IsGraph}
+use Rattle.rh_dump.specs.Dump.{GraphState, values_of, root_values, met_after, AreNumbered, AreMetBefore, IsTold, IsRootTold, IsRootBefore, IsRootAfter, RootsRise, IsUnreferring, IsObjectTold, IsGraph}
 use Rattle.rh_dump.specs.Graph.{objects_in, graph_in, total}
 use Rattle.rh_dump.proofs.numbers.ObjectsIn.{length-objects_in}
-use Rattle.rh_dump.specs.Numbering.{filled_root, filled_slots, filled_roots, roots_of, with_value, values_in, values_at, names_after, numbered_value, numbered_root, dump_by, dump_below, ReachesObjectsBelow}
+use Rattle.rh_dump.specs.Numbering.{filled_root, filled_slots, filled_roots, roots_of, with_value, values_in, values_at, kind_at, names_after, numbered_value, numbered_root, numbered_object, dump_by, dump_below, ReachesObjectsBelow}
 use Rattle.rh_dump.specs.Dumpable.{IsTellable, IsDumpable}
-use Rattle.rh_dump.specs.Meeting.{met_values, met_roots, counts_after, values_after, flat_after}
+use Rattle.rh_dump.specs.Meeting.{met_values, met_roots, shape_at, shapes_after, values_after, flat_after}
 use Rattle.rh_dump.specs.lemmas.Reaching.{reaches_objects}
 use Rattle.rh_dump.proofs.numbers.Names.{Member, place_of_Member, Member-either, with_values-keeps}
 use Rattle.rh_dump.proofs.numbers.RootLists.{root_named, Member-filled_root, entry_of_roots}
 use Rattle.rh_dump.proofs.numbers.Numbered.{held_values, Member-map_back, IsOnce-names_after, names_after-more}
 use Rattle.rh_dump.proofs.numbers.MetValues.{IsBeginning, met_values-all, met_roots-all, length-met_values, met_after-values, AreNumbered-values, met_after-append, AreNumbered-append}
 
--- one more count, with so many more values
-pub total_push : (xs : List ℕ) (x : ℕ) → total (xs ++ x ∷ []) ≡ total xs + x
+-- one more shape, with so many more values
+pub total_push : (xs : List Shape) (x : Shape) → total (xs ++ x ∷ []) ≡ total xs + x.fields
 total_push [] x = omega arith
 total_push (y ∷ xs) x = omega (arith, total_push xs x)
 
@@ -46,16 +50,20 @@ length-rest zero xs = inl (omega arith)
 length-rest (suc n) [] = inr (omega arith)
 length-rest (suc n) (x ∷ xs) = elim (length-rest n xs) [ inl is ↦ inl (omega (arith, is)) | inr less ↦ inr (omega (arith, less)) ]
 
-pub objects_in-push : (counts : List ℕ) (values more : List Value) → total counts ≡ length values → objects_in (counts ++ length more ∷ []) (values ++ more) ≡ objects_in counts values ++ more ∷ []
-objects_in-push [] [] more filled = ap (λ l. l ∷ []) (take-all more)
-objects_in-push [] (v ∷ values) more filled = absurd (omega (arith, filled))
-objects_in-push (count ∷ counts) values more filled =
-    let whole : (count + total counts) ≡ length values = filled in
+pub objects_in-push : (shapes : List Shape) (values : List Value) (object : PlainObject) → total shapes ≡ length values → objects_in (shapes ++ shape_of (length object.fields) object.raw ∷ []) (values ++ object.fields) ≡ objects_in shapes values ++ object ∷ []
+objects_in-push [] [] object filled = ap (λ (l : List Value). let o : PlainObject = record { raw = object.raw; fields = l } in o ∷ []) (take-all object.fields)
+objects_in-push [] (v ∷ values) object filled = absurd (omega (arith, filled))
+objects_in-push (shape ∷ shapes) values object filled =
+    let count = shape.fields in
+    let more = object.fields in
+    let last = shape_of (length more) object.raw in
+    let made : List Value → PlainObject = λ l. record { raw = shape.raw; fields = l } in
+    let whole : (count + total shapes) ≡ length values = filled in
     let few : count ≤ length values = omega (arith, whole) in
-    let rest : total counts ≡ length (drop count values) = elim (length-rest count values) [ inl is ↦ omega (arith, is, whole) | inr less ↦ absurd (omega (arith, less, few)) ] in
-    ap (λ l. l ∷ objects_in (counts ++ length more ∷ []) (drop count (values ++ more))) (take-part count values more few)
-    ∙ ap (λ l. take count values ∷ objects_in (counts ++ length more ∷ []) l) (drop-part count values more few)
-    ∙ ap (λ l. take count values ∷ l) (objects_in-push counts (drop count values) more rest)
+    let rest : total shapes ≡ length (drop count values) = elim (length-rest count values) [ inl is ↦ omega (arith, is, whole) | inr less ↦ absurd (omega (arith, less, few)) ] in
+    ap (λ l. made l ∷ objects_in (shapes ++ last ∷ []) (drop count (values ++ more))) (take-part count values more few)
+    ∙ ap (λ l. made (take count values) ∷ objects_in (shapes ++ last ∷ []) l) (drop-part count values more few)
+    ∙ ap (λ l. made (take count values) ∷ l) (objects_in-push shapes (drop count values) object rest)
 
 pub take-next : {X : Type 0} (k : ℕ) (xs : List X) (x : X) → slice_get xs k ≡ Some x → take (suc k) xs ≡ take k xs ++ x ∷ []
 take-next k [] x is = absurd (none-some x is)
@@ -66,20 +74,21 @@ take_drop : {X : Type 0} (n : ℕ) (xs : List X) → take n xs ++ drop n xs ≡ 
 take_drop n xs = take-append-drop n xs
 
 -- the fields of all objects are the values
-flat_objects_in : (counts : List ℕ) (values : List Value) → total counts ≡ length values → flat_map (λ fields. fields) (objects_in counts values) ≡ values
+flat_objects_in : (shapes : List Shape) (values : List Value) → total shapes ≡ length values → flat_map (λ object. object.fields) (objects_in shapes values) ≡ values
 flat_objects_in [] [] filled = refl
 flat_objects_in [] (v ∷ values) filled = absurd (omega (arith, filled))
-flat_objects_in (count ∷ counts) values filled =
-    let whole : (count + total counts) ≡ length values = filled in
-    let rest : total counts ≡ length (drop count values) = elim (length-rest count values) [ inl is ↦ omega (arith, is, whole) | inr less ↦ absurd (omega (arith, less, whole)) ] in
-    ap (λ l. take count values ++ l) (flat_objects_in counts (drop count values) rest) ∙ take_drop count values
+flat_objects_in (shape ∷ shapes) values filled =
+    let count = shape.fields in
+    let whole : (count + total shapes) ≡ length values = filled in
+    let rest : total shapes ≡ length (drop count values) = elim (length-rest count values) [ inl is ↦ omega (arith, is, whole) | inr less ↦ absurd (omega (arith, less, whole)) ] in
+    ap (λ l. take count values ++ l) (flat_objects_in shapes (drop count values) rest) ∙ take_drop count values
 
-AreMetBefore-push : (number met : ℕ) (xs : List (List Value)) (fields : List Value) → AreMetBefore number met xs → number + length xs < met_after met (flat_map (λ these. these) xs) → AreMetBefore number met (xs ++ fields ∷ [])
-AreMetBefore-push number met [] fields before next = (omega (arith, next), tt)
-AreMetBefore-push number met (x ∷ xs) fields before next = (
+AreMetBefore-push : (number met : ℕ) (xs : List PlainObject) (object : PlainObject) → AreMetBefore number met xs → number + length xs < met_after met (flat_map (λ these. these.fields) xs) → AreMetBefore number met (xs ++ object ∷ [])
+AreMetBefore-push number met [] object before next = (omega (arith, next), tt)
+AreMetBefore-push number met (x ∷ xs) object before next = (
   before.0,
-  AreMetBefore-push (number + 1) (met_after met x) xs fields before.1
-      (omega (arith, next, met_after-append met x (flat_map (λ these. these) xs))),
+  AreMetBefore-push (number + 1) (met_after met x.fields) xs object before.1
+      (omega (arith, next, met_after-append met x.fields (flat_map (λ these. these.fields) xs))),
 )
 
 root_values-met_roots : (names : List ℕ) (roots : List (RootId × Value)) → root_values (met_roots names roots) ≡ met_values names (map (λ (root : RootId × Value). root.1) roots)
@@ -91,21 +100,28 @@ module _ (g : Graph) where
   abbrev fields_next : ℕ → List Value
   fields_next n = values_at g (slice_get (names_after g n) n)
 
+  -- its shape, and as it is put
+  abbrev shape_next : ℕ → Shape
+  shape_next n = shape_at g (slice_get (names_after g n) n)
+
+  abbrev object_put : ℕ → PlainObject
+  object_put n = record { raw = kind_at g (slice_get (names_after g n) n); fields = met_values (names_after g n) (fields_next n) }
+
   -- there is a value for each field
-  pub IsFilled-after : (n : ℕ) → total (counts_after g n) ≡ length (values_after g n)
+  pub IsFilled-after : (n : ℕ) → total (shapes_after g n) ≡ length (values_after g n)
   IsFilled-after zero = refl
   IsFilled-after (suc n) =
-      total_push (counts_after g n) (length (fields_next n))
+      total_push (shapes_after g n) (shape_next n)
       ∙ omega (arith, IsFilled-after n, length-append (values_after g n) (met_values (names_after g n) (fields_next n)), length-met_values (names_after g n) (fields_next n))
 
   -- the objects that were looked at, numbered as their fields were met
-  abbrev objects_after : ℕ → List (List Value)
-  objects_after n = objects_in (counts_after g n) (values_after g n)
+  abbrev objects_after : ℕ → List PlainObject
+  objects_after n = objects_in (shapes_after g n) (values_after g n)
 
-  objects_after-next : (n : ℕ) → objects_after (suc n) ≡ objects_after n ++ met_values (names_after g n) (fields_next n) ∷ []
+  objects_after-next : (n : ℕ) → objects_after (suc n) ≡ objects_after n ++ object_put n ∷ []
   objects_after-next n =
-      ap (λ k. objects_in (counts_after g n ++ k ∷ []) (values_after g n ++ met_values (names_after g n) (fields_next n))) (sym (length-met_values (names_after g n) (fields_next n)))
-      ∙ objects_in-push (counts_after g n) (values_after g n) (met_values (names_after g n) (fields_next n)) (IsFilled-after n)
+      ap (λ k. objects_in (shapes_after g n ++ shape_of k (kind_at g (slice_get (names_after g n) n)) ∷ []) (values_after g n ++ met_values (names_after g n) (fields_next n))) (sym (length-met_values (names_after g n) (fields_next n)))
+      ∙ objects_in-push (shapes_after g n) (values_after g n) (object_put n) (IsFilled-after n)
 
   -- later names begin with earlier ones
   names_after-begins : (n more : ℕ) → IsBeginning (names_after g n) (names_after g (more + n))
@@ -133,13 +149,14 @@ module _ (g : Graph) where
     ]
 
     -- an object of the dump
-    abbrev object_of : ℕ → List Value
-    object_of a = map (numbered_value (names_after g n)) (values_in (g.fields a))
+    abbrev object_of : ℕ → PlainObject
+    object_of a = numbered_object g (names_after g n) a
 
-    object_next : (k a : ℕ) → k < n → slice_get (names_after g k) k ≡ Some a → met_values (names_after g k) (fields_next k) ≡ object_of a
+    object_next : (k a : ℕ) → k < n → slice_get (names_after g k) k ≡ Some a → object_put k ≡ object_of a
     object_next k a early is =
-        met_values-all (names_after g n) (IsOnce-names_after g n) (names_after g k) (fields_next k) (begins (suc k) (omega (arith, early)))
-        ∙ ap (λ o. map (numbered_value (names_after g n)) (values_at g o)) is
+        let made : List Value → PlainObject = λ l. record { raw = kind_at g (slice_get (names_after g k) k); fields = l } in
+        ap made (met_values-all (names_after g n) (IsOnce-names_after g n) (names_after g k) (fields_next k) (begins (suc k) (omega (arith, early))))
+        ∙ ap (λ (o : Option ℕ). let d : PlainObject = record { raw = kind_at g o; fields = map (numbered_value (names_after g n)) (values_at g o) } in d) is
 
     objects_after-are : (k : ℕ) → k ≤ n → objects_after k ≡ map object_of (take k (names_after g n))
     objects_after-are zero early = refl
@@ -148,7 +165,7 @@ module _ (g : Graph) where
         let a : ℕ = get_or (names_after g k) k 0 in
         let there : slice_get (names_after g k) k ≡ Some a = slice_get-get_or (names_after g k) k 0 (further k less) in
         objects_after-next k
-        ∙ ap (λ l. l ++ met_values (names_after g k) (fields_next k) ∷ []) (objects_after-are k (omega (arith, early)))
+        ∙ ap (λ l. l ++ object_put k ∷ []) (objects_after-are k (omega (arith, early)))
         ∙ ap (λ o. map object_of (take k (names_after g n)) ++ o ∷ []) (object_next k a less there)
         ∙ sym (map-append object_of (take k (names_after g n)) (a ∷ []))
         ∙ ap (map object_of) (sym (take-next k (names_after g n) a (begins k (omega (arith, early)) k a there)))
@@ -160,7 +177,7 @@ module _ (g : Graph) where
     pub flat_after-dump : graph_in (flat_after g n) ≡ dump_by g (names_after g n)
     flat_after-dump =
         ap (λ (r : List (RootId × Value)). let d : GraphState = record { roots = r; objects = objects_after n } in d) roots_after-are
-        ∙ ap (λ (o : List (List Value)). let d : GraphState = record { roots = map (numbered_root (names_after g n)) (roots_of g); objects = o } in d)
+        ∙ ap (λ (o : List PlainObject). let d : GraphState = record { roots = map (numbered_root (names_after g n)) (roots_of g); objects = o } in d)
         (objects_after-are n (omega arith) ∙ ap (map object_of) (ap (λ k. take k (names_after g n)) (sym done) ∙ take-all (names_after g n)))
 
   -- Numbered breadth first
@@ -178,30 +195,30 @@ module _ (g : Graph) where
       AreNumbered-append (length (names_after g 0)) (values_after g n) (met_values (names_after g n) (fields_next n)) (AreNumbered-flat n)
       (subst (λ m. AreNumbered m (met_values (names_after g n) (fields_next n))) (sym (met_after-flat n)) (AreNumbered-values (names_after g n) (fields_next n)))
 
-  length-counts_after : (n : ℕ) → length (counts_after g n) ≡ n
-  length-counts_after zero = refl
-  length-counts_after (suc n) = length_push (counts_after g n) (length (fields_next n)) ∙ omega (arith, length-counts_after n)
+  length-shapes_after : (n : ℕ) → length (shapes_after g n) ≡ n
+  length-shapes_after zero = refl
+  length-shapes_after (suc n) = length_push (shapes_after g n) (shape_next n) ∙ omega (arith, length-shapes_after n)
 
   length-objects_after : (n : ℕ) → length (objects_after n) ≡ n
-  length-objects_after n = length-objects_in (counts_after g n) (values_after g n) ∙ length-counts_after n
+  length-objects_after n = length-objects_in (shapes_after g n) (values_after g n) ∙ length-shapes_after n
 
-  flat_objects_after : (n : ℕ) → flat_map (λ fields. fields) (objects_after n) ≡ values_after g n
-  flat_objects_after n = flat_objects_in (counts_after g n) (values_after g n) (IsFilled-after n)
+  flat_objects_after : (n : ℕ) → flat_map (λ object. object.fields) (objects_after n) ≡ values_after g n
+  flat_objects_after n = flat_objects_in (shapes_after g n) (values_after g n) (IsFilled-after n)
 
   module _ (n : ℕ) (done : length (names_after g n) ≡ n) where
     met_before : (k : ℕ) → k ≤ n → AreMetBefore 0 (length (names_after g 0)) (objects_after k)
     met_before zero early = tt
     met_before (suc k) early =
-        let met : 0 + length (objects_after k) < met_after (length (names_after g 0)) (flat_map (λ fields. fields) (objects_after k)) =
+        let met : 0 + length (objects_after k) < met_after (length (names_after g 0)) (flat_map (λ object. object.fields) (objects_after k)) =
         omega (arith, length-objects_after k, ap (met_after (length (names_after g 0))) (flat_objects_after k), met_after-flat k, further n done k (omega (arith, early))) in
         subst (AreMetBefore 0 (length (names_after g 0))) (sym (objects_after-next k))
-        (AreMetBefore-push 0 (length (names_after g 0)) (objects_after k) (met_values (names_after g k) (fields_next k)) (met_before k (omega (arith, early))) met)
+        (AreMetBefore-push 0 (length (names_after g 0)) (objects_after k) (object_put k) (met_before k (omega (arith, early))) met)
 
     root_values-met : root_values (met_roots [] (roots_of g)) ≡ met_values [] (held_values g)
     root_values-met = root_values-met_roots [] (roots_of g)
 
     values_of-flat : values_of (graph_in (flat_after g n)) ≡ met_values [] (held_values g) ++ values_after g n
-    values_of-flat = ap (λ l. l ++ flat_map (λ fields. fields) (objects_after n)) root_values-met ∙ ap (λ l. met_values [] (held_values g) ++ l) (flat_objects_after n)
+    values_of-flat = ap (λ l. l ++ flat_map (λ object. object.fields) (objects_after n)) root_values-met ∙ ap (λ l. met_values [] (held_values g) ++ l) (flat_objects_after n)
 
     first_met : met_after 0 (met_values [] (held_values g)) ≡ length (names_after g 0)
     first_met = met_after-values [] (held_values g)
@@ -280,6 +297,12 @@ IsTold-numbered g names Nil told = tt
 IsTold-numbered g names (Int n) told = told
 IsTold-numbered g names (Ref a) told = tt
 
+-- and what is no reference is none
+unreferring-numbered : (names : List ℕ) (v : Value) → IsUnreferring v → IsUnreferring (numbered_value names v)
+unreferring-numbered names Nil plain = plain
+unreferring-numbered names (Int n) plain = plain
+unreferring-numbered names (Ref a) plain = plain
+
 filled-numbered : (names : List ℕ) (v : Value) → v ≢ Nil → numbered_value names v ≢ Nil
 filled-numbered names Nil filled = λ e. filled refl
 filled-numbered names (Int n) filled = filled
@@ -298,17 +321,21 @@ module _ (g : Graph) (limit : ℕ) (d : IsDumpable limit g) where
       let told : IsTellable g from.0.1 = subst (IsTellable g) (sym held.0) (d.roots from.0.0) in
       subst IsRootTold from.2 (omega (arith, at.0, d.owners), omega (arith, at.1, d.slots), filled-numbered names from.0.1 held.1, IsTold-numbered g names from.0.1 told))
 
-  object_told : (names : List ℕ) (a : ℕ) (o : Option (List Value)) → g.fields a ≡ o → IsObjectTold (map (numbered_value names) (values_in o))
-  object_told names a None is = record { few = omega arith; told = tt }
+  object_told : (names : List ℕ) (a : ℕ) (o : Option (List Value)) → g.fields a ≡ o → IsObjectTold (record { raw = g.raw a; fields = map (numbered_value names) (values_in o) })
+  object_told names a None is = record { few = omega arith; told = tt; raw = λ raw. tt }
   object_told names a (Some fields) is = record {
     few = omega (arith, length-map fields (numbered_value names), d.counts a fields is);
     told = AllByRecursion-members IsTold (map (numbered_value names) fields) (λ v m.
         let from = Member-map_back (numbered_value names) v fields m in
         let at = place_of_Member from.0 fields from.1 in
         subst IsTold from.2 (IsTold-numbered g names from.0 (d.fields a at.0 fields from.0 is at.1)));
+    raw = λ raw. AllByRecursion-members IsUnreferring (map (numbered_value names) fields) (λ v m.
+        let from = Member-map_back (numbered_value names) v fields m in
+        let at = place_of_Member from.0 fields from.1 in
+        subst IsUnreferring from.2 (unreferring-numbered names from.0 (d.raw a at.0 fields from.0 raw is at.1)));
   }
 
-  objects_told : (names these : List ℕ) → AllByRecursion IsObjectTold (map (λ a. map (numbered_value names) (values_in (g.fields a))) these)
+  objects_told : (names these : List ℕ) → AllByRecursion IsObjectTold (map (numbered_object g names) these)
   objects_told names [] = tt
   objects_told names (a ∷ these) = (object_told names a (g.fields a) refl, objects_told names these)
 

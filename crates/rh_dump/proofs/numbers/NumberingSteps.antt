@@ -7,11 +7,13 @@ use Rattle.std.proofs.lemmas.Bool.{cases_lt}
 use Rattle.rh_layout.specs.declared.value.Value.{Value}
 use Rattle.rh_layout.specs.declared.value.Value.TheVariants.{Nil, Int, Ref}
 use Rattle.rh_layout.specs.declared.command.RootId.{RootId}
+use Rattle.rh_layout.specs.declared.shape.Shape.{Shape}
+use Rattle.rh_layout.specs.Shape.{shape_of}
 use Rattle.rh_model.specs.Graph.{Graph, root_value}
 use Rattle.rh_dump.specs.Graph.{FlatGraph, graph_in, IsFilled}
 use Rattle.rh_dump.specs.Numbering.{filled_root, filled_slots, filled_roots, roots_of, with_value, with_values, values_in, values_at, names_after, numbered_value, numbered_root, dump_below}
 use Rattle.rh_dump.specs.Dumpable.{IsTellable, IsDumpable}
-use Rattle.rh_dump.specs.Meeting.{met_values, met_roots, NumberingState, empty_numbering, with_roots, with_count, with_fields, numbering_after, IsBelow}
+use Rattle.rh_dump.specs.Meeting.{met_values, met_roots, NumberingState, empty_numbering, shape_at, with_roots, with_shape, with_fields, numbering_after, IsBelow}
 use Rattle.rh_dump.proofs.numbers.Names.{with_values-keeps}
 use Rattle.rh_dump.proofs.numbers.RootLists.{root_named}
 use Rattle.rh_dump.proofs.numbers.Numbered.{length-below, IsOnce-names_after, names_after-reached}
@@ -20,8 +22,8 @@ use Rattle.rh_dump.proofs.numbers.FlatDump.{take-next, IsDumpable-reaches, IsFil
 use Rattle.rh_dump.specs.Dump.{IsGraph}
 
 -- a state of its parts
-abbrev state_of : ℕ → List ℕ → List (RootId × Value) → List ℕ → List Value → NumberingState
-state_of limit names roots counts values = record { limit = limit; names = names; flat = record { roots = roots; counts = counts; values = values } }
+abbrev state_of : ℕ → List ℕ → List (RootId × Value) → List Shape → List Value → NumberingState
+state_of limit names roots shapes values = record { limit = limit; names = names; flat = record { roots = roots; shapes = shapes; values = values } }
 
 with_values-append : (names : List ℕ) (vs ws : List Value) → with_values (with_values names vs) ws ≡ with_values names (vs ++ ws)
 with_values-append names [] ws = refl
@@ -41,23 +43,23 @@ met_roots-append names (x ∷ xs) ys = ap (λ l. numbered_root (with_value names
 
 -- no roots change nothing
 pub with_roots-none : (s : NumberingState) → with_roots s [] ≡ s
-with_roots-none s = ap (λ r. state_of s.limit s.names r s.flat.counts s.flat.values) (append-nil s.flat.roots)
+with_roots-none s = ap (λ r. state_of s.limit s.names r s.flat.shapes s.flat.values) (append-nil s.flat.roots)
 
 pub with_fields-none : (s : NumberingState) → with_fields s [] ≡ s
-with_fields-none s = ap (λ v. state_of s.limit s.names s.flat.roots s.flat.counts v) (append-nil s.flat.values)
+with_fields-none s = ap (λ v. state_of s.limit s.names s.flat.roots s.flat.shapes v) (append-nil s.flat.values)
 
 -- some roots and then more
 pub with_roots-append : (s : NumberingState) (xs ys : List (RootId × Value)) → with_roots (with_roots s xs) ys ≡ with_roots s (xs ++ ys)
 with_roots-append s xs ys =
-    ap (λ n. state_of s.limit n ((s.flat.roots ++ met_roots s.names xs) ++ met_roots (with_values s.names (held_by xs)) ys) s.flat.counts s.flat.values)
+    ap (λ n. state_of s.limit n ((s.flat.roots ++ met_roots s.names xs) ++ met_roots (with_values s.names (held_by xs)) ys) s.flat.shapes s.flat.values)
     (with_values-append s.names (held_by xs) (held_by ys) ∙ ap (with_values s.names) (sym (map-append (λ (root : RootId × Value). root.1) xs ys)))
-    ∙ ap (λ r. state_of s.limit (with_values s.names (held_by (xs ++ ys))) r s.flat.counts s.flat.values)
+    ∙ ap (λ r. state_of s.limit (with_values s.names (held_by (xs ++ ys))) r s.flat.shapes s.flat.values)
     (append_assoc s.flat.roots (met_roots s.names xs) (met_roots (with_values s.names (held_by xs)) ys) ∙ ap (λ l. s.flat.roots ++ l) (met_roots-append s.names xs ys))
 
 pub with_fields-append : (s : NumberingState) (vs ws : List Value) → with_fields (with_fields s vs) ws ≡ with_fields s (vs ++ ws)
 with_fields-append s vs ws =
-    ap (λ n. state_of s.limit n s.flat.roots s.flat.counts ((s.flat.values ++ met_values s.names vs) ++ met_values (with_values s.names vs) ws)) (with_values-append s.names vs ws)
-    ∙ ap (state_of s.limit (with_values s.names (vs ++ ws)) s.flat.roots s.flat.counts)
+    ap (λ n. state_of s.limit n s.flat.roots s.flat.shapes ((s.flat.values ++ met_values s.names vs) ++ met_values (with_values s.names vs) ws)) (with_values-append s.names vs ws)
+    ∙ ap (state_of s.limit (with_values s.names (vs ++ ws)) s.flat.roots s.flat.shapes)
     (append_assoc s.flat.values (met_values s.names vs) (met_values (with_values s.names vs) ws) ∙ ap (λ l. s.flat.values ++ l) (met_values-append s.names vs ws))
 
 -- a root that isn't nil is put
@@ -74,9 +76,9 @@ with_fields-next s vs f v within is =
 
 -- an object is looked at
 pub numbering_after-next : (limit : ℕ) (g : Graph) (n a : ℕ) → slice_get (names_after g n) n ≡ Some a
-    → with_fields (with_count (numbering_after limit g n) (length (values_in (g.fields a)))) (values_in (g.fields a)) ≡ numbering_after limit g (suc n)
+    → with_fields (with_shape (numbering_after limit g n) (shape_of (length (values_in (g.fields a))) (g.raw a))) (values_in (g.fields a)) ≡ numbering_after limit g (suc n)
 numbering_after-next limit g n a is =
-    ap (λ o. with_fields (with_count (numbering_after limit g n) (length (values_at g o))) (values_at g o)) (sym is)
+    ap (λ o. with_fields (with_shape (numbering_after limit g n) (shape_at g o)) (values_at g o)) (sym is)
 
 -- all roots, looked for among more owners and slots
 pub roots_of-all : (g : Graph) (owners slots : ℕ) → g.owners ≤ owners → g.slots ≤ slots → filled_roots (root_value g) slots owners ≡ roots_of g
@@ -142,12 +144,12 @@ fields-next s t u vs f v within before put is =
     ∙ ap (λ n. with_fields s (take n vs)) next
 
 pub objects-next : (limit : ℕ) (g : Graph) (t u : NumberingState) (n a : ℕ) → t ≡ numbering_after limit g n → Some a ≡ slice_get t.names n
-    → u ≡ with_fields (with_count t (length (values_in (g.fields a)))) (values_in (g.fields a))
+    → u ≡ with_fields (with_shape t (shape_of (length (values_in (g.fields a))) (g.raw a))) (values_in (g.fields a))
     → u ≡ numbering_after limit g (n + 1)
 objects-next limit g t u n a before is put =
     let next : suc n ≡ n + 1 = omega arith in
     put
-    ∙ ap (λ x. with_fields (with_count x (length (values_in (g.fields a)))) (values_in (g.fields a))) before
+    ∙ ap (λ x. with_fields (with_shape x (shape_of (length (values_in (g.fields a))) (g.raw a))) (values_in (g.fields a))) before
     ∙ numbering_after-next limit g n a (sym (is ∙ ap (λ (x : NumberingState). slice_get x.names n) before))
     ∙ ap (numbering_after limit g) next
 

@@ -24,16 +24,19 @@ use Rattle.rh_text.specs.lemmas.Stages.{Judges, JudgesLines, judges-end, judges-
 use Rattle.rh_text.specs.lemmas.Steps.{none_some, bind_bind}
 use Rattle.rh_dump.specs.declared.reading.due.Due.{Due}
 use Rattle.rh_dump.specs.declared.reading.due.Due.TheVariants as dues
+use Rattle.rh_dump.specs.declared.reading.due.Version.{Version}
+use Rattle.rh_dump.specs.declared.reading.due.Version.TheVariants.{One, Two}
 use Rattle.rh_dump.specs.declared.reading.fault.DumpKind.{DumpKind}
 use Rattle.rh_dump.specs.declared.reading.fault.DumpKind.TheVariants.{Long, End, Header, Trailing, Form, Number, Order, Count}
 use Rattle.rh_dump.specs.declared.reading.fault.DumpFault.{DumpFault}
+use Rattle.rh_model.specs.Plain.{PlainObject}
 use Rattle.rh_dump.specs.Dump.{GraphState, met_with, met_after, IsTold, IsRootAfter, IsGraph}
-use Rattle.rh_dump.specs.texts.Faults.{met_with_reference, number_or_none, met_with_part, met_with_parts, due_after_parts, IsNumberUpTo, IsWholePart, IsRootPart, RefersTo, BeginsWithAt, value_faults, values_faults, count_faults, root_faults, object_faults, due_faults, line_faults, end_faults, faults_from, dump_faults}
-use Rattle.rh_dump.specs.texts.Line.{DumpLine, header_line, roots_line, root_line, objects_line, object_line, end_line, value_text, dump_line_parts, root_due, object_due, due_after, dump_text}
-use Rattle.rh_dump.specs.texts.Part.{number_up_to, whole_of, small_root_of, after_at, object_head}
-use Rattle.rh_dump.specs.texts.Reading.{formed_parts, part_after, number_or_fault, roots_of_parts, objects_of_parts, reference_or_fault, whole_or_fault, reference_or_whole, value_or_fault, values_or_fault, is_root_after, root_or_fault, root_of_parts, own_number, fields_or_fault, object_of_parts, line_due, line_or_kind, fault_at, end_or_fault, lines_from, graph_of, graph_within, graph_of_text}
-use Rattle.rh_dump.proofs.texts.PartMeans.{number_up_to-means, whole_of-means, small_root_of-means, after_at-means, reference_of-plain, reference_of-at, object_head-at, object_head-plain, object_head-one}
-use Rattle.rh_dump.proofs.texts.SpelledIsRead.{number_up_to-decimal, whole_of-decimal, small_root_of-text, plain_integer, is_after_true, met_there, met_after_grows}
+use Rattle.rh_dump.specs.texts.Faults.{met_with_reference, number_or_none, version_named, value_parts, met_with_part, met_with_parts, due_after_parts, IsNumberUpTo, IsWholePart, IsRootPart, RefersTo, BeginsWithAt, value_faults, field_faults, values_faults, count_faults, root_faults, object_part_faults, object_faults, due_faults, line_faults, end_faults, faults_from, dump_faults}
+use Rattle.rh_dump.specs.texts.Line.{DumpLine, header_line, roots_line, root_line, objects_line, object_line, end_line, value_text, dump_line_parts, kind_parts, HasKind, CanSay, IsTextOf, root_due, object_due, due_after}
+use Rattle.rh_dump.specs.texts.Part.{number_up_to, whole_of, small_root_of, after_at, kind_and_rest, object_head}
+use Rattle.rh_dump.specs.texts.Reading.{formed_parts, part_after, number_or_fault, roots_of_parts, objects_of_parts, reference_or_fault, whole_or_fault, reference_or_whole, value_or_fault, plain_or_fault, field_or_fault, values_or_fault, is_root_after, root_or_fault, root_of_parts, own_number, fields_or_fault, object_of_parts, version_or_fault, line_due, line_or_kind, fault_at, end_or_fault, lines_from, graph_of, graph_within, graph_of_text}
+use Rattle.rh_dump.proofs.texts.PartMeans.{number_up_to-means, whole_of-means, small_root_of-means, after_at-means, reference_of-plain, reference_of-at, object_head-at, object_head-plain, object_head-short, of_kind, head_of}
+use Rattle.rh_dump.proofs.texts.SpelledIsRead.{number_up_to-decimal, whole_of-decimal, small_root_of-text, plain_integer, is_after_true, met_there, met_after_grows, kind_and_rest-parts}
 use Rattle.rh_dump.specs.texts.Putting.{IsDue}
 use Rattle.rh_dump.proofs.texts.ReadIsSpelled.{line_means, raw_due, is_after-means, Fits, due_after_small, graph_within-means}
 
@@ -151,13 +154,36 @@ module _ {A : Type 0} (count met : ℕ) (part : List ℕ) (others : ℕ → Dump
   unfolding value_or_fault
   judges-value = nil_by (bytes_eq part (codes "nil")) (bytes_eq-Decides part (codes "nil"))
 
-judges-values : (parts : List (List ℕ)) (count met : ℕ) → Judges (values_faults count met parts) (values_or_fault count met parts)
+abbrev no_plain : List ℕ → Type 0
+no_plain part = ((part ≡ codes "nil") → ⊥) × (IsWholePart part → ⊥)
+
+-- and of a value of a raw object
+module _ {A : Type 0} (count met : ℕ) (part : List ℕ) (others : ℕ → DumpKind → Type 0) (f : Value → Result A DumpKind) (next : (v : Value) → met_with_part met part ≡ met_with met v → Judges others (f v)) where
+  plain_whole : (bare : part ≡ codes "nil" → ⊥) (o : Option ℤ) → whole_of part ≡ o → Judges (Number when (no_plain part) ▸ others) ((or_fault o Number >>= λ n. Ok (Int n)) >>= f)
+  plain_whole bare None e = judges-here Number (no_plain part) others (bare, λ w. none_some (whole_of part) w.0 e (ap whole_of w.2 ∙ whole_of-decimal w.0 w.1))
+  plain_whole bare (Some n) e =
+      let m = whole_of-means part n e in
+      judges-later Number (no_plain part) others (f (Int n)) (λ h. h.1 (n, m.1, m.0)) (next (Int n) (met_plain part met (ap after_at m.0 ∙ (plain_integer n m.1).1)))
+
+  plain_nil : (t : Bool) → Decides t (part ≡ codes "nil") → Judges (Number when (no_plain part) ▸ others) (cond t (Ok Nil) (or_fault (whole_of part) Number >>= λ n. Ok (Int n)) >>= f)
+  plain_nil true d = judges-later Number (no_plain part) others (f Nil) (λ h. h.0 (d.0 refl)) (next Nil (met_plain part met (ap after_at (d.0 refl))))
+  plain_nil false d = plain_whole (λ nil. false≢true (d.1 nil)) (whole_of part) refl
+
+  judges-plain : Judges (field_faults true count met part others) (plain_or_fault part >>= f)
+  unfolding plain_or_fault whole_or_fault
+  judges-plain = plain_nil (bytes_eq part (codes "nil")) (bytes_eq-Decides part (codes "nil"))
+
+judges-field : {A : Type 0} (raw : Bool) (count met : ℕ) (part : List ℕ) (others : ℕ → DumpKind → Type 0) (f : Value → Result A DumpKind) → ((v : Value) → met_with_part met part ≡ met_with met v → Judges others (f v)) → Judges (field_faults raw count met part others) (field_or_fault raw count met part >>= f)
+judges-field true count met part others f next = judges-plain count met part others f next
+judges-field false count met part others f next = judges-value count met part others f next
+
+judges-values : (raw : Bool) (parts : List (List ℕ)) (count met : ℕ) → Judges (values_faults raw count met parts) (values_or_fault raw count met parts)
 unfolding values_or_fault
-judges-values [] count met = judges-end []
-judges-values (part ∷ parts) count met =
-    judges-value count met part (values_faults count (met_with_part met part) parts) (λ v. values_or_fault count (met_with met v) parts >>= λ vs. Ok (v ∷ vs))
-    (λ v link. judges-step (values_or_fault count (met_with met v) parts) (λ vs. v ∷ vs)
-    (subst (λ (m : ℕ). Judges (values_faults count m parts) (values_or_fault count (met_with met v) parts)) (sym link) (judges-values parts count (met_with met v))))
+judges-values raw [] count met = judges-end []
+judges-values raw (part ∷ parts) count met =
+    judges-field raw count met part (values_faults raw count (met_with_part met part) parts) (λ v. values_or_fault raw count (met_with met v) parts >>= λ vs. Ok (v ∷ vs))
+    (λ v link. judges-step (values_or_fault raw count (met_with met v) parts) (λ vs. v ∷ vs)
+    (subst (λ (m : ℕ). Judges (values_faults raw count m parts) (values_or_fault raw count (met_with met v) parts)) (sym link) (judges-values raw parts count (met_with met v))))
 
 -- ---- lines that tell a number
 
@@ -200,11 +226,11 @@ judges-objects met (first ∷ p ∷ q ∷ parts) low = judges-here Form ⊤ no_f
 abbrev told_root : RootId → Value → Result (RootId × Value) DumpKind
 told_root r v = Ok (r, v)
 
-abbrev pair_object : ℕ → List Value → ℕ × List Value
-pair_object own vs = (own, vs)
+abbrev pair_object : ℕ → Bool → List Value → ℕ × PlainObject
+pair_object own raw vs = (own, record { raw = raw; fields = vs })
 
-abbrev told_object : ℕ → List Value → Result (ℕ × List Value) DumpKind
-told_object own vs = Ok (pair_object own vs)
+abbrev told_object : ℕ → Bool → List Value → Result (ℕ × PlainObject) DumpKind
+told_object own raw vs = Ok (pair_object own raw vs)
 
 abbrev root_number : List ℕ → Type 0
 root_number a = ((r : RootId) × IsRootPart a r) → ⊥
@@ -253,8 +279,8 @@ order_fault number a = (k : ℕ) × RefersTo a k × ((k ≡ number) → ⊥)
 abbrev form_fits : List ℕ → List (List ℕ) → Type 0
 form_fits b values = (b ≡ decimal (length values)) × (length values ≤ 4095)
 
-abbrev fields_stages : ℕ → ℕ → List ℕ → List (List ℕ) → ℕ → DumpKind → Type 0
-fields_stages count met b values = Number when (IsNumberUpTo 4095 b → ⊥) ▸ Form when (form_fits b values → ⊥) ▸ values_faults count met values
+abbrev fields_stages : Bool → ℕ → ℕ → List ℕ → List (List ℕ) → ℕ → DumpKind → Type 0
+fields_stages raw count met b values = Number when (IsNumberUpTo 4095 b → ⊥) ▸ Form when (form_fits b values → ⊥) ▸ values_faults raw count met values
 
 form_decides : (b : List ℕ) (values : List (List ℕ)) (n : ℕ) → b ≡ decimal n → n ≤ 4095 → Decides (eqb (length values) n) (form_fits b values)
 form_decides b values n is small = (
@@ -262,35 +288,35 @@ form_decides b values n is small = (
   (λ h. eq-eqb (length values) n (decimal_injective (length values) n (omega (arith, h.1)) (omega (arith, small)) (sym h.0 ∙ is))),
 )
 
-judges-fields : (count met : ℕ) (b : List ℕ) (values : List (List ℕ)) (own : ℕ) → Judges (fields_stages count met b values) (number_or_fault 4095 b >>= λ n. fields_or_fault count met n values >>= λ vs. told_object own vs)
+judges-fields : (raw : Bool) (count met : ℕ) (b : List ℕ) (values : List (List ℕ)) (own : ℕ) → Judges (fields_stages raw count met b values) (number_or_fault 4095 b >>= λ n. fields_or_fault raw count met n values >>= λ vs. told_object own raw vs)
 unfolding fields_or_fault
-judges-fields count met b values own =
-    judges-found (number_up_to 4095 b) Number (IsNumberUpTo 4095 b → ⊥) (Form when (form_fits b values → ⊥) ▸ values_faults count met values) (λ n. fields_or_fault count met n values >>= λ vs. told_object own vs)
+judges-fields raw count met b values own =
+    judges-found (number_up_to 4095 b) Number (IsNumberUpTo 4095 b → ⊥) (Form when (form_fits b values → ⊥) ▸ values_faults raw count met values) (λ n. fields_or_fault raw count met n values >>= λ vs. told_object own raw vs)
     (no_number 4095 b (omega arith)) (λ n e fails. fails (number_is 4095 b n e))
     (λ n e.
     let m = number_up_to-means 4095 b n e in
-    judges-step (cond (eqb (length values) n) (values_or_fault count met values) (Err Form)) (pair_object own)
-    (judges-unless_last (eqb (length values) n) Form (form_fits b values) (values_faults count met values) (values_or_fault count met values) (form_decides b values n m.0 m.1) (λ fits. judges-values values count met)))
+    judges-step (cond (eqb (length values) n) (values_or_fault raw count met values) (Err Form)) (pair_object own raw)
+    (judges-unless_last (eqb (length values) n) Form (form_fits b values) (values_faults raw count met values) (values_or_fault raw count met values) (form_decides b values n m.0 m.1) (λ fits. judges-values raw values count met)))
 
-module _ (number count met : ℕ) (a b : List ℕ) (values : List (List ℕ)) (own : List ℕ) (at : a ≡ 64 ∷ own) where
+module _ (raw : Bool) (number count met : ℕ) (a b : List ℕ) (values : List (List ℕ)) (own : List ℕ) (at : a ≡ 64 ∷ own) where
   own_by : (t u : Bool) (k : ℕ) → eqb k number ≡ t → ltb number met ≡ u → own ≡ decimal k → k ≤ 16777215
-      → Judges (Order when (order_fault number a) ▸ Count when (met ≤ number) ▸ fields_stages count met b values) (cond (not t) (Err Order) (cond u (Ok k) (Err Count)) >>= λ own. number_or_fault 4095 b >>= λ n. fields_or_fault count met n values >>= λ vs. told_object own vs)
+      → Judges (Order when (order_fault number a) ▸ Count when (met ≤ number) ▸ fields_stages raw count met b values) (cond (not t) (Err Order) (cond u (Ok k) (Err Count)) >>= λ own. number_or_fault 4095 b >>= λ n. fields_or_fault raw count met n values >>= λ vs. told_object own raw vs)
   own_by false u k order before is small =
-      judges-here Order (order_fault number a) (Count when (met ≤ number) ▸ fields_stages count met b values) (k, (small, at ∙ ap (λ (ds : List ℕ). 64 ∷ ds) is), λ e. false≢true (sym order ∙ eq-eqb k number e))
+      judges-here Order (order_fault number a) (Count when (met ≤ number) ▸ fields_stages raw count met b values) (k, (small, at ∙ ap (λ (ds : List ℕ). 64 ∷ ds) is), λ e. false≢true (sym order ∙ eq-eqb k number e))
   own_by true false k order before is small =
-      judges-later Order (order_fault number a) (Count when (met ≤ number) ▸ fields_stages count met b values) (Err Count) (λ h. h.2 (sym (one_reference a own k h.0 at is small h.1) ∙ eqb-true k number order))
-      (judges-here Count (met ≤ number) (fields_stages count met b values) (ltb-false number met before))
+      judges-later Order (order_fault number a) (Count when (met ≤ number) ▸ fields_stages raw count met b values) (Err Count) (λ h. h.2 (sym (one_reference a own k h.0 at is small h.1) ∙ eqb-true k number order))
+      (judges-here Count (met ≤ number) (fields_stages raw count met b values) (ltb-false number met before))
   own_by true true k order before is small =
       let there : number < met = ltb-true number met before in
-      judges-later Order (order_fault number a) (Count when (met ≤ number) ▸ fields_stages count met b values) (number_or_fault 4095 b >>= λ n. fields_or_fault count met n values >>= λ vs. told_object k vs) (λ h. h.2 (sym (one_reference a own k h.0 at is small h.1) ∙ eqb-true k number order))
-      (judges-later Count (met ≤ number) (fields_stages count met b values) (number_or_fault 4095 b >>= λ n. fields_or_fault count met n values >>= λ vs. told_object k vs) (λ h. omega (arith, h, there))
-      (judges-fields count met b values k))
+      judges-later Order (order_fault number a) (Count when (met ≤ number) ▸ fields_stages raw count met b values) (number_or_fault 4095 b >>= λ n. fields_or_fault raw count met n values >>= λ vs. told_object k raw vs) (λ h. h.2 (sym (one_reference a own k h.0 at is small h.1) ∙ eqb-true k number order))
+      (judges-later Count (met ≤ number) (fields_stages raw count met b values) (number_or_fault 4095 b >>= λ n. fields_or_fault raw count met n values >>= λ vs. told_object k raw vs) (λ h. omega (arith, h, there))
+      (judges-fields raw count met b values k))
 
-  own_found : Judges (Number when (own_fault a) ▸ Order when (order_fault number a) ▸ Count when (met ≤ number) ▸ fields_stages count met b values) (own_number number met own >>= λ own. number_or_fault 4095 b >>= λ n. fields_or_fault count met n values >>= λ vs. told_object own vs)
+  own_found : Judges (Number when (own_fault a) ▸ Order when (order_fault number a) ▸ Count when (met ≤ number) ▸ fields_stages raw count met b values) (own_number number met own >>= λ own. number_or_fault 4095 b >>= λ n. fields_or_fault raw count met n values >>= λ vs. told_object own raw vs)
   unfolding own_number
   own_found =
-      subst (Judges (Number when (own_fault a) ▸ Order when (order_fault number a) ▸ Count when (met ≤ number) ▸ fields_stages count met b values)) (sym (bind_bind (number_or_fault 16777215 own) (λ k. cond (not (eqb k number)) (Err Order) (cond (ltb number met) (Ok k) (Err Count))) (λ own. number_or_fault 4095 b >>= λ n. fields_or_fault count met n values >>= λ vs. told_object own vs)))
-      (judges-found (number_up_to 16777215 own) Number (own_fault a) (Order when (order_fault number a) ▸ Count when (met ≤ number) ▸ fields_stages count met b values) (λ k. cond (not (eqb k number)) (Err Order) (cond (ltb number met) (Ok k) (Err Count)) >>= λ own. number_or_fault 4095 b >>= λ n. fields_or_fault count met n values >>= λ vs. told_object own vs)
+      subst (Judges (Number when (own_fault a) ▸ Order when (order_fault number a) ▸ Count when (met ≤ number) ▸ fields_stages raw count met b values)) (sym (bind_bind (number_or_fault 16777215 own) (λ k. cond (not (eqb k number)) (Err Order) (cond (ltb number met) (Ok k) (Err Count))) (λ own. number_or_fault 4095 b >>= λ n. fields_or_fault raw count met n values >>= λ vs. told_object own raw vs)))
+      (judges-found (number_up_to 16777215 own) Number (own_fault a) (Order when (order_fault number a) ▸ Count when (met ≤ number) ▸ fields_stages raw count met b values) (λ k. cond (not (eqb k number)) (Err Order) (cond (ltb number met) (Ok k) (Err Count)) >>= λ own. number_or_fault 4095 b >>= λ n. fields_or_fault raw count met n values >>= λ vs. told_object own raw vs)
       (λ e h. no_number 16777215 own (omega arith) e (h.0, h.1.0, digits_are a own h.0 at h.1))
       (λ k e fails. let m = number_up_to-means 16777215 own k e in fails (k, (m.1, at ∙ ap (λ (ds : List ℕ). 64 ∷ ds) m.0)))
       (λ k e. let m = number_up_to-means 16777215 own k e in own_by (eqb k number) (ltb number met) k refl refl m.0 m.1))
@@ -302,24 +328,42 @@ begins_not : (a : List ℕ) → after_at a ≡ None → BeginsWithAt a → ⊥
 begins_not [] e h = h
 begins_not (b ∷ bs) e h = none_some (after_at (b ∷ bs)) bs e (ap (λ (t : Bool). cond t (Some bs) None) (eq-eqb b 64 h))
 
-abbrev object_rest : ℕ → ℕ → ℕ → List ℕ × List ℕ × List (List ℕ) → Result (ℕ × List Value) DumpKind
-object_rest number count met head = own_number number met head.0 >>= λ own. number_or_fault 4095 head.1 >>= λ n. fields_or_fault count met n head.2 >>= λ vs. told_object own vs
+abbrev object_rest : ℕ → ℕ → ℕ → List ℕ × Bool × List ℕ × List (List ℕ) → Result (ℕ × PlainObject) DumpKind
+object_rest number count met head = own_number number met head.0 >>= λ own. number_or_fault 4095 head.2 >>= λ n. fields_or_fault head.1 count met n head.3 >>= λ vs. told_object own head.1 vs
 
-object_by : (number count met : ℕ) (a b : List ℕ) (values : List (List ℕ)) (o : Option (List ℕ)) → after_at a ≡ o → Judges (object_faults number count met (a ∷ b ∷ values)) (or_fault (object_head (a ∷ b ∷ values)) Form >>= object_rest number count met)
-object_by number count met a b values None e =
-    subst (λ (h : Option (List ℕ × List ℕ × List (List ℕ))). Judges (object_faults number count met (a ∷ b ∷ values)) (or_fault h Form >>= object_rest number count met)) (sym (object_head-plain a b values e))
-    (judges-here Form (BeginsWithAt a → ⊥) (Number when (own_fault a) ▸ Order when (order_fault number a) ▸ Count when (met ≤ number) ▸ fields_stages count met b values) (begins_not a e))
-object_by number count met a b values (Some own) e =
-    let at = after_at-means a own e in
-    subst (λ (h : Option (List ℕ × List ℕ × List (List ℕ))). Judges (object_faults number count met (a ∷ b ∷ values)) (or_fault h Form >>= object_rest number count met)) (sym (object_head-at a b values own e))
-    (judges-later Form (BeginsWithAt a → ⊥) (Number when (own_fault a) ▸ Order when (order_fault number a) ▸ Count when (met ≤ number) ▸ fields_stages count met b values) (object_rest number count met (own, b, values)) (λ fails. fails (begins a own at))
-    (own_found number count met a b values own at))
+-- an object's line is read, by how it begins
+abbrev object_by_head : ℕ → ℕ → ℕ → Option (List ℕ × Bool × List ℕ × List (List ℕ)) → Result (ℕ × PlainObject) DumpKind
+object_by_head number count met head = or_fault head Form >>= object_rest number count met
 
-judges-object : (number count met : ℕ) (parts : List (List ℕ)) → Judges (object_faults number count met parts) (object_of_parts number count met parts)
-unfolding object_of_parts object_head
-judges-object number count met [] = judges-here Form ⊤ no_fault tt
-judges-object number count met (a ∷ []) = subst (λ (h : Option (List ℕ × List ℕ × List (List ℕ))). Judges (object_faults number count met (a ∷ [])) (or_fault h Form >>= object_rest number count met)) (sym (object_head-one a)) (judges-here Form ⊤ no_fault tt)
-judges-object number count met (a ∷ b ∷ values) = object_by number count met a b values (after_at a) refl
+-- the stages after the first of an object's line
+abbrev own_stages : Bool → ℕ → ℕ → ℕ → List ℕ → List ℕ → List (List ℕ) → ℕ → DumpKind → Type 0
+own_stages raw number count met a b values = Number when (own_fault a) ▸ Order when (order_fault number a) ▸ Count when (met ≤ number) ▸ fields_stages raw count met b values
+
+module _ (version : Version) (number count met : ℕ) (a : List ℕ) (others : List (List ℕ)) where
+  first_by : (raw : Bool) (b : List ℕ) (values : List (List ℕ)) (o : Option (List ℕ)) → kind_and_rest version others ≡ of_kind raw (b ∷ values) → after_at a ≡ o → Judges (object_part_faults number count met a raw (b ∷ values)) (object_by_head number count met (object_head version (a ∷ others)))
+  first_by raw b values None kind e =
+      subst (λ h. Judges (object_part_faults number count met a raw (b ∷ values)) (object_by_head number count met h)) (sym (object_head-plain version a others e))
+      (judges-here Form (BeginsWithAt a → ⊥) (own_stages raw number count met a b values) (begins_not a e))
+  first_by raw b values (Some own) kind e =
+      let at = after_at-means a own e in
+      subst (λ h. Judges (object_part_faults number count met a raw (b ∷ values)) (object_by_head number count met h)) (sym (object_head-at version a b others values raw own kind e))
+      (judges-later Form (BeginsWithAt a → ⊥) (own_stages raw number count met a b values) (object_rest number count met (head_of own raw b values)) (λ fails. fails (begins a own at))
+      (own_found raw number count met a b values own at))
+
+  rest_by : (raw : Bool) (rest : List (List ℕ)) → kind_and_rest version others ≡ of_kind raw rest → Judges (object_part_faults number count met a raw rest) (object_by_head number count met (object_head version (a ∷ others)))
+  rest_by raw [] kind =
+      subst (λ h. Judges (object_part_faults number count met a raw []) (object_by_head number count met h)) (sym (object_head-short version a others raw kind))
+      (judges-here Form ⊤ no_fault tt)
+  rest_by raw (b ∷ values) kind = first_by raw b values (after_at a) kind refl
+
+judges-object : (version : Version) (number count met : ℕ) (parts : List (List ℕ)) → Judges (object_faults version number count met parts) (object_of_parts version number count met parts)
+unfolding object_of_parts
+judges-object version number count met [] = judges-none
+  where
+    judges-none : Judges (object_faults version number count met []) (object_by_head number count met (object_head version []))
+    unfolding object_head
+    judges-none = judges-here Form ⊤ no_fault tt
+judges-object version number count met (a ∷ others) = rest_by version number count met a others (kind_and_rest version others).0 (kind_and_rest version others).1 refl
 
 -- ---- lines by what is due
 
@@ -327,13 +371,24 @@ judges-formed : {B : Type 0} (line : List ℕ) (others : ℕ → DumpKind → Ty
 unfolding formed_parts
 judges-formed line others f judged = judges-unless (is_formed line) Form (IsFormedLine line) others (parts_of line) f (is_formed-Decides line) (λ formed. judged)
 
+abbrev no_version : List ℕ → Type 0
+no_version line = ((line ≡ codes "rheap 1") → ⊥) × ((line ≡ codes "rheap 2") → ⊥)
+
+abbrev named_line : Version → Result DumpLine DumpKind
+named_line version = Ok (header_line version)
+
+judges-header : (one two : Bool) (line : List ℕ) → Decides one (line ≡ codes "rheap 1") → Decides two (line ≡ codes "rheap 2") → Judges (Header when (no_version line) ▸ no_fault) (cond one (Ok One) (cond two (Ok Two) (Err Header)) >>= named_line)
+judges-header true two line d e = judges-later Header (no_version line) no_fault (named_line One) (λ h. h.0 (d.0 refl)) (judges-end (header_line One))
+judges-header false true line d e = judges-later Header (no_version line) no_fault (named_line Two) (λ h. h.1 (e.0 refl)) (judges-end (header_line Two))
+judges-header false false line d e = judges-here Header (no_version line) no_fault (λ is. false≢true (d.1 is), λ is. false≢true (e.1 is))
+
 judges-due : (due : Due) (line : List ℕ) → IsDue due → Judges (due_faults due line) (line_due due line)
-unfolding line_due
-judges-due dues.Header line is = judges-unless_last (bytes_eq line (codes "rheap 1")) Header (line ≡ codes "rheap 1") no_fault (Ok header_line) (bytes_eq-Decides line (codes "rheap 1")) (λ same. judges-end header_line)
-judges-due dues.Roots line is = judges-formed line (count_faults (codes "roots") 4096 0 (parts_of line)) (λ parts. roots_of_parts parts >>= λ n. Ok (roots_line n)) (judges-step (roots_of_parts (parts_of line)) (λ n. roots_line n) (judges-roots (parts_of line)))
-judges-due (dues.Root left last met) line is = judges-formed line (root_faults last met (parts_of line)) (λ parts. root_of_parts last met parts >>= λ root. Ok (root_line root.0 root.1)) (judges-step (root_of_parts last met (parts_of line)) (λ root. root_line root.0 root.1) (judges-root last met (parts_of line)))
-judges-due (dues.Objects met) line is = judges-formed line (count_faults (codes "objects") 16777216 met (parts_of line)) (λ parts. objects_of_parts met parts >>= λ n. Ok (objects_line n)) (judges-step (objects_of_parts met (parts_of line)) (λ n. objects_line n) (judges-objects met (parts_of line) is))
-judges-due (dues.Object number count met) line is = judges-formed line (object_faults number count met (parts_of line)) (λ parts. object_of_parts number count met parts >>= λ object. Ok (object_line object.0 object.1)) (judges-step (object_of_parts number count met (parts_of line)) (λ object. object_line object.0 object.1) (judges-object number count met (parts_of line)))
+unfolding line_due version_or_fault
+judges-due dues.Header line is = judges-header (bytes_eq line (codes "rheap 1")) (bytes_eq line (codes "rheap 2")) line (bytes_eq-Decides line (codes "rheap 1")) (bytes_eq-Decides line (codes "rheap 2"))
+judges-due (dues.Roots version) line is = judges-formed line (count_faults (codes "roots") 4096 0 (parts_of line)) (λ parts. roots_of_parts parts >>= λ n. Ok (roots_line n)) (judges-step (roots_of_parts (parts_of line)) (λ n. roots_line n) (judges-roots (parts_of line)))
+judges-due (dues.Root version left last met) line is = judges-formed line (root_faults last met (parts_of line)) (λ parts. root_of_parts last met parts >>= λ root. Ok (root_line root.0 root.1)) (judges-step (root_of_parts last met (parts_of line)) (λ root. root_line root.0 root.1) (judges-root last met (parts_of line)))
+judges-due (dues.Objects version met) line is = judges-formed line (count_faults (codes "objects") 16777216 met (parts_of line)) (λ parts. objects_of_parts met parts >>= λ n. Ok (objects_line n)) (judges-step (objects_of_parts met (parts_of line)) (λ n. objects_line n) (judges-objects met (parts_of line) is))
+judges-due (dues.Object version number count met) line is = judges-formed line (object_faults version number count met (parts_of line)) (λ parts. object_of_parts version number count met parts >>= λ object. Ok (object_line object.0 object.1)) (judges-step (object_of_parts version number count met (parts_of line)) (λ object. object_line object.0 object.1) (judges-object version number count met (parts_of line)))
 judges-due dues.End line is = judges-unless_last (bytes_eq line (codes "end")) Form (line ≡ codes "end") no_fault (Ok end_line) (bytes_eq-Decides line (codes "end")) (λ same. judges-end end_line)
 judges-due dues.Nothing line is = judges-here Trailing ⊤ no_fault tt
 
@@ -360,14 +415,20 @@ told_with_parts (v ∷ vs) met told below =
     ap (λ (m : ℕ). met_with_parts m (map value_text vs)) (told_with_part met v told.0 (omega (arith, met_after_grows (met_with met v) vs, below)))
     ∙ told_with_parts vs (met_with met v) told.1 below
 
+header_parts : (version : Version) → version_named (dump_line_parts (header_line version)) ≡ version
+header_parts One = refl
+header_parts Two = refl
+
 due_parts : (due : Due) (line : DumpLine) → IsDue due → Fits due line → due_after_parts due (dump_line_parts line) ≡ due_after due line
-due_parts dues.Header header_line is f = refl
-due_parts dues.Roots (roots_line n) is f = ap (λ (o : Option ℕ). root_due (number_or_none o) None 0) (number_of-decimal n (omega (arith, f)))
-due_parts (dues.Root left last met) (root_line r v) is f =
-    ap (λ (o : Option RootId). root_due left o (met_with_part met (value_text v))) (root_of-text r (omega (arith, f.0.0), omega (arith, f.0.1)))
-    ∙ ap (root_due left (Some r)) (told_with_part met v f.0.3 f.3)
-due_parts (dues.Objects met) (objects_line n) is f = ap (λ (o : Option ℕ). object_due 0 (number_or_none o) met) (number_of-decimal n (omega (arith, f.0)))
-due_parts (dues.Object number count met) (object_line own fields) is f = ap (object_due (number + 1) count) (told_with_parts fields met f.2.told (omega (arith, f.4, is.1)))
+due_parts dues.Header (header_line version) is f = ap (λ (v : Version). dues.Roots v) (header_parts version)
+due_parts (dues.Roots version) (roots_line n) is f = ap (λ (o : Option ℕ). root_due version (number_or_none o) None 0) (number_of-decimal n (omega (arith, f)))
+due_parts (dues.Root version left last met) (root_line r v) is f =
+    ap (λ (o : Option RootId). root_due version left o (met_with_part met (value_text v))) (root_of-text r (omega (arith, f.0.0), omega (arith, f.0.1)))
+    ∙ ap (root_due version left (Some r)) (told_with_part met v f.0.3 f.3)
+due_parts (dues.Objects version met) (objects_line n) is f = ap (λ (o : Option ℕ). object_due version 0 (number_or_none o) met) (number_of-decimal n (omega (arith, f.0)))
+due_parts (dues.Object version number count met) (object_line own object) is f =
+    ap (λ (found : Bool × List (List ℕ)). object_due version (number + 1) count (met_with_parts met (value_parts found.1))) (kind_and_rest-parts version object.raw (length object.fields) (map value_text object.fields) f.5 (omega (arith, f.2.few)))
+    ∙ ap (object_due version (number + 1) count) (told_with_parts object.fields met f.2.told (omega (arith, f.4, is.1)))
 due_parts dues.End end_line is f = refl
 due_parts due line is f = absurd f
 
@@ -417,10 +478,10 @@ ended_early number = record {
 judges-lines_end : (due : Due) (number : ℕ) → JudgesLines line_at kind_at (end_faults due number) (end_or_fault number due)
 judges-lines_end dues.Nothing number = record { none = λ x e n p k h. h; first = λ f e. absurd (ok_err [] f e) }
 judges-lines_end dues.Header number = ended_early number
-judges-lines_end dues.Roots number = ended_early number
-judges-lines_end (dues.Root left last met) number = ended_early number
-judges-lines_end (dues.Objects met) number = ended_early number
-judges-lines_end (dues.Object n count met) number = ended_early number
+judges-lines_end (dues.Roots version) number = ended_early number
+judges-lines_end (dues.Root version left last met) number = ended_early number
+judges-lines_end (dues.Objects version met) number = ended_early number
+judges-lines_end (dues.Object version n count met) number = ended_early number
 judges-lines_end dues.End number = ended_early number
 
 judges-lines : (raws : List RawLine) (due : Due) (number size : ℕ) → IsDue due → JudgesLines line_at kind_at (faults_from due number size raws) (lines_from 268435456 due number size raws)
@@ -451,7 +512,7 @@ read_by : (text : List ℕ) (r : Result GraphState DumpFault) → JudgesLines li
 read_by text (Ok g) judged none = (g, refl)
 read_by text (Err f) judged none = let first = judged.first f refl in absurd (none f.line first.stage f.kind first.holds)
 
-pub faultless_is_dump : (text : List ℕ) → ((n p : ℕ) (k : DumpKind) → dump_faults (lines_of text) n p k → ⊥) → (g : GraphState) × IsGraph g × (text ≡ dump_text g)
+pub faultless_is_dump : (text : List ℕ) → ((n p : ℕ) (k : DumpKind) → dump_faults (lines_of text) n p k → ⊥) → (g : GraphState) × IsGraph g × IsTextOf text g
 faultless_is_dump text none =
     let r = read_by text (graph_of_text text) (judges-text text) none in
     let m = graph_within-means 268435456 text r.0 r.1 in

@@ -1,7 +1,9 @@
 -- What a part that was understood is.
-use Rattle.std.proofs.Common.{◌≡◌, ℕ, ℤ, ◌^◌, ◌<◌, ◌≤◌, Bool, true, false, cond, leb, ltb, eqb, ◌&&◌, List, [], ◌∷◌, Option, Some, None, refl, ap, subst, ◌∙◌, arith}
-use Rattle.std.specs.Prelude.{decimal}
+use Rattle.std.proofs.Common.{◌≡◌, ℕ, ℤ, ◌^◌, ◌<◌, ◌≤◌, Bool, true, false, cond, leb, ltb, eqb, ◌&&◌, List, [], ◌∷◌, ◌++◌, Option, Some, None, refl, ap, subst, ◌∙◌, arith}
+use Rattle.std.proofs.lemmas.Slice.Eq.{bytes_eq-Decides}
+use Rattle.std.specs.Prelude.{decimal, codes}
 use Rattle.std.specs.Fmt.{signed_decimal}
+use Rattle.std.specs.Str.{bytes_eq}
 use Rattle.std.proofs.lemmas.Bool.{and_parts, leb-true, ltb-true, eqb-true}
 use Rattle.rh_layout.specs.declared.command.RootId.{RootId}
 use Rattle.rh_layout.specs.Word.{IsWhole, is_whole}
@@ -14,7 +16,10 @@ use Rattle.rh_text.specs.lemmas.Numbers.{number_means}
 use Rattle.rh_text.specs.lemmas.Integers.{integer_means}
 use Rattle.rh_text.specs.lemmas.Roots.{root_means}
 use Rattle.rh_text.specs.lemmas.Numbers.{number_of-decimal}
-use Rattle.rh_dump.specs.texts.Part.{number_up_to, whole_of, small_root_of, after_at, object_head, reference_of}
+use Rattle.rh_dump.specs.texts.Part.{number_up_to, whole_of, small_root_of, after_at, kind_and_rest, object_head, reference_of}
+use Rattle.rh_dump.specs.texts.Line.{kind_parts, HasKind}
+use Rattle.rh_dump.specs.declared.reading.due.Version.{Version}
+use Rattle.rh_dump.specs.declared.reading.due.Version.TheVariants.{One, Two}
 
 none_some : {A : Type 0} (x : A) → ◌≡◌ {A = Option A} None (Some x) → ⊥
 none_some x e = cc
@@ -61,16 +66,48 @@ after_at-means (b ∷ bs) digits e =
     let rest : bs ≡ digits = p.1 in
     cc
 
-pub object_head-means : (parts : List (List ℕ)) (h : List ℕ × List ℕ × List (List ℕ)) → object_head parts ≡ Some h → parts ≡ (64 ∷ h.0) ∷ h.1 ∷ h.2
+abbrev pub of_kind : Bool → List (List ℕ) → Bool × List (List ℕ)
+of_kind raw rest = (raw, rest)
+
+-- the parts are those of an object of this kind, and the rest
+abbrev IsKindOf : Version → List (List ℕ) → Bool × List (List ℕ) → Type 0
+IsKindOf version parts found = (parts ≡ kind_parts found.0 ++ found.1) × HasKind version found.0
+
+kind_by : (t : Bool) (part : List ℕ) (parts : List (List ℕ)) → (t ≡ true → part ≡ codes "raw") → IsKindOf Two (part ∷ parts) (cond t (of_kind true parts) (of_kind false (part ∷ parts)))
+kind_by true part parts is = (ap (λ (w : List ℕ). w ∷ parts) (is refl), tt)
+kind_by false part parts is = (refl, tt)
+
+kind_and_rest-means : (version : Version) (parts : List (List ℕ)) → IsKindOf version parts (kind_and_rest version parts)
+kind_and_rest-means One parts = (refl, refl)
+kind_and_rest-means Two [] = (refl, tt)
+kind_and_rest-means Two (part ∷ parts) = kind_by (bytes_eq part (codes "raw")) part parts (bytes_eq-Decides part (codes "raw")).0
+
+-- these parts begin an object's line, in a version that has objects of this kind
+pub record IsHeadOf (version : Version) (parts : List (List ℕ)) (h : List ℕ × Bool × List ℕ × List (List ℕ)) : Type 0 where
+  pub texts : parts ≡ (64 ∷ h.0) ∷ (kind_parts h.1 ++ (h.2 ∷ h.3))
+  pub kind : HasKind version h.1
+
+abbrev pub head_of : List ℕ → Bool → List ℕ → List (List ℕ) → List ℕ × Bool × List ℕ × List (List ℕ)
+head_of own raw fields values = (own, raw, fields, values)
+
+first_is : (parts : List (List ℕ)) (x : List ℕ × List (List ℕ)) → first_and_rest parts ≡ Some x → parts ≡ x.0 ∷ x.1
+first_is [] x e = absurd cc
+first_is (p ∷ ps) x e = ap (λ (y : List ℕ × List (List ℕ)). y.0 ∷ y.1) (some_is (p, ps) x e)
+
+pub object_head-means : (version : Version) (parts : List (List ℕ)) (h : List ℕ × Bool × List ℕ × List (List ℕ)) → object_head version parts ≡ Some h → IsHeadOf version parts h
 unfolding object_head
-object_head-means [] h e = absurd cc
-object_head-means (a ∷ []) h e =
-    let p = bind_some (after_at a) (λ own. first_and_rest [] >>= λ second. Some (own, second.0, second.1)) h e in
-    absurd (none_some h p.2)
-object_head-means (a ∷ b ∷ rest) h e =
-    let p = bind_some (after_at a) (λ own. first_and_rest (b ∷ rest) >>= λ second. Some (own, second.0, second.1)) h e in
-    let own = after_at-means a p.0 p.1 in
-    ap (λ (x : List ℕ). x ∷ b ∷ rest) own ∙ ap (λ (x : List ℕ × List ℕ × List (List ℕ)). (64 ∷ x.0) ∷ x.1 ∷ x.2) (some_is (p.0, b, rest) h p.2)
+object_head-means version [] h e = absurd cc
+object_head-means version (a ∷ rest) h e =
+    let found = kind_and_rest version rest in
+    let p = bind_some (after_at a) (λ own. first_and_rest found.1 >>= λ fields. Some (head_of own found.0 fields.0 fields.1)) h e in
+    let q = bind_some (first_and_rest found.1) (λ fields. Some (head_of p.0 found.0 fields.0 fields.1)) h p.2 in
+    let kind = kind_and_rest-means version rest in
+    let own : a ≡ 64 ∷ p.0 = after_at-means a p.0 p.1 in
+    let begun : IsHeadOf version (a ∷ rest) (head_of p.0 found.0 q.0.0 q.0.1) = record {
+      texts = ap (λ (x : List ℕ). x ∷ rest) own ∙ ap (λ (xs : List (List ℕ)). (64 ∷ p.0) ∷ xs) (kind.0 ∙ ap (λ (xs : List (List ℕ)). kind_parts found.0 ++ xs) (first_is found.1 q.0 q.1));
+      kind = kind.1;
+    } in
+    subst (IsHeadOf version (a ∷ rest)) (some_is (head_of p.0 found.0 q.0.0 q.0.1) h q.2) begun
 
 -- ---- references, and the first two parts of an object's line
 
@@ -82,24 +119,22 @@ pub reference_of-at : (k : ℕ) → k < 2 ^ 32 → reference_of (64 ∷ decimal 
 unfolding reference_of
 reference_of-at k small = number_of-decimal k small
 
-abbrev head_by : List ℕ → List (List ℕ) → Option (List ℕ) → Option (List ℕ × List ℕ × List (List ℕ))
-head_by fields values at = at >>= λ own. Some (own, fields, values)
+abbrev head_by : List (List ℕ) → Bool → Option (List ℕ) → Option (List ℕ × Bool × List ℕ × List (List ℕ))
+head_by rest raw at = at >>= λ own. first_and_rest rest >>= λ fields. Some (head_of own raw fields.0 fields.1)
 
-pub object_head-at : (first fields : List ℕ) (values : List (List ℕ)) (own : List ℕ) → after_at first ≡ Some own → object_head (first ∷ fields ∷ values) ≡ Some (own, fields, values)
+none_by : (at : Option (List ℕ)) (raw : Bool) → head_by [] raw at ≡ None
+none_by None raw = refl
+none_by (Some own) raw = refl
+
+-- by what stands after the first part: the kind, and the parts after it
+pub object_head-at : (version : Version) (first fields : List ℕ) (others values : List (List ℕ)) (raw : Bool) (own : List ℕ) → kind_and_rest version others ≡ of_kind raw (fields ∷ values) → after_at first ≡ Some own → object_head version (first ∷ others) ≡ Some (head_of own raw fields values)
 unfolding object_head
-object_head-at first fields values own e = ap (head_by fields values) e
+object_head-at version first fields others values raw own kind e = ap (λ (found : Bool × List (List ℕ)). head_by found.1 found.0 (after_at first)) kind ∙ ap (head_by (fields ∷ values) raw) e
 
-pub object_head-plain : (first fields : List ℕ) (values : List (List ℕ)) → after_at first ≡ None → object_head (first ∷ fields ∷ values) ≡ None
+pub object_head-plain : (version : Version) (first : List ℕ) (others : List (List ℕ)) → after_at first ≡ None → object_head version (first ∷ others) ≡ None
 unfolding object_head
-object_head-plain first fields values e = ap (head_by fields values) e
+object_head-plain version first others e = ap (head_by (kind_and_rest version others).1 (kind_and_rest version others).0) e
 
-abbrev told_head : List ℕ → List ℕ × List (List ℕ) → Option (List ℕ × List ℕ × List (List ℕ))
-told_head own second = Some (own, second.0, second.1)
-
-one_by : (at : Option (List ℕ)) → (at >>= λ own. first_and_rest [] >>= told_head own) ≡ None
-one_by None = refl
-one_by (Some own) = refl
-
-pub object_head-one : (first : List ℕ) → object_head (first ∷ []) ≡ None
+pub object_head-short : (version : Version) (first : List ℕ) (others : List (List ℕ)) (raw : Bool) → kind_and_rest version others ≡ of_kind raw [] → object_head version (first ∷ others) ≡ None
 unfolding object_head
-object_head-one first = one_by (after_at first)
+object_head-short version first others raw kind = ap (λ (found : Bool × List (List ℕ)). head_by found.1 found.0 (after_at first)) kind ∙ none_by (after_at first) raw

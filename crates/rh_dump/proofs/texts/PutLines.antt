@@ -6,6 +6,8 @@ use Rattle.rh_text.specs.RawLine.{RawLine, lines_of, raw_text}
 use Rattle.rh_text.specs.Steps.{◌>>=◌, with_fault}
 use Rattle.rh_text.specs.lemmas.RawLines.{lines_text}
 use Rattle.std.specs.List.{flat_map}
+use Rattle.rh_layout.specs.Shape.{shape_of}
+use Rattle.rh_model.specs.Plain.{PlainObject}
 use Rattle.rh_dump.specs.Dump.{GraphState, IsGraph}
 use Rattle.rh_dump.specs.Graph.{FlatGraph, graph_in, empty_flat, IsFilled}
 use Rattle.rh_dump.specs.texts.Line.{DumpLine, header_line, roots_line, root_line, objects_line, object_line, end_line, due_after}
@@ -110,21 +112,21 @@ length-rest rest after raw is =
 -- ---- the graph
 
 filled-put : (flat : FlatGraph) (line : DumpLine) → IsFilled flat → IsFilled (put_line flat line)
-filled-put flat header_line h = h
+filled-put flat (header_line version) h = h
 filled-put flat (roots_line n) h = h
 filled-put flat (root_line r v) h = h
 filled-put flat (objects_line n) h = h
-filled-put flat (object_line n fields) h = omega (arith, total_push flat.counts (length fields), length-append flat.values fields, h)
+filled-put flat (object_line n object) h = omega (arith, total_push flat.shapes (shape_of (length object.fields) object.raw), length-append flat.values object.fields, h)
 filled-put flat end_line h = h
 
 graph_in-put : (flat : FlatGraph) (line : DumpLine) → IsFilled flat → graph_in (put_line flat line) ≡ with_line (graph_in flat) line
-graph_in-put flat header_line h = refl
+graph_in-put flat (header_line version) h = refl
 graph_in-put flat (roots_line n) h = refl
 graph_in-put flat (root_line r v) h = refl
 graph_in-put flat (objects_line n) h = refl
-graph_in-put flat (object_line n fields) h =
-    let made : List (List _) → GraphState = λ os. record { roots = flat.roots; objects = os } in
-    ap made (objects_in-push flat.counts flat.values fields h)
+graph_in-put flat (object_line n object) h =
+    let made : List PlainObject → GraphState = λ os. record { roots = flat.roots; objects = os } in
+    ap made (objects_in-push flat.shapes flat.values object h)
 graph_in-put flat end_line h = refl
 
 pub record PutAll (flat : FlatGraph) (lines : List DumpLine) : Type 0 where

@@ -19,15 +19,18 @@ use Rattle.rh_text.specs.lemmas.RawLines.{lines_text}
 use Rattle.rh_text.specs.lemmas.Steps.{bind_ok, chosen, refused, ok_is, or_fault_ok}
 use Rattle.rh_dump.specs.declared.reading.due.Due.{Due}
 use Rattle.rh_dump.specs.declared.reading.due.Due.TheVariants as dues
+use Rattle.rh_dump.specs.declared.reading.due.Version.{Version}
+use Rattle.rh_dump.specs.declared.reading.due.Version.TheVariants.{One, Two}
 use Rattle.rh_dump.specs.declared.reading.fault.DumpKind.{DumpKind}
 use Rattle.rh_dump.specs.declared.reading.fault.DumpKind.TheVariants.{Long, End, Header, Form, Number, Order, Count}
-use Rattle.rh_dump.specs.Dump.{GraphState, root_values, met_with, met_after, IsNumberedAfter, AreNumbered, AreMetBefore, IsTold, IsRootTold, IsRootBefore, IsRootAfter, RootsRise, IsObjectTold, IsGraph}
-use Rattle.rh_dump.specs.texts.Line.{DumpLine, header_line, roots_line, root_line, objects_line, object_line, end_line, value_text, dump_line_parts, spell_dump_line, root_lines, object_lines, lines_in, dump_text, root_due, object_due, due_after}
-use Rattle.rh_dump.specs.texts.Part.{number_up_to, whole_of, small_root_of, after_at, object_head}
-use Rattle.rh_dump.specs.texts.Reading.{formed_parts, part_after, number_or_fault, roots_of_parts, objects_of_parts, reference_or_fault, whole_or_fault, reference_or_whole, value_or_fault, values_or_fault, is_root_before, is_root_after, root_or_fault, root_of_parts, own_number, fields_or_fault, object_of_parts, line_due, line_or_kind, fault_at, end_or_fault, lines_from, graph_of, graph_within}
+use Rattle.rh_model.specs.Plain.{PlainObject}
+use Rattle.rh_dump.specs.Dump.{GraphState, root_values, met_with, met_after, IsNumberedAfter, AreNumbered, AreMetBefore, IsTold, IsRootTold, IsRootBefore, IsRootAfter, RootsRise, IsUnreferring, IsObjectTold, IsGraph}
+use Rattle.rh_dump.specs.texts.Line.{DumpLine, header_line, roots_line, root_line, objects_line, object_line, end_line, value_text, dump_line_parts, spell_dump_line, root_lines, object_lines, lines_in, text_in, kind_parts, HasKind, CanSay, IsTextOf, root_due, object_due, due_after}
+use Rattle.rh_dump.specs.texts.Part.{number_up_to, whole_of, small_root_of, after_at, kind_and_rest, object_head}
+use Rattle.rh_dump.specs.texts.Reading.{formed_parts, part_after, number_or_fault, roots_of_parts, objects_of_parts, reference_or_fault, whole_or_fault, reference_or_whole, value_or_fault, plain_or_fault, field_or_fault, values_or_fault, is_root_before, is_root_after, root_or_fault, root_of_parts, own_number, fields_or_fault, object_of_parts, version_or_fault, line_due, line_or_kind, fault_at, end_or_fault, lines_from, graph_of, graph_within}
 use Rattle.rh_dump.specs.texts.Putting.{IsDue}
 use Rattle.rh_dump.proofs.numbers.ObjectsIn.{joined}
-use Rattle.rh_dump.proofs.texts.PartMeans.{number_up_to-means, whole_of-means, small_root_of-means, after_at-means, object_head-means}
+use Rattle.rh_dump.proofs.texts.PartMeans.{number_up_to-means, whole_of-means, small_root_of-means, after_at-means, object_head-means, IsHeadOf}
 use Rattle.rh_dump.proofs.numbers.MetValues.{met_after-append, AreNumbered-append}
 use Rattle.rh_dump.proofs.texts.SpelledIsRead.{met_after_grows, length-map_text, root_due-more, graph_of-lines_in}
 
@@ -105,40 +108,60 @@ value_or_fault-means : (part : List ℕ) (count met : ℕ) (v : Value) → met �
 unfolding value_or_fault
 value_or_fault-means part count met v all e = value_by (bytes_eq part (codes "nil")) part count met v all (bytes_eq-Decides part (codes "nil")).0 e
 
+plain_by : (nil : Bool) (part : List ℕ) (count met : ℕ) (v : Value) → met ≤ count → (nil ≡ true → part ≡ codes "nil") → cond nil (Ok Nil) (whole_or_fault part) ≡ Ok v → Says part count met v × IsUnreferring v
+plain_by true part count met v all is e = (value_by true part count met v all is e, subst IsUnreferring (ok_is Nil v e) refl)
+plain_by false part count met v all is e = (whole_means part count met v all e, whole_plain part v e)
+  where
+    whole_plain : (part : List ℕ) (v : Value) → whole_or_fault part ≡ Ok v → IsUnreferring v
+    unfolding whole_or_fault
+    whole_plain part v e = let a = bind_ok (or_fault (whole_of part) Number) (λ (n : ℤ). Ok (Int n)) v e in subst IsUnreferring (ok_is (Int a.0) v a.2) refl
+
+plain_or_fault-means : (part : List ℕ) (count met : ℕ) (v : Value) → met ≤ count → plain_or_fault part ≡ Ok v → Says part count met v × IsUnreferring v
+unfolding plain_or_fault
+plain_or_fault-means part count met v all e = plain_by (bytes_eq part (codes "nil")) part count met v all (bytes_eq-Decides part (codes "nil")).0 e
+
+-- what a field holds is no reference where the object is raw
+field_or_fault-means : (raw : Bool) (part : List ℕ) (count met : ℕ) (v : Value) → met ≤ count → field_or_fault raw count met part ≡ Ok v → Says part count met v × (raw ≡ true → IsUnreferring v)
+field_or_fault-means true part count met v all e = let m = plain_or_fault-means part count met v all e in (m.0, λ is. m.1)
+field_or_fault-means false part count met v all e = (value_or_fault-means part count met v all e, λ is. absurd (false≢true is))
+
 -- parts say these values, one after the other
-record SayAll (parts : List (List ℕ)) (count met : ℕ) (vs : List Value) : Type 0 where
+record SayAll (raw : Bool) (parts : List (List ℕ)) (count met : ℕ) (vs : List Value) : Type 0 where
   texts : parts ≡ map value_text vs
   told : AllByRecursion IsTold vs
   next : AreNumbered met vs
   below : met_after met vs ≤ count
+  plain : raw ≡ true → AllByRecursion IsUnreferring vs
 
 cons_both : (x y : List ℕ) (xs ys : List (List ℕ)) → x ≡ y → xs ≡ ys → x ∷ xs ≡ y ∷ ys
 cons_both x y xs ys e f = cc
 
-values_or_fault-means : (parts : List (List ℕ)) (count met : ℕ) (vs : List Value) → met ≤ count → values_or_fault count met parts ≡ Ok vs → SayAll parts count met vs
+values_or_fault-means : (raw : Bool) (parts : List (List ℕ)) (count met : ℕ) (vs : List Value) → met ≤ count → values_or_fault raw count met parts ≡ Ok vs → SayAll raw parts count met vs
 unfolding values_or_fault
-values_or_fault-means [] count met vs all e = subst (SayAll [] count met) (ok_is [] vs e) (record { texts = refl; told = tt; next = tt; below = all })
-values_or_fault-means (part ∷ parts) count met vs all e =
-    let a = bind_ok (value_or_fault count met part) (λ (v : Value). values_or_fault count (met_with met v) parts >>= λ others. Ok (v ∷ others)) vs e in
-    let b = bind_ok (values_or_fault count (met_with met a.0) parts) (λ (others : List Value). Ok (a.0 ∷ others)) vs a.2 in
-    let first = value_or_fault-means part count met a.0 all a.1 in
-    let others = values_or_fault-means parts count (met_with met a.0) b.0 first.below b.1 in
-    subst (SayAll (part ∷ parts) count met) (ok_is (a.0 ∷ b.0) vs b.2) (record {
+values_or_fault-means raw [] count met vs all e = subst (SayAll raw [] count met) (ok_is [] vs e) (record { texts = refl; told = tt; next = tt; below = all; plain = λ is. tt })
+values_or_fault-means raw (part ∷ parts) count met vs all e =
+    let a = bind_ok (field_or_fault raw count met part) (λ (v : Value). values_or_fault raw count (met_with met v) parts >>= λ others. Ok (v ∷ others)) vs e in
+    let b = bind_ok (values_or_fault raw count (met_with met a.0) parts) (λ (others : List Value). Ok (a.0 ∷ others)) vs a.2 in
+    let m = field_or_fault-means raw part count met a.0 all a.1 in
+    let first = m.0 in
+    let others = values_or_fault-means raw parts count (met_with met a.0) b.0 first.below b.1 in
+    subst (SayAll raw (part ∷ parts) count met) (ok_is (a.0 ∷ b.0) vs b.2) (record {
       texts = cons_both part (value_text a.0) parts (map value_text b.0) first.text others.texts;
       told = (first.told, others.told);
       next = (first.next, others.next);
       below = others.below;
+      plain = λ is. (m.1 is, others.plain is);
     })
 
 -- ---- lines
 
 -- a line that may stand where this is due
 abbrev pub Fits : Due → DumpLine → Type 0
-Fits dues.Header header_line = ⊤
-Fits dues.Roots (roots_line count) = count ≤ 4096
-Fits (dues.Root left last met) (root_line r v) = IsRootTold (r, v) × IsRootAfter last r × IsNumberedAfter met v × (met_with met v ≤ 16777216)
-Fits (dues.Objects met) (objects_line count) = (count ≤ 16777216) × (met ≤ count)
-Fits (dues.Object number count met) (object_line own fields) = (own ≡ number) × (number < met) × IsObjectTold fields × AreNumbered met fields × (met_after met fields ≤ count)
+Fits dues.Header (header_line version) = ⊤
+Fits (dues.Roots version) (roots_line count) = count ≤ 4096
+Fits (dues.Root version left last met) (root_line r v) = IsRootTold (r, v) × IsRootAfter last r × IsNumberedAfter met v × (met_with met v ≤ 16777216)
+Fits (dues.Objects version met) (objects_line count) = (count ≤ 16777216) × (met ≤ count)
+Fits (dues.Object version number count met) (object_line own object) = (own ≡ number) × (number < met) × IsObjectTold object × AreNumbered met object.fields × (met_after met object.fields ≤ count) × CanSay version object
 Fits dues.End end_line = ⊤
 Fits due line = ⊥
 
@@ -199,76 +222,98 @@ root_of_parts-means last met parts root all e =
     subst (RootSays last met parts) (ap (λ (r : RootId). pair r d.0) root_is ∙ ok_is (c.0, d.0) root d.2) found
 
 -- an object's line
-record ObjectSays (number count met : ℕ) (parts : List (List ℕ)) (object : ℕ × List Value) : Type 0 where
-  texts : parts ≡ (64 ∷ decimal object.0) ∷ decimal (length object.1) ∷ map value_text object.1
+record ObjectSays (version : Version) (number count met : ℕ) (parts : List (List ℕ)) (object : ℕ × PlainObject) : Type 0 where
+  texts : parts ≡ (64 ∷ decimal object.0) ∷ (kind_parts object.1.raw ++ (decimal (length object.1.fields) ∷ map value_text object.1.fields))
   own : object.0 ≡ number
   before : number < met
   told : IsObjectTold object.1
-  next : AreNumbered met object.1
-  below : met_after met object.1 ≤ count
+  next : AreNumbered met object.1.fields
+  below : met_after met object.1.fields ≤ count
+  says : CanSay version object.1
 
 not_true : (b : Bool) → not b ≡ false → b ≡ true
 not_true true e = refl
 not_true false e = absurd (cc)
 
-parts_3 : (parts rest others : List (List ℕ)) (a b x y : List ℕ) → parts ≡ a ∷ b ∷ rest → a ≡ x → b ≡ y → rest ≡ others → parts ≡ x ∷ y ∷ others
-parts_3 parts rest others a b x y e p q r = cc
+abbrev made : Bool → List Value → PlainObject
+made raw fields = record { raw = raw; fields = fields }
 
-object_of_parts-means : (number count met : ℕ) (parts : List (List ℕ)) (object : ℕ × List Value) → met ≤ count → object_of_parts number count met parts ≡ Ok object → ObjectSays number count met parts object
+abbrev made_object : ℕ → Bool → List Value → ℕ × PlainObject
+made_object own raw fields = (own, made raw fields)
+
+parts_3 : (parts rest others : List (List ℕ)) (raw : Bool) (a b x y : List ℕ) → parts ≡ a ∷ (kind_parts raw ++ (b ∷ rest)) → a ≡ x → b ≡ y → rest ≡ others → parts ≡ x ∷ (kind_parts raw ++ (y ∷ others))
+parts_3 parts rest others raw a b x y e p q r =
+    e ∙ ap (λ (w : List ℕ). w ∷ (kind_parts raw ++ (b ∷ rest))) p ∙ ap (λ (w : List ℕ). x ∷ (kind_parts raw ++ (w ∷ rest))) q ∙ ap (λ (ws : List (List ℕ)). x ∷ (kind_parts raw ++ (y ∷ ws))) r
+
+object_of_parts-means : (version : Version) (number count met : ℕ) (parts : List (List ℕ)) (object : ℕ × PlainObject) → met ≤ count → object_of_parts version number count met parts ≡ Ok object → ObjectSays version number count met parts object
 unfolding object_of_parts own_number fields_or_fault
-object_of_parts-means number count met parts object all e =
-    let a = bind_ok (or_fault (object_head parts) Form) (λ (head : List ℕ × List ℕ × List (List ℕ)). own_number number met head.0 >>= λ own. number_or_fault 4095 head.1 >>= λ fields. fields_or_fault count met fields head.2 >>= λ values. Ok (own, values)) object e in
-    let b = bind_ok (own_number number met a.0.0) (λ (own : ℕ). number_or_fault 4095 a.0.1 >>= λ fields. fields_or_fault count met fields a.0.2 >>= λ values. Ok (own, values)) object a.2 in
-    let c = bind_ok (number_or_fault 4095 a.0.1) (λ (fields : ℕ). fields_or_fault count met fields a.0.2 >>= λ values. Ok (b.0, values)) object b.2 in
-    let d = bind_ok (fields_or_fault count met c.0 a.0.2) (λ (values : List Value). Ok (b.0, values)) object c.2 in
+object_of_parts-means version number count met parts object all e =
+    let a = bind_ok (or_fault (object_head version parts) Form) (λ (head : List ℕ × Bool × List ℕ × List (List ℕ)). own_number number met head.0 >>= λ own. number_or_fault 4095 head.2 >>= λ fields. fields_or_fault head.1 count met fields head.3 >>= λ values. Ok (made_object own head.1 values)) object e in
+    let raw = a.0.1 in
+    let b = bind_ok (own_number number met a.0.0) (λ (own : ℕ). number_or_fault 4095 a.0.2 >>= λ fields. fields_or_fault raw count met fields a.0.3 >>= λ values. Ok (made_object own raw values)) object a.2 in
+    let c = bind_ok (number_or_fault 4095 a.0.2) (λ (fields : ℕ). fields_or_fault raw count met fields a.0.3 >>= λ values. Ok (made_object b.0 raw values)) object b.2 in
+    let d = bind_ok (fields_or_fault raw count met c.0 a.0.3) (λ (values : List Value). Ok (made_object b.0 raw values)) object c.2 in
     let f = bind_ok (number_or_fault 16777215 a.0.0) (λ (k : ℕ). cond (not (eqb k number)) (Err Order) (cond (ltb number met) (Ok k) (Err Count))) b.0 b.1 in
     let h = refused (not (eqb f.0 number)) Order (cond (ltb number met) (Ok f.0) (Err Count)) b.0 f.2 in
     let i = chosen (ltb number met) Count (Ok f.0) b.0 h.1 in
-    let j = chosen (eqb (length a.0.2) c.0) Form (values_or_fault count met a.0.2) d.0 d.1 in
-    let head = object_head-means parts a.0 (or_fault_ok (object_head parts) Form a.0 a.1) in
+    let j = chosen (eqb (length a.0.3) c.0) Form (values_or_fault raw count met a.0.3) d.0 d.1 in
+    let head = object_head-means version parts a.0 (or_fault_ok (object_head version parts) Form a.0 a.1) in
     let own_text = number_or_fault-means 16777215 a.0.0 f.0 f.1 in
-    let count_text = number_or_fault-means 4095 a.0.1 c.0 c.1 in
-    let values = values_or_fault-means a.0.2 count met d.0 all j.1 in
-    let many : length a.0.2 ≡ c.0 = eqb-true (length a.0.2) c.0 j.0 in
+    let count_text = number_or_fault-means 4095 a.0.2 c.0 c.1 in
+    let values = values_or_fault-means raw a.0.3 count met d.0 all j.1 in
+    let many : length a.0.3 ≡ c.0 = eqb-true (length a.0.3) c.0 j.0 in
     let fields_are : c.0 ≡ length d.0 = sym many ∙ ap length values.texts ∙ length-map_text d.0 in
     let own_is : f.0 ≡ b.0 = ok_is f.0 b.0 i.1 in
     let number_is : f.0 ≡ number = eqb-true f.0 number (not_true (eqb f.0 number) h.0) in
-    let found : ObjectSays number count met parts (b.0, d.0) = record {
-      texts = parts_3 parts a.0.2 (map value_text d.0) (64 ∷ a.0.0) a.0.1 (64 ∷ decimal b.0) (decimal (length d.0)) head (ap (λ (ds : List ℕ). 64 ∷ ds) (own_text.0 ∙ ap decimal own_is)) (count_text.0 ∙ ap decimal fields_are) values.texts;
+    let found : ObjectSays version number count met parts (made_object b.0 raw d.0) = record {
+      texts = parts_3 parts a.0.3 (map value_text d.0) raw (64 ∷ a.0.0) a.0.2 (64 ∷ decimal b.0) (decimal (length d.0)) head.texts (ap (λ (ds : List ℕ). 64 ∷ ds) (own_text.0 ∙ ap decimal own_is)) (count_text.0 ∙ ap decimal fields_are) values.texts;
       own = sym own_is ∙ number_is;
       before = ltb-true number met i.0;
-      told = record { few = omega (arith, count_text.1, fields_are); told = values.told };
+      told = record { few = omega (arith, count_text.1, fields_are); told = values.told; raw = values.plain };
       next = values.next;
       below = values.below;
+      says = head.kind;
     } in
-    subst (ObjectSays number count met parts) (ok_is (b.0, d.0) object d.2) found
+    subst (ObjectSays version number count met parts) (ok_is (made_object b.0 raw d.0) object d.2) found
+
+header_says : (bytes : List ℕ) (version : Version) (text : List ℕ) → bytes ≡ text → text ≡ join_with_byte 32 (dump_line_parts (header_line version)) → parts_of text ≡ dump_line_parts (header_line version) → Means dues.Header bytes (header_line version)
+header_says bytes version text is spelled parts = record { spelled = is ∙ spelled; parts = ap parts_of is ∙ parts; fits = tt }
+
+version_by : (one two : Bool) (bytes : List ℕ) (version : Version) → (one ≡ true → bytes ≡ codes "rheap 1") → (two ≡ true → bytes ≡ codes "rheap 2") → cond one (Ok One) (cond two (Ok Two) (Err Header)) ≡ Ok version → Means dues.Header bytes (header_line version)
+version_by true two bytes version is other e = subst (λ (v : Version). Means dues.Header bytes (header_line v)) (ok_is One version e) (header_says bytes One (codes "rheap 1") (is refl) refl refl)
+version_by false true bytes version is other e = subst (λ (v : Version). Means dues.Header bytes (header_line v)) (ok_is Two version e) (header_says bytes Two (codes "rheap 2") (other refl) refl refl)
+version_by false false bytes version is other e = absurd cc
+
+version_or_fault-means : (bytes : List ℕ) (version : Version) → version_or_fault bytes ≡ Ok version → Means dues.Header bytes (header_line version)
+unfolding version_or_fault
+version_or_fault-means bytes version e = version_by (bytes_eq bytes (codes "rheap 1")) (bytes_eq bytes (codes "rheap 2")) bytes version (bytes_eq-Decides bytes (codes "rheap 1")).0 (bytes_eq-Decides bytes (codes "rheap 2")).0 e
 
 pub line_means : (due : Due) (bytes : List ℕ) (line : DumpLine) → IsDue due → line_due due bytes ≡ Ok line → Means due bytes line
 unfolding line_due roots_of_parts objects_of_parts
 line_means dues.Header bytes line is e =
-    let a = chosen (bytes_eq bytes (codes "rheap 1")) Header (Ok header_line) line e in
-    subst (Means dues.Header bytes) (ok_is header_line line a.1) (record { spelled = (bytes_eq-Decides bytes (codes "rheap 1")).0 a.0; parts = ap parts_of ((bytes_eq-Decides bytes (codes "rheap 1")).0 a.0); fits = tt })
-line_means dues.Roots bytes line is e =
+    let a = bind_ok (version_or_fault bytes) (λ (version : Version). Ok (header_line version)) line e in
+    subst (Means dues.Header bytes) (ok_is (header_line a.0) line a.2) (version_or_fault-means bytes a.0 a.1)
+line_means (dues.Roots version) bytes line is e =
     let a = bind_ok (formed_parts bytes) (λ (parts : List (List ℕ)). roots_of_parts parts >>= λ count. Ok (roots_line count)) line e in
     let b = bind_ok (roots_of_parts a.0) (λ (count : ℕ). Ok (roots_line count)) line a.2 in
     let c = bind_ok (part_after (codes "roots") a.0) (λ (part : List ℕ). number_or_fault 4096 part) b.0 b.1 in
     let are = part_after-means (codes "roots") a.0 c.0 c.1 in
     let n = number_or_fault-means 4096 c.0 b.0 c.2 in
-    subst (Means dues.Roots bytes) (ok_is (roots_line b.0) line b.2) (record {
+    subst (Means (dues.Roots version) bytes) (ok_is (roots_line b.0) line b.2) (record {
       spelled = formed_parts-means bytes a.0 a.1 ∙ ap (join_with_byte 32) (are ∙ ap (λ (p : List ℕ). codes "roots" ∷ p ∷ []) n.0);
       parts = formed_parts-are bytes a.0 a.1 ∙ (are ∙ ap (λ (p : List ℕ). codes "roots" ∷ p ∷ []) n.0);
       fits = n.1;
     })
-line_means (dues.Root left last met) bytes line is e =
+line_means (dues.Root version left last met) bytes line is e =
     let a = bind_ok (formed_parts bytes) (λ (parts : List (List ℕ)). root_of_parts last met parts >>= λ root. Ok (root_line root.0 root.1)) line e in
     let b = bind_ok (root_of_parts last met a.0) (λ (root : RootId × Value). Ok (root_line root.0 root.1)) line a.2 in
     let c = root_of_parts-means last met a.0 b.0 is b.1 in
-    subst (Means (dues.Root left last met) bytes) (ok_is (root_line b.0.0 b.0.1) line b.2) (record {
+    subst (Means (dues.Root version left last met) bytes) (ok_is (root_line b.0.0 b.0.1) line b.2) (record {
       spelled = formed_parts-means bytes a.0 a.1 ∙ ap (join_with_byte 32) c.texts;
       parts = formed_parts-are bytes a.0 a.1 ∙ c.texts;
       fits = (c.told, c.after, c.next, c.below);
     })
-line_means (dues.Objects met) bytes line is e =
+line_means (dues.Objects version met) bytes line is e =
     let a = bind_ok (formed_parts bytes) (λ (parts : List (List ℕ)). objects_of_parts met parts >>= λ count. Ok (objects_line count)) line e in
     let b = bind_ok (objects_of_parts met a.0) (λ (count : ℕ). Ok (objects_line count)) line a.2 in
     let c = bind_ok (part_after (codes "objects") a.0) (λ (part : List ℕ). number_or_fault 16777216 part >>= λ count. cond (ltb count met) (Err Count) (Ok count)) b.0 b.1 in
@@ -278,19 +323,19 @@ line_means (dues.Objects met) bytes line is e =
     let are = part_after-means (codes "objects") a.0 c.0 c.1 in
     let n = number_or_fault-means 16777216 c.0 d.0 d.1 in
     let all : met ≤ d.0 = ltb-false d.0 met f.0 in
-    subst (Means (dues.Objects met) bytes) (ok_is (objects_line b.0) line b.2) (record {
+    subst (Means (dues.Objects version met) bytes) (ok_is (objects_line b.0) line b.2) (record {
       spelled = formed_parts-means bytes a.0 a.1 ∙ ap (join_with_byte 32) (are ∙ ap (λ (p : List ℕ). codes "objects" ∷ p ∷ []) (n.0 ∙ ap decimal same));
       parts = formed_parts-are bytes a.0 a.1 ∙ (are ∙ ap (λ (p : List ℕ). codes "objects" ∷ p ∷ []) (n.0 ∙ ap decimal same));
       fits = (omega (arith, n.1, same), omega (arith, all, same));
     })
-line_means (dues.Object number count met) bytes line is e =
-    let a = bind_ok (formed_parts bytes) (λ (parts : List (List ℕ)). object_of_parts number count met parts >>= λ object. Ok (object_line object.0 object.1)) line e in
-    let b = bind_ok (object_of_parts number count met a.0) (λ (object : ℕ × List Value). Ok (object_line object.0 object.1)) line a.2 in
-    let c = object_of_parts-means number count met a.0 b.0 is.0 b.1 in
-    subst (Means (dues.Object number count met) bytes) (ok_is (object_line b.0.0 b.0.1) line b.2) (record {
+line_means (dues.Object version number count met) bytes line is e =
+    let a = bind_ok (formed_parts bytes) (λ (parts : List (List ℕ)). object_of_parts version number count met parts >>= λ object. Ok (object_line object.0 object.1)) line e in
+    let b = bind_ok (object_of_parts version number count met a.0) (λ (object : ℕ × PlainObject). Ok (object_line object.0 object.1)) line a.2 in
+    let c = object_of_parts-means version number count met a.0 b.0 is.0 b.1 in
+    subst (Means (dues.Object version number count met) bytes) (ok_is (object_line b.0.0 b.0.1) line b.2) (record {
       spelled = formed_parts-means bytes a.0 a.1 ∙ ap (join_with_byte 32) c.texts;
       parts = formed_parts-are bytes a.0 a.1 ∙ c.texts;
-      fits = (c.own, c.before, c.told, c.next, c.below);
+      fits = (c.own, c.before, c.told, c.next, c.below, c.says);
     })
 line_means dues.End bytes line is e =
     let a = chosen (bytes_eq bytes (codes "end")) Form (Ok end_line) line e in
@@ -307,36 +352,36 @@ Accepts due (line ∷ lines) = Fits due line × Accepts (due_after due line) lin
 
 accepts_next : (due : Due) (line : DumpLine) (lines : List DumpLine) → Fits due line → Accepts (due_after due line) lines → Accepts due (line ∷ lines)
 accepts_next dues.Header line lines f h = (f, h)
-accepts_next dues.Roots line lines f h = (f, h)
-accepts_next (dues.Root left last met) line lines f h = (f, h)
-accepts_next (dues.Objects met) line lines f h = (f, h)
-accepts_next (dues.Object number count met) line lines f h = (f, h)
+accepts_next (dues.Roots version) line lines f h = (f, h)
+accepts_next (dues.Root version left last met) line lines f h = (f, h)
+accepts_next (dues.Objects version met) line lines f h = (f, h)
+accepts_next (dues.Object version number count met) line lines f h = (f, h)
 accepts_next dues.End line lines f h = (f, h)
 accepts_next dues.Nothing line lines f h = (f, h)
 
 accepts_first : (due : Due) (line : DumpLine) (lines : List DumpLine) → Accepts due (line ∷ lines) → Fits due line × Accepts (due_after due line) lines
 accepts_first dues.Header line lines h = h
-accepts_first dues.Roots line lines h = h
-accepts_first (dues.Root left last met) line lines h = h
-accepts_first (dues.Objects met) line lines h = h
-accepts_first (dues.Object number count met) line lines h = h
+accepts_first (dues.Roots version) line lines h = h
+accepts_first (dues.Root version left last met) line lines h = h
+accepts_first (dues.Objects version met) line lines h = h
+accepts_first (dues.Object version number count met) line lines h = h
 accepts_first dues.End line lines h = h
 accepts_first dues.Nothing line lines h = h
 
-root_due_small : (left : ℕ) (last : Option RootId) (met : ℕ) → met ≤ 16777216 → IsDue (root_due left last met)
-root_due_small zero last met h = h
-root_due_small (suc n) last met h = subst IsDue (sym (root_due-more n last met)) h
+root_due_small : (version : Version) (left : ℕ) (last : Option RootId) (met : ℕ) → met ≤ 16777216 → IsDue (root_due version left last met)
+root_due_small version zero last met h = h
+root_due_small version (suc n) last met h = subst IsDue (sym (root_due-more version n last met)) h
 
-object_due_by : (t : Bool) (number count met : ℕ) → met ≤ count → count ≤ 16777216 → IsDue (cond t (dues.Object number count met) dues.End)
-object_due_by true number count met h few = (h, few)
-object_due_by false number count met h few = tt
+object_due_by : (t : Bool) (version : Version) (number count met : ℕ) → met ≤ count → count ≤ 16777216 → IsDue (cond t (dues.Object version number count met) dues.End)
+object_due_by true version number count met h few = (h, few)
+object_due_by false version number count met h few = tt
 
 pub due_after_small : (due : Due) (line : DumpLine) → IsDue due → Fits due line → IsDue (due_after due line)
-due_after_small dues.Header header_line is f = tt
-due_after_small dues.Roots (roots_line count) is f = root_due_small count None 0 (omega arith)
-due_after_small (dues.Root left last met) (root_line r v) is f = root_due_small left (Some r) (met_with met v) f.3
-due_after_small (dues.Objects met) (objects_line count) is f = object_due_by (ltb 0 count) 0 count met f.1 f.0
-due_after_small (dues.Object number count met) (object_line own fields) is f = object_due_by (ltb (number + 1) count) (number + 1) count (met_after met fields) f.4 is.1
+due_after_small dues.Header (header_line version) is f = tt
+due_after_small (dues.Roots version) (roots_line count) is f = root_due_small version count None 0 (omega arith)
+due_after_small (dues.Root version left last met) (root_line r v) is f = root_due_small version left (Some r) (met_with met v) f.3
+due_after_small (dues.Objects version met) (objects_line count) is f = object_due_by (ltb 0 count) version 0 count met f.1 f.0
+due_after_small (dues.Object version number count met) (object_line own object) is f = object_due_by (ltb (number + 1) count) version (number + 1) count (met_after met object.fields) f.4 is.1
 due_after_small dues.End end_line is f = tt
 due_after_small due line is f = absurd f
 
@@ -391,7 +436,7 @@ lines_mean limit due number size (raw ∷ raws) lines is few e =
 -- ---- the graph of lines that were accepted
 
 -- the lines of so many roots, and those after them
-record RootsAre (left : ℕ) (last : Option RootId) (met : ℕ) (lines : List DumpLine) : Type 0 where
+record RootsAre (version : Version) (left : ℕ) (last : Option RootId) (met : ℕ) (lines : List DumpLine) : Type 0 where
   roots : List (RootId × Value)
   rest : List DumpLine
   lines_are : lines ≡ root_lines roots ++ rest
@@ -399,11 +444,11 @@ record RootsAre (left : ℕ) (last : Option RootId) (met : ℕ) (lines : List Du
   told : AllByRecursion IsRootTold roots
   rise : RootsRise last roots
   next : AreNumbered met (root_values roots)
-  others : Accepts (dues.Objects (met_after met (root_values roots))) rest
+  others : Accepts (dues.Objects version (met_after met (root_values roots))) rest
 
-root_first : (n : ℕ) (last : Option RootId) (met : ℕ) (lines : List DumpLine) → ((l : Option RootId) (m : ℕ) (ls : List DumpLine) → Accepts (root_due n l m) ls → RootsAre n l m ls) → Accepts (dues.Root n last met) lines → RootsAre (suc n) last met lines
-root_first n last met [] more h = absurd h
-root_first n last met (root_line r v ∷ lines) more h =
+root_first : (version : Version) (n : ℕ) (last : Option RootId) (met : ℕ) (lines : List DumpLine) → ((l : Option RootId) (m : ℕ) (ls : List DumpLine) → Accepts (root_due version n l m) ls → RootsAre version n l m ls) → Accepts (dues.Root version n last met) lines → RootsAre version (suc n) last met lines
+root_first version n last met [] more h = absurd h
+root_first version n last met (root_line r v ∷ lines) more h =
     let a = more (Some r) (met_with met v) lines h.1 in
     record {
       roots = (r, v) ∷ a.roots;
@@ -415,19 +460,19 @@ root_first n last met (root_line r v ∷ lines) more h =
       next = (h.0.2, a.next);
       others = a.others;
     }
-root_first n last met (header_line ∷ lines) more h = absurd h.0
-root_first n last met (roots_line count ∷ lines) more h = absurd h.0
-root_first n last met (objects_line count ∷ lines) more h = absurd h.0
-root_first n last met (object_line own fields ∷ lines) more h = absurd h.0
-root_first n last met (end_line ∷ lines) more h = absurd h.0
+root_first version n last met (header_line v ∷ lines) more h = absurd h.0
+root_first version n last met (roots_line count ∷ lines) more h = absurd h.0
+root_first version n last met (objects_line count ∷ lines) more h = absurd h.0
+root_first version n last met (object_line own object ∷ lines) more h = absurd h.0
+root_first version n last met (end_line ∷ lines) more h = absurd h.0
 
-roots_are : (left : ℕ) (last : Option RootId) (met : ℕ) (lines : List DumpLine) → Accepts (root_due left last met) lines → RootsAre left last met lines
-roots_are zero last met lines h = record { roots = []; rest = lines; lines_are = refl; many = refl; told = tt; rise = tt; next = tt; others = h }
-roots_are (suc n) last met lines h = root_first n last met lines (roots_are n) (subst (λ (d : Due). Accepts d lines) (root_due-more n last met) h)
+roots_are : (version : Version) (left : ℕ) (last : Option RootId) (met : ℕ) (lines : List DumpLine) → Accepts (root_due version left last met) lines → RootsAre version left last met lines
+roots_are version zero last met lines h = record { roots = []; rest = lines; lines_are = refl; many = refl; told = tt; rise = tt; next = tt; others = h }
+roots_are version (suc n) last met lines h = root_first version n last met lines (roots_are version n) (subst (λ (d : Due). Accepts d lines) (root_due-more version n last met) h)
 
 -- the lines of so many objects, and those after them
-record ObjectsAre (number count met : ℕ) (lines : List DumpLine) : Type 0 where
-  objects : List (List Value)
+record ObjectsAre (version : Version) (number count met : ℕ) (lines : List DumpLine) : Type 0 where
+  objects : List PlainObject
   rest : List DumpLine
   lines_are : lines ≡ object_lines number objects ++ rest
   many : number + length objects ≡ count
@@ -435,42 +480,46 @@ record ObjectsAre (number count met : ℕ) (lines : List DumpLine) : Type 0 wher
   told : AllByRecursion IsObjectTold objects
   next : AreNumbered met (joined objects)
   all : met_after met (joined objects) ≡ count
+  says : AllByRecursion (CanSay version) objects
   others : Accepts dues.End rest
 
-object_first : (number count met : ℕ) (lines : List DumpLine) → number < count → ((m : ℕ) (ls : List DumpLine) → number + 1 ≤ m → m ≤ count → Accepts (object_due (number + 1) count m) ls → ObjectsAre (number + 1) count m ls) → Accepts (dues.Object number count met) lines → ObjectsAre number count met lines
-object_first number count met [] there more h = absurd h
-object_first number count met (object_line own fields ∷ lines) there more h =
+object_first : (version : Version) (number count met : ℕ) (lines : List DumpLine) → number < count
+    → ((m : ℕ) (ls : List DumpLine) → number + 1 ≤ m → m ≤ count → Accepts (object_due version (number + 1) count m) ls → ObjectsAre version (number + 1) count m ls) → Accepts (dues.Object version number count met) lines → ObjectsAre version number count met lines
+object_first version number count met [] there more h = absurd h
+object_first version number count met (object_line own object ∷ lines) there more h =
     let f = h.0 in
+    let fields = object.fields in
     let a = more (met_after met fields) lines (omega (arith, f.1, met_after_grows met fields)) f.4 h.1 in
     record {
-      objects = fields ∷ a.objects;
+      objects = object ∷ a.objects;
       rest = a.rest;
-      lines_are = ap (λ (n : ℕ). object_line n fields ∷ lines) f.0 ∙ ap (λ (ls : List DumpLine). object_line number fields ∷ ls) a.lines_are;
+      lines_are = ap (λ (n : ℕ). object_line n object ∷ lines) f.0 ∙ ap (λ (ls : List DumpLine). object_line number object ∷ ls) a.lines_are;
       many = omega (arith, a.many);
       before = (f.1, a.before);
       told = (f.2, a.told);
       next = AreNumbered-append met fields (joined a.objects) f.3 a.next;
       all = met_after-append met fields (joined a.objects) ∙ a.all;
+      says = (f.5, a.says);
       others = a.others;
     }
-object_first number count met (header_line ∷ lines) there more h = absurd h.0
-object_first number count met (roots_line n ∷ lines) there more h = absurd h.0
-object_first number count met (root_line r v ∷ lines) there more h = absurd h.0
-object_first number count met (objects_line n ∷ lines) there more h = absurd h.0
-object_first number count met (end_line ∷ lines) there more h = absurd h.0
+object_first version number count met (header_line v ∷ lines) there more h = absurd h.0
+object_first version number count met (roots_line n ∷ lines) there more h = absurd h.0
+object_first version number count met (root_line r v ∷ lines) there more h = absurd h.0
+object_first version number count met (objects_line n ∷ lines) there more h = absurd h.0
+object_first version number count met (end_line ∷ lines) there more h = absurd h.0
 
-objects_are : (left number count met : ℕ) (lines : List DumpLine) → number + left ≡ count → number ≤ met → met ≤ count → Accepts (object_due number count met) lines → ObjectsAre number count met lines
-objects_are zero number count met lines all low high h =
-    let ended : object_due number count met ≡ dues.End = ap (λ (t : Bool). cond t (dues.Object number count met) dues.End) (le-ltb number count (omega (arith, all))) in
-    record { objects = []; rest = lines; lines_are = refl; many = omega (arith, all); before = tt; told = tt; next = tt; all = omega (arith, all, low, high); others = subst (λ (d : Due). Accepts d lines) ended h }
-objects_are (suc left) number count met lines all low high h =
+objects_are : (version : Version) (left number count met : ℕ) (lines : List DumpLine) → number + left ≡ count → number ≤ met → met ≤ count → Accepts (object_due version number count met) lines → ObjectsAre version number count met lines
+objects_are version zero number count met lines all low high h =
+    let ended : object_due version number count met ≡ dues.End = ap (λ (t : Bool). cond t (dues.Object version number count met) dues.End) (le-ltb number count (omega (arith, all))) in
+    record { objects = []; rest = lines; lines_are = refl; many = omega (arith, all); before = tt; told = tt; next = tt; all = omega (arith, all, low, high); says = tt; others = subst (λ (d : Due). Accepts d lines) ended h }
+objects_are version (suc left) number count met lines all low high h =
     let there : number < count = omega (arith, all) in
-    let due : object_due number count met ≡ dues.Object number count met = ap (λ (t : Bool). cond t (dues.Object number count met) dues.End) (lt-ltb number count there) in
-    object_first number count met lines there (λ m ls low high. objects_are left (number + 1) count m ls (omega (arith, all)) low high) (subst (λ (d : Due). Accepts d lines) due h)
+    let due : object_due version number count met ≡ dues.Object version number count met = ap (λ (t : Bool). cond t (dues.Object version number count met) dues.End) (lt-ltb number count there) in
+    object_first version number count met lines there (λ m ls low high. objects_are version left (number + 1) count m ls (omega (arith, all)) low high) (subst (λ (d : Due). Accepts d lines) due h)
 
 -- `end`, and nothing after it
 nothing_fits : (line : DumpLine) → Fits dues.Nothing line → ⊥
-nothing_fits header_line f = f
+nothing_fits (header_line v) f = f
 nothing_fits (roots_line n) f = f
 nothing_fits (root_line r v) f = f
 nothing_fits (objects_line n) f = f
@@ -481,26 +530,27 @@ end_is : (lines : List DumpLine) → Accepts dues.End lines → lines ≡ end_li
 end_is [] h = absurd h
 end_is (end_line ∷ []) h = refl
 end_is (end_line ∷ line ∷ lines) h = absurd (nothing_fits line h.1.0)
-end_is (header_line ∷ lines) h = absurd h.0
+end_is (header_line v ∷ lines) h = absurd h.0
 end_is (roots_line n ∷ lines) h = absurd h.0
 end_is (root_line r v ∷ lines) h = absurd h.0
 end_is (objects_line n ∷ lines) h = absurd h.0
 end_is (object_line n fields ∷ lines) h = absurd h.0
 
 -- `objects N`, and the objects
-record CountIs (met : ℕ) (lines : List DumpLine) : Type 0 where
-  objects : List (List Value)
+record CountIs (version : Version) (met : ℕ) (lines : List DumpLine) : Type 0 where
+  objects : List PlainObject
   lines_are : lines ≡ objects_line (length objects) ∷ (object_lines 0 objects ++ (end_line ∷ []))
   few : length objects ≤ 16777216
   before : AreMetBefore 0 met objects
   told : AllByRecursion IsObjectTold objects
   next : AreNumbered met (joined objects)
   all : met_after met (joined objects) ≡ length objects
+  says : AllByRecursion (CanSay version) objects
 
-count_is : (met : ℕ) (lines : List DumpLine) → Accepts (dues.Objects met) lines → CountIs met lines
-count_is met [] h = absurd h
-count_is met (objects_line count ∷ lines) h =
-    let a = objects_are count 0 count met lines (omega arith) (omega arith) h.0.1 h.1 in
+count_is : (version : Version) (met : ℕ) (lines : List DumpLine) → Accepts (dues.Objects version met) lines → CountIs version met lines
+count_is version met [] h = absurd h
+count_is version met (objects_line count ∷ lines) h =
+    let a = objects_are version count 0 count met lines (omega arith) (omega arith) h.0.1 h.1 in
     let many : length a.objects ≡ count = omega (arith, a.many) in
     record {
       objects = a.objects;
@@ -510,24 +560,27 @@ count_is met (objects_line count ∷ lines) h =
       told = a.told;
       next = a.next;
       all = a.all ∙ sym many;
+      says = a.says;
     }
-count_is met (header_line ∷ lines) h = absurd h.0
-count_is met (roots_line n ∷ lines) h = absurd h.0
-count_is met (root_line r v ∷ lines) h = absurd h.0
-count_is met (object_line n fields ∷ lines) h = absurd h.0
-count_is met (end_line ∷ lines) h = absurd h.0
+count_is version met (header_line v ∷ lines) h = absurd h.0
+count_is version met (roots_line n ∷ lines) h = absurd h.0
+count_is version met (root_line r v ∷ lines) h = absurd h.0
+count_is version met (object_line n object ∷ lines) h = absurd h.0
+count_is version met (end_line ∷ lines) h = absurd h.0
 
 -- the lines of a graph
 record GraphIs (lines : List DumpLine) : Type 0 where
   graph : GraphState
   is : IsGraph graph
-  lines_are : lines ≡ lines_in graph
+  version : Version
+  says : AllByRecursion (CanSay version) graph.objects
+  lines_are : lines ≡ lines_in version graph
 
-after_header : (lines : List DumpLine) → Accepts dues.Roots lines → GraphIs (header_line ∷ lines)
-after_header [] h = absurd h
-after_header (roots_line left ∷ lines) h =
-    let a = roots_are left None 0 lines h.1 in
-    let b = count_is (met_after 0 (root_values a.roots)) a.rest a.others in
+after_header : (version : Version) (lines : List DumpLine) → Accepts (dues.Roots version) lines → GraphIs (header_line version ∷ lines)
+after_header version [] h = absurd h
+after_header version (roots_line left ∷ lines) h =
+    let a = roots_are version left None 0 lines h.1 in
+    let b = count_is version (met_after 0 (root_values a.roots)) a.rest a.others in
     let graph : GraphState = record { roots = a.roots; objects = b.objects } in
     record {
       graph = graph;
@@ -540,29 +593,32 @@ after_header (roots_line left ∷ lines) h =
         met_before = b.before;
         all_met = met_after-append 0 (root_values a.roots) (joined b.objects) ∙ b.all;
       };
-      lines_are = ap (λ (n : ℕ). header_line ∷ roots_line n ∷ lines) (sym a.many) ∙ ap (λ (ls : List DumpLine). header_line ∷ roots_line (length a.roots) ∷ ls) (a.lines_are ∙ ap (λ (ls : List DumpLine). root_lines a.roots ++ ls) b.lines_are);
+      version = version;
+      says = b.says;
+      lines_are = ap (λ (n : ℕ). header_line version ∷ roots_line n ∷ lines) (sym a.many) ∙ ap (λ (ls : List DumpLine). header_line version ∷ roots_line (length a.roots) ∷ ls) (a.lines_are ∙ ap (λ (ls : List DumpLine). root_lines a.roots ++ ls) b.lines_are);
     }
-after_header (header_line ∷ lines) h = absurd h.0
-after_header (root_line r v ∷ lines) h = absurd h.0
-after_header (objects_line n ∷ lines) h = absurd h.0
-after_header (object_line n fields ∷ lines) h = absurd h.0
-after_header (end_line ∷ lines) h = absurd h.0
+after_header version (header_line v ∷ lines) h = absurd h.0
+after_header version (root_line r v ∷ lines) h = absurd h.0
+after_header version (objects_line n ∷ lines) h = absurd h.0
+after_header version (object_line n object ∷ lines) h = absurd h.0
+after_header version (end_line ∷ lines) h = absurd h.0
 
 accepted_is : (lines : List DumpLine) → Accepts dues.Header lines → GraphIs lines
 accepted_is [] h = absurd h
-accepted_is (header_line ∷ lines) h = after_header lines h.1
+accepted_is (header_line version ∷ lines) h = after_header version lines h.1
 accepted_is (roots_line n ∷ lines) h = absurd h.0
 accepted_is (root_line r v ∷ lines) h = absurd h.0
 accepted_is (objects_line n ∷ lines) h = absurd h.0
-accepted_is (object_line n fields ∷ lines) h = absurd h.0
+accepted_is (object_line n object ∷ lines) h = absurd h.0
 accepted_is (end_line ∷ lines) h = absurd h.0
 
-pub graph_within-means : (limit : ℕ) (text : List ℕ) (g : GraphState) → graph_within limit text ≡ Ok g → IsGraph g × (text ≡ dump_text g) × (length text ≤ limit)
+pub graph_within-means : (limit : ℕ) (text : List ℕ) (g : GraphState) → graph_within limit text ≡ Ok g → IsGraph g × IsTextOf text g × (length text ≤ limit)
 unfolding graph_within
 graph_within-means limit text g e =
     let a = bind_ok (lines_from limit dues.Header 1 0 (lines_of text)) (λ (lines : List DumpLine). Ok (graph_of lines)) g e in
     let m = lines_mean limit dues.Header 1 0 (lines_of text) a.0 tt (omega arith) a.1 in
     let is = accepted_is a.0 m.accepted in
-    let same : is.graph ≡ g = sym (graph_of-lines_in is.graph) ∙ ap graph_of (sym is.lines_are) ∙ ok_is (graph_of a.0) g a.2 in
-    let spelled : text ≡ dump_text is.graph = sym (lines_text text) ∙ m.text ∙ ap (flat_map spell_dump_line) is.lines_are in
-    (subst IsGraph same is.is, spelled ∙ ap dump_text same, omega (arith, m.within, ap length (lines_text text)))
+    let same : is.graph ≡ g = sym (graph_of-lines_in is.version is.graph) ∙ ap graph_of (sym is.lines_are) ∙ ok_is (graph_of a.0) g a.2 in
+    let spelled : text ≡ text_in is.version is.graph = sym (lines_text text) ∙ m.text ∙ ap (flat_map spell_dump_line) is.lines_are in
+    let told : IsTextOf text is.graph = (is.version, is.says, spelled) in
+    (subst IsGraph same is.is, subst (IsTextOf text) same told, omega (arith, m.within, ap length (lines_text text)))

@@ -1,17 +1,21 @@
 -- A text that is sent in parts, one after the other.
-use Rattle.std.proofs.Common.{◌≡◌, ℕ, ◌+◌, ◌<◌, List, [], ◌∷◌, ◌++◌, length, get_or, take, drop, Option, Result, Ok, Err, refl, sym, ap, subst, ◌∙◌, append_assoc, arith}
-use Rattle.std.specs.Prelude.{decimal, map, OnOk, OnErr}
+use Rattle.std.proofs.Common.{◌≡◌, ℕ, ◌+◌, ◌<◌, Bool, true, false, List, [], ◌∷◌, ◌++◌, length, get_or, take, drop, Option, Result, Ok, Err, refl, sym, ap, subst, ◌∙◌, append_assoc, arith}
+use Rattle.std.specs.Prelude.{codes, decimal, map, OnOk, OnErr}
 use Rattle.std.specs.List.{flat_map, join_with_byte}
 use Rattle.std.specs.Io.KnownBytes.{Appends}
 use Rattle.std.proofs.lemmas.List.{append-nil, drop_more}
 use Rattle.std.proofs.lemmas.List.Concat.{flat_map-append}
 use Rattle.rh_layout.specs.declared.value.Value.{Value}
 use Rattle.rh_layout.specs.declared.command.RootId.{RootId}
+use Rattle.rh_layout.specs.declared.shape.Shape.{Shape}
+use Rattle.rh_layout.specs.Shape.{shape_of}
+use Rattle.rh_model.specs.Plain.{PlainObject}
+use Rattle.rh_dump.specs.declared.reading.due.Version.TheVariants.{Two}
 use Rattle.rh_text.specs.Output.{AppendsLess}
 use Rattle.rh_text.specs.lemmas.Appends.{Sent, Appends-then, Appends-none, Appends-at, Appends-less, less-more}
 use Rattle.rh_dump.specs.Dump.{GraphState}
 use Rattle.rh_dump.specs.Graph.{objects_in, total}
-use Rattle.rh_dump.specs.texts.Line.{header_line, roots_line, root_line, objects_line, object_line, end_line, value_text, spell_dump_line, root_lines, object_lines, dump_text}
+use Rattle.rh_dump.specs.texts.Line.{header_line, roots_line, root_line, objects_line, object_line, end_line, value_text, kind_parts, spell_dump_line, root_lines, object_lines, dump_text}
 
 pub Sent-begin : (a : Option (List ℕ)) (text : List ℕ) → Sent a a text text
 Sent-begin a text = record { prefix = []; whole = refl; appended = Appends-none a }
@@ -44,18 +48,27 @@ Sent-whole a b text sent = Appends-at a b sent.prefix text (sym (sent.whole ∙ 
 abbrev pub value_piece : Value → List ℕ
 value_piece value = 32 ∷ value_text value
 
-abbrev pub object_head_text : ℕ → ℕ → List ℕ
-object_head_text number fields = 64 ∷ decimal number ++ 32 ∷ decimal fields
+abbrev pub object_head_text : ℕ → Bool → ℕ → List ℕ
+object_head_text number raw fields = join_with_byte 32 ((64 ∷ decimal number) ∷ (kind_parts raw ++ decimal fields ∷ []))
 
 join-values : (part : List ℕ) (values : List Value) → join_with_byte 32 (part ∷ map value_text values) ≡ part ++ flat_map value_piece values
 join-values part [] = sym (append-nil part)
 join-values part (value ∷ values) = ap (λ (t : List ℕ). part ++ 32 ∷ t) (join-values (value_text value) values)
 
-pub object_line_text : (number : ℕ) (fields : List Value) → spell_dump_line (object_line number fields) ≡ object_head_text number (length fields) ++ (flat_map value_piece fields ++ 10 ∷ [])
-object_line_text number fields =
+abbrev pub object_of : Bool → List Value → PlainObject
+object_of raw fields = record { raw = raw; fields = fields }
+
+pub object_line_text : (number : ℕ) (raw : Bool) (fields : List Value) → spell_dump_line (object_line number (object_of raw fields)) ≡ object_head_text number raw (length fields) ++ (flat_map value_piece fields ++ 10 ∷ [])
+object_line_text number false fields =
     let d = decimal (length fields) in
     let own = 64 ∷ decimal number in
     ap (λ (t : List ℕ). (own ++ 32 ∷ t) ++ 10 ∷ []) (join-values d fields)
+    ∙ ap (λ (t : List ℕ). t ++ 10 ∷ []) (sym (append_assoc own (32 ∷ d) (flat_map value_piece fields)))
+    ∙ append_assoc (own ++ 32 ∷ d) (flat_map value_piece fields) (10 ∷ [])
+object_line_text number true fields =
+    let d = codes "raw" ++ 32 ∷ decimal (length fields) in
+    let own = 64 ∷ decimal number in
+    ap (λ (t : List ℕ). (own ++ 32 ∷ (codes "raw" ++ 32 ∷ t)) ++ 10 ∷ []) (join-values (decimal (length fields)) fields)
     ∙ ap (λ (t : List ℕ). t ++ 10 ∷ []) (sym (append_assoc own (32 ∷ d) (flat_map value_piece fields)))
     ∙ append_assoc (own ++ 32 ∷ d) (flat_map value_piece fields) (10 ∷ [])
 
@@ -72,14 +85,14 @@ text_count g = spell_dump_line (objects_line (length g.objects)) ++ text_objects
 abbrev pub text_roots : GraphState → List ℕ
 text_roots g = flat_map spell_dump_line (root_lines g.roots) ++ text_count g
 
-pub dump_text-parts : (g : GraphState) → dump_text g ≡ (spell_dump_line header_line ++ spell_dump_line (roots_line (length g.roots))) ++ text_roots g
+pub dump_text-parts : (g : GraphState) → dump_text g ≡ (spell_dump_line (header_line Two) ++ spell_dump_line (roots_line (length g.roots))) ++ text_roots g
 dump_text-parts g =
     let objects = flat_map-append spell_dump_line (object_lines 0 g.objects) (end_line ∷ []) in
     let ended : flat_map spell_dump_line (object_lines 0 g.objects ++ (end_line ∷ [])) ≡ text_objects g = objects ∙ ap (λ (t : List ℕ). flat_map spell_dump_line (object_lines 0 g.objects) ++ t) (append-nil text_end) in
     let count : flat_map spell_dump_line (objects_line (length g.objects) ∷ (object_lines 0 g.objects ++ (end_line ∷ []))) ≡ text_count g = ap (λ (t : List ℕ). spell_dump_line (objects_line (length g.objects)) ++ t) ended in
     let roots : flat_map spell_dump_line (root_lines g.roots ++ (objects_line (length g.objects) ∷ (object_lines 0 g.objects ++ (end_line ∷ [])))) ≡ text_roots g = flat_map-append spell_dump_line (root_lines g.roots) (objects_line (length g.objects) ∷ (object_lines 0 g.objects ++ (end_line ∷ []))) ∙ ap (λ (t : List ℕ). flat_map spell_dump_line (root_lines g.roots) ++ t) count in
-    ap (λ (t : List ℕ). spell_dump_line header_line ++ (spell_dump_line (roots_line (length g.roots)) ++ t)) roots
-    ∙ sym (append_assoc (spell_dump_line header_line) (spell_dump_line (roots_line (length g.roots))) (text_roots g))
+    ap (λ (t : List ℕ). spell_dump_line (header_line Two) ++ (spell_dump_line (roots_line (length g.roots)) ++ t)) roots
+    ∙ sym (append_assoc (spell_dump_line (header_line Two)) (spell_dump_line (roots_line (length g.roots))) (text_roots g))
 
 -- ---- a loop that sends a part for each item
 
@@ -105,28 +118,33 @@ fields_text values = flat_map value_piece values ++ 10 ∷ []
 pub fields_step : (x : Value) (xs : List Value) → fields_text (x ∷ xs) ≡ value_piece x ++ fields_text xs
 fields_step x xs = append_assoc (value_piece x) (flat_map value_piece xs) (10 ∷ [])
 
-abbrev pub objects_text : ℕ → List ℕ → List Value → List ℕ
-objects_text number counts values = flat_map spell_dump_line (object_lines number (objects_in counts values))
+abbrev pub objects_text : ℕ → List Shape → List Value → List ℕ
+objects_text number shapes values = flat_map spell_dump_line (object_lines number (objects_in shapes values))
 
-module _ (a b c : Option (List ℕ)) (text : List ℕ) (number i : ℕ) (counts : List ℕ) (rest front back : List Value) (lt : i < length counts) (fronts : front ≡ take (get_or counts i 0) rest) (backs : back ≡ drop (get_or counts i 0) rest) (so_far : Sent a b text (objects_text number (drop i counts) rest)) where
-  objects_rest : objects_text number (drop i counts) rest ≡ spell_dump_line (object_line number front) ++ objects_text (number + 1) (drop (i + 1) counts) back
+module _ (a b c : Option (List ℕ)) (text : List ℕ) (number i : ℕ) (shapes : List Shape) (d : Shape) (rest front back : List Value) (lt : i < length shapes) (fronts : front ≡ take (get_or shapes i d).fields rest) (backs : back ≡ drop (get_or shapes i d).fields rest)
+    (so_far : Sent a b text (objects_text number (drop i shapes) rest)) where
+  abbrev sent_object : List ℕ
+  sent_object = spell_dump_line (object_line number (object_of (get_or shapes i d).raw front))
+
+  objects_rest : objects_text number (drop i shapes) rest ≡ sent_object ++ objects_text (number + 1) (drop (i + 1) shapes) back
   objects_rest =
-      ap (λ (cs : List ℕ). objects_text number cs rest) (drop_more counts i 0 lt)
-      ∙ ap (λ (f : List Value). spell_dump_line (object_line number f) ++ objects_text (number + 1) (drop (i + 1) counts) (drop (get_or counts i 0) rest)) (sym fronts)
-      ∙ ap (λ (r : List Value). spell_dump_line (object_line number front) ++ objects_text (number + 1) (drop (i + 1) counts) r) (sym backs)
+      let shape = get_or shapes i d in
+      ap (λ (ss : List Shape). objects_text number ss rest) (drop_more shapes i d lt)
+      ∙ ap (λ (f : List Value). spell_dump_line (object_line number (object_of shape.raw f)) ++ objects_text (number + 1) (drop (i + 1) shapes) (drop shape.fields rest)) (sym fronts)
+      ∙ ap (λ (r : List Value). sent_object ++ objects_text (number + 1) (drop (i + 1) shapes) r) (sym backs)
 
-  pub objects_next : Appends b c (spell_dump_line (object_line number front)) → Sent a c text (objects_text (number + 1) (drop (i + 1) counts) back)
-  objects_next next = Sent-next a b c text (objects_text number (drop i counts) rest) (spell_dump_line (object_line number front)) (objects_text (number + 1) (drop (i + 1) counts) back) so_far objects_rest next
+  pub objects_next : Appends b c sent_object → Sent a c text (objects_text (number + 1) (drop (i + 1) shapes) back)
+  objects_next next = Sent-next a b c text (objects_text number (drop i shapes) rest) sent_object (objects_text (number + 1) (drop (i + 1) shapes) back) so_far objects_rest next
 
-  pub objects_less : AppendsLess b c (spell_dump_line (object_line number front)) → AppendsLess a c text
-  objects_less next = Sent-less a b c text (objects_text number (drop i counts) rest) (spell_dump_line (object_line number front)) (objects_text (number + 1) (drop (i + 1) counts) back) so_far objects_rest next
+  pub objects_less : AppendsLess b c sent_object → AppendsLess a c text
+  objects_less next = Sent-less a b c text (objects_text number (drop i shapes) rest) sent_object (objects_text (number + 1) (drop (i + 1) shapes) back) so_far objects_rest next
 
-pub total_more : (counts : List ℕ) (i n m : ℕ) → i < length counts → total (drop i counts) ≡ n → m + get_or counts i 0 ≡ n → total (drop (i + 1) counts) ≡ m
-total_more counts i n m lt all is = let e : total (drop i counts) ≡ get_or counts i 0 + total (drop (i + 1) counts) = ap total (drop_more counts i 0 lt) in omega (arith, e)
+pub total_more : (shapes : List Shape) (d : Shape) (i n m : ℕ) → i < length shapes → total (drop i shapes) ≡ n → m + (get_or shapes i d).fields ≡ n → total (drop (i + 1) shapes) ≡ m
+total_more shapes d i n m lt all is = let e : total (drop i shapes) ≡ (get_or shapes i d).fields + total (drop (i + 1) shapes) = ap total (drop_more shapes i d lt) in omega (arith, e)
 
 -- ---- the dump text of a graph, in the parts in which it is sent
 
-module _ (g : GraphState) (a b : Option (List ℕ)) (sent : List ℕ) (is : sent ≡ spell_dump_line header_line ++ spell_dump_line (roots_line (length g.roots))) where
+module _ (g : GraphState) (a b : Option (List ℕ)) (sent : List ℕ) (is : sent ≡ spell_dump_line (header_line Two) ++ spell_dump_line (roots_line (length g.roots))) where
   head_rest : dump_text g ≡ sent ++ text_roots g
   head_rest = dump_text-parts g ∙ ap (λ (t : List ℕ). t ++ text_roots g) (sym is)
 

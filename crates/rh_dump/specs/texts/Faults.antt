@@ -1,6 +1,7 @@
 -- When each fault holds of a text, in the order of the format. No reader is named here.
-use Rattle.std.specs.Prelude.{◌≡◌, ◌≢◌, ℕ, ◌+◌, ◌<◌, ◌≤◌, ◌⊎◌, ⊤, false, List, [], ◌∷◌, length, Option, Some, None, codes, decimal, ℤ}
+use Rattle.std.specs.Prelude.{◌≡◌, ◌≢◌, ℕ, ◌+◌, ◌<◌, ◌≤◌, ◌⊎◌, ⊤, Bool, true, false, if◌then◌else◌, List, [], ◌∷◌, length, Option, Some, None, codes, decimal, ℤ}
 use Rattle.std.specs.Fmt.{signed_decimal}
+use Rattle.std.specs.Str.{bytes_eq}
 use Rattle.rh_layout.specs.declared.value.Value.TheVariants.{Ref}
 use Rattle.rh_layout.specs.declared.command.RootId.{RootId}
 use Rattle.rh_layout.specs.Word.{IsWhole}
@@ -11,9 +12,11 @@ use Rattle.rh_text.specs.Root.{root_of, root_text}
 use Rattle.rh_text.specs.Stages.{◌when◌, no_fault, ◌▸◌}
 use Rattle.rh_dump.specs.Dump.{met_with, IsRootAfter}
 use Rattle.rh_dump.specs.texts.Line.{root_due, object_due}
-use Rattle.rh_dump.specs.texts.Part.{reference_of}
+use Rattle.rh_dump.specs.texts.Part.{kind_and_rest, reference_of}
 use Rattle.rh_dump.specs.declared.reading.due.Due.{Due}
 use Rattle.rh_dump.specs.declared.reading.due.Due.TheVariants as dues
+use Rattle.rh_dump.specs.declared.reading.due.Version.{Version}
+use Rattle.rh_dump.specs.declared.reading.due.Version.TheVariants.{One, Two}
 use Rattle.rh_dump.specs.declared.reading.fault.DumpKind.{DumpKind}
 use Rattle.rh_dump.specs.declared.reading.fault.DumpKind.TheVariants.{Long, End, Header, Trailing, Form, Number, Order, Count}
 
@@ -38,17 +41,28 @@ abbrev pub number_or_none : Option ℕ → ℕ
 number_or_none None = 0
 number_or_none (Some n) = n
 
+-- the version that the first line names, where it names one
+abbrev pub version_named : List (List ℕ) → Version
+version_named (word ∷ version ∷ []) = if bytes_eq version (codes "1") then One else Two
+version_named parts = Two
+
+-- the parts after the one that tells how many fields there are
+abbrev pub value_parts : List (List ℕ) → List (List ℕ)
+value_parts [] = []
+value_parts (fields ∷ values) = values
+
 -- what is due after a line of these parts
 abbrev pub due_after_parts : Due → List (List ℕ) → Due
-due_after_parts dues.Header parts = dues.Roots
-due_after_parts dues.Roots (keyword ∷ count ∷ []) =
-    root_due (number_or_none (number_of count)) None 0
-due_after_parts (dues.Root left last met) (root ∷ value ∷ []) =
-    root_due left (root_of root) (met_with_part met value)
-due_after_parts (dues.Objects met) (keyword ∷ count ∷ []) =
-    object_due 0 (number_or_none (number_of count)) met
-due_after_parts (dues.Object number count met) (own ∷ fields ∷ values) =
-    object_due (number + 1) count (met_with_parts met values)
+due_after_parts dues.Header parts = dues.Roots (version_named parts)
+due_after_parts (dues.Roots version) (keyword ∷ count ∷ []) =
+    root_due version (number_or_none (number_of count)) None 0
+due_after_parts (dues.Root version left last met) (root ∷ value ∷ []) =
+    root_due version left (root_of root) (met_with_part met value)
+due_after_parts (dues.Objects version met) (keyword ∷ count ∷ []) =
+    object_due version 0 (number_or_none (number_of count)) met
+due_after_parts (dues.Object version number count met) (own ∷ others) =
+    object_due version (number + 1) count
+    (met_with_parts met (value_parts (kind_and_rest version others).1))
 due_after_parts due parts = dues.Nothing
 
 -- ---- what the parts of a line may be
@@ -84,11 +98,18 @@ value_faults count met part others =
     ▸ Count when ((k : ℕ) × RefersTo part k × (count ≤ k))
     ▸ others
 
+-- of a value of an object that may be raw: no reference stands in a raw one
+abbrev pub field_faults : Bool → ℕ → ℕ → List ℕ → (ℕ → DumpKind → Type 0)
+    → ℕ → DumpKind → Type 0
+field_faults true count met part others =
+    Number when ((part ≢ codes "nil") × (¬ IsWholePart part)) ▸ others
+field_faults false count met part others = value_faults count met part others
+
 -- of values, one after the other
-abbrev pub values_faults : ℕ → ℕ → List (List ℕ) → ℕ → DumpKind → Type 0
-values_faults count met [] = no_fault
-values_faults count met (part ∷ parts) =
-    value_faults count met part (values_faults count (met_with_part met part) parts)
+abbrev pub values_faults : Bool → ℕ → ℕ → List (List ℕ) → ℕ → DumpKind → Type 0
+values_faults raw count met [] = no_fault
+values_faults raw count met (part ∷ parts) =
+    field_faults raw count met part (values_faults raw count (met_with_part met part) parts)
 
 -- of a line that tells a number up to a limit, and at least how many objects were met
 abbrev pub count_faults : List ℕ → ℕ → ℕ → List (List ℕ) → ℕ → DumpKind → Type 0
@@ -108,29 +129,38 @@ root_faults last met (root ∷ value ∷ []) =
     ▸ value_faults 16777216 met value no_fault
 root_faults last met parts = Form when ⊤ ▸ no_fault
 
--- of an object's line: how many values follow is looked at after the first two parts
-abbrev pub object_faults : ℕ → ℕ → ℕ → List (List ℕ) → ℕ → DumpKind → Type 0
-object_faults number count met (own ∷ fields ∷ values) =
+-- of an object's line, by its first part, whether the object is raw, and the parts after that: how
+-- many values follow is looked at after the object's number and how many fields it has
+abbrev pub object_part_faults : ℕ → ℕ → ℕ → List ℕ → Bool → List (List ℕ) → ℕ → DumpKind → Type 0
+object_part_faults number count met own raw (fields ∷ values) =
     Form when (¬ BeginsWithAt own)
     ▸ Number when (¬ ((k : ℕ) × RefersTo own k))
     ▸ Order when ((k : ℕ) × RefersTo own k × (k ≢ number))
     ▸ Count when (met ≤ number)
     ▸ Number when (¬ IsNumberUpTo 4095 fields)
     ▸ Form when (¬ ((fields ≡ decimal (length values)) × (length values ≤ 4095)))
-    ▸ values_faults count met values
-object_faults number count met parts = Form when ⊤ ▸ no_fault
+    ▸ values_faults raw count met values
+object_part_faults number count met own raw [] = Form when ⊤ ▸ no_fault
+
+-- of an object's line
+abbrev pub object_faults : Version → ℕ → ℕ → ℕ → List (List ℕ) → ℕ → DumpKind → Type 0
+object_faults version number count met (own ∷ others) =
+    object_part_faults number count met own (kind_and_rest version others).0
+    (kind_and_rest version others).1
+object_faults version number count met [] = Form when ⊤ ▸ no_fault
 
 -- of a line with its line end, by what is due
 abbrev pub due_faults : Due → List ℕ → ℕ → DumpKind → Type 0
-due_faults dues.Header line = Header when (line ≢ codes "rheap 1") ▸ no_fault
-due_faults dues.Roots line =
+due_faults dues.Header line =
+    Header when ((line ≢ codes "rheap 1") × (line ≢ codes "rheap 2")) ▸ no_fault
+due_faults (dues.Roots version) line =
     Form when (¬ IsFormedLine line) ▸ count_faults (codes "roots") 4096 0 (parts_of line)
-due_faults (dues.Root left last met) line =
+due_faults (dues.Root version left last met) line =
     Form when (¬ IsFormedLine line) ▸ root_faults last met (parts_of line)
-due_faults (dues.Objects met) line =
+due_faults (dues.Objects version met) line =
     Form when (¬ IsFormedLine line) ▸ count_faults (codes "objects") 16777216 met (parts_of line)
-due_faults (dues.Object number count met) line =
-    Form when (¬ IsFormedLine line) ▸ object_faults number count met (parts_of line)
+due_faults (dues.Object version number count met) line =
+    Form when (¬ IsFormedLine line) ▸ object_faults version number count met (parts_of line)
 due_faults dues.End line = Form when (line ≢ codes "end") ▸ no_fault
 due_faults dues.Nothing line = Trailing when ⊤ ▸ no_fault
 

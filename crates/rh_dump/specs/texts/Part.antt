@@ -1,10 +1,13 @@
 -- What a part of a dump's line says.
-use Rattle.std.specs.Prelude.{ℕ, ℤ, List, [], ◌∷◌, Option, Some, None, nat_le, nat_lt, ◌==◌, ◌&&◌, if◌then◌else◌}
+use Rattle.std.specs.Prelude.{ℕ, ℤ, Bool, true, false, List, [], ◌∷◌, Option, Some, None, nat_le, nat_lt, ◌==◌, ◌&&◌, if◌then◌else◌, codes}
+use Rattle.std.specs.Str.{bytes_eq}
 use Rattle.rh_layout.specs.declared.command.RootId.{RootId}
 use Rattle.rh_layout.specs.Word.{is_whole}
 use Rattle.rh_text.specs.Number.{number_of, integer_of}
 use Rattle.rh_text.specs.Parts.{◌>>=◌, first_and_rest}
 use Rattle.rh_text.specs.Root.{root_of}
+use Rattle.rh_dump.specs.declared.reading.due.Version.{Version}
+use Rattle.rh_dump.specs.declared.reading.due.Version.TheVariants.{One, Two}
 
 -- the number up to this limit of which the part is the decimal
 unfoldable pub number_up_to : ℕ → List ℕ → Option ℕ
@@ -29,13 +32,22 @@ abbrev pub after_at : List ℕ → Option (List ℕ)
 after_at [] = None
 after_at (b ∷ bs) = if b == 64 then Some bs else None
 
--- what stands after the @ of the first part, the second part, and the parts after it
-unfoldable pub object_head : List (List ℕ) → Option (List ℕ × List ℕ × List (List ℕ))
-object_head parts = do
+-- whether the first part is `raw`, in a version that has raw objects, and the parts after it
+abbrev pub kind_and_rest : Version → List (List ℕ) → Bool × List (List ℕ)
+kind_and_rest One parts = (false, parts)
+kind_and_rest Two [] = (false, [])
+kind_and_rest Two (part ∷ parts) =
+    if bytes_eq part (codes "raw") then (true, parts) else (false, part ∷ parts)
+
+-- The start of an object's line: what stands after the @ of the first part, whether `raw` stands
+-- after it, the next part, and the parts after that.
+unfoldable pub object_head : Version → List (List ℕ)
+    → Option (List ℕ × Bool × List ℕ × List (List ℕ))
+object_head version parts = do
   first ← first_and_rest parts
   own ← after_at first.0
-  second ← first_and_rest first.1
-  Some (own, second.0, second.1)
+  fields ← first_and_rest (kind_and_rest version first.1).1
+  Some (own, (kind_and_rest version first.1).0, fields.0, fields.1)
 
 -- the number after the @ with which the part begins
 unfoldable pub reference_of : List ℕ → Option ℕ

@@ -3,6 +3,8 @@ use Rattle.std.specs.Prelude.{◌≡◌, ℕ, ◌<◌, ◌≤◌, ◌⊎◌, ⊤
 use Rattle.std.specs.Io.KnownBytes.{Consumes, IsAtEnd}
 use Rattle.rh_layout.specs.declared.value.Value.{Value}
 use Rattle.rh_layout.specs.declared.command.RootId.{RootId}
+use Rattle.rh_layout.specs.declared.shape.Shape.{Shape}
+use Rattle.rh_layout.specs.Shape.{shape_of}
 use Rattle.rh_text.specs.Steps.{◌>>=◌, or_fault}
 use Rattle.rh_dump.specs.Dump.{GraphState, met_after}
 use Rattle.rh_dump.specs.Graph.{FlatGraph}
@@ -11,6 +13,7 @@ use Rattle.rh_dump.specs.texts.Part.{object_head}
 use Rattle.rh_dump.specs.texts.Reading.{formed_parts, number_or_fault, root_of_parts, own_number, fault_at, graph_of_text}
 use Rattle.rh_dump.specs.declared.reading.due.Due.{Due}
 use Rattle.rh_dump.specs.declared.reading.due.Due.TheVariants as dues
+use Rattle.rh_dump.specs.declared.reading.due.Version.{Version}
 use Rattle.rh_dump.specs.declared.reading.fault.DumpKind.{DumpKind}
 use Rattle.rh_dump.specs.declared.reading.fault.DumpKind.TheVariants.{Form}
 use Rattle.rh_dump.specs.declared.reading.fault.DumpFault.{DumpFault}
@@ -22,8 +25,11 @@ use Rattle.rh_dump.specs.declared.reading.read_error.DumpReadError.TheVariants a
 -- the graph that is stored so, with one line more
 abbrev pub put_line : FlatGraph → DumpLine → FlatGraph
 put_line flat (root_line root value) = record flat { roots = flat.roots ++ (root, value) ∷ [] }
-put_line flat (object_line number fields) =
-    record flat { counts = flat.counts ++ length fields ∷ []; values = flat.values ++ fields }
+put_line flat (object_line number object) =
+    record flat {
+      shapes = flat.shapes ++ shape_of (length object.fields) object.raw ∷ [];
+      values = flat.values ++ object.fields;
+    }
 put_line flat line = flat
 
 -- a line that was read is put at the end, and what is due after it
@@ -51,22 +57,22 @@ root_in last met line = do
   parts ← formed_parts line
   root_of_parts last met parts
 
--- how many fields an object has, by its line, and the parts of their values
-unfoldable pub start_of : ℕ → ℕ → List ℕ → Result (ℕ × List (List ℕ)) DumpKind
-start_of number met line = do
+-- the shape of an object, by its line, and the parts of its fields' values
+unfoldable pub start_of : Version → ℕ → ℕ → List ℕ → Result (Shape × List (List ℕ)) DumpKind
+start_of version number met line = do
   parts ← formed_parts line
-  head ← or_fault (object_head parts) Form
+  head ← or_fault (object_head version parts) Form
   own ← own_number number met head.0
-  fields ← number_or_fault 4095 head.1
-  if length head.2 == fields then Ok (fields, head.2) else Err Form
+  fields ← number_or_fault 4095 head.2
+  if length head.3 == fields then Ok (shape_of fields head.1, head.3) else Err Form
 
 -- what is met where something is due is within the limits
 abbrev pub IsDue : Due → Type 0
 IsDue dues.Header = ⊤
-IsDue dues.Roots = ⊤
-IsDue (dues.Root left last met) = met ≤ 16777216
-IsDue (dues.Objects met) = met ≤ 16777216
-IsDue (dues.Object number count met) = (met ≤ count) × (count ≤ 16777216)
+IsDue (dues.Roots version) = ⊤
+IsDue (dues.Root version left last met) = met ≤ 16777216
+IsDue (dues.Objects version met) = met ≤ 16777216
+IsDue (dues.Object version number count met) = (met ≤ count) × (count ≤ 16777216)
 IsDue dues.End = ⊤
 IsDue dues.Nothing = ⊤
 

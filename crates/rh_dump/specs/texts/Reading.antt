@@ -7,11 +7,14 @@ use Rattle.rh_layout.specs.declared.command.RootId.{RootId}
 use Rattle.rh_text.specs.Parts.{parts_of, is_formed, two_parts}
 use Rattle.rh_text.specs.RawLine.{RawLine, lines_of, raw_text}
 use Rattle.rh_text.specs.Steps.{◌>>=◌, or_fault, with_fault}
+use Rattle.rh_model.specs.Plain.{PlainObject}
 use Rattle.rh_dump.specs.Dump.{GraphState, met_with}
 use Rattle.rh_dump.specs.texts.Line.{DumpLine, header_line, roots_line, root_line, objects_line, object_line, end_line, due_after}
 use Rattle.rh_dump.specs.texts.Part.{number_up_to, whole_of, small_root_of, after_at, object_head}
 use Rattle.rh_dump.specs.declared.reading.due.Due.{Due}
 use Rattle.rh_dump.specs.declared.reading.due.Due.TheVariants as dues
+use Rattle.rh_dump.specs.declared.reading.due.Version.{Version}
+use Rattle.rh_dump.specs.declared.reading.due.Version.TheVariants.{One, Two}
 use Rattle.rh_dump.specs.declared.reading.fault.DumpKind.{DumpKind}
 use Rattle.rh_dump.specs.declared.reading.fault.DumpKind.TheVariants.{Long, End, Header, Trailing, Form, Number, Order, Count}
 use Rattle.rh_dump.specs.declared.reading.fault.DumpFault.{DumpFault}
@@ -66,12 +69,21 @@ value_or_fault count met part =
     if bytes_eq part (codes "nil") then Ok Nil
     else reference_or_whole count met part (after_at part)
 
--- one value after the other
-unfoldable pub values_or_fault : ℕ → ℕ → List (List ℕ) → Result (List Value) DumpKind
-values_or_fault count met [] = Ok []
-values_or_fault count met (part ∷ parts) = do
-  value ← value_or_fault count met part
-  values ← values_or_fault count (met_with met value) parts
+-- nil or a whole number
+unfoldable pub plain_or_fault : List ℕ → Result Value DumpKind
+plain_or_fault part = if bytes_eq part (codes "nil") then Ok Nil else whole_or_fault part
+
+-- what a field of an object holds, which may be raw
+abbrev pub field_or_fault : Bool → ℕ → ℕ → List ℕ → Result Value DumpKind
+field_or_fault raw count met part =
+    if raw then plain_or_fault part else value_or_fault count met part
+
+-- what its fields hold, one after the other
+unfoldable pub values_or_fault : Bool → ℕ → ℕ → List (List ℕ) → Result (List Value) DumpKind
+values_or_fault raw count met [] = Ok []
+values_or_fault raw count met (part ∷ parts) = do
+  value ← field_or_fault raw count met part
+  values ← values_or_fault raw count (met_with met value) parts
   Ok (value ∷ values)
 
 -- whether one root comes before another: by owner, then by slot
@@ -106,37 +118,47 @@ own_number number met digits = do
   if not (k == number) then Err Order else if nat_lt number met then Ok k else Err Count
 
 -- the values of so many fields
-unfoldable pub fields_or_fault : ℕ → ℕ → ℕ → List (List ℕ) → Result (List Value) DumpKind
-fields_or_fault count met fields parts =
-    if length parts == fields then values_or_fault count met parts else Err Form
+unfoldable pub fields_or_fault : Bool → ℕ → ℕ → ℕ → List (List ℕ) → Result (List Value) DumpKind
+fields_or_fault raw count met fields parts =
+    if length parts == fields then values_or_fault raw count met parts else Err Form
 
--- an object, its number and what its fields hold
-unfoldable pub object_of_parts : ℕ → ℕ → ℕ → List (List ℕ) → Result (ℕ × List Value) DumpKind
-object_of_parts number count met parts = do
-  head ← or_fault (object_head parts) Form
+-- an object and its number
+unfoldable pub object_of_parts : Version → ℕ → ℕ → ℕ → List (List ℕ)
+    → Result (ℕ × PlainObject) DumpKind
+object_of_parts version number count met parts = do
+  head ← or_fault (object_head version parts) Form
   own ← own_number number met head.0
-  fields ← number_or_fault 4095 head.1
-  values ← fields_or_fault count met fields head.2
-  Ok (own, values)
+  fields ← number_or_fault 4095 head.2
+  values ← fields_or_fault head.1 count met fields head.3
+  Ok (own, record { raw = head.1; fields = values })
+
+-- the version that the first line names
+unfoldable pub version_or_fault : List ℕ → Result Version DumpKind
+version_or_fault line =
+    if bytes_eq line (codes "rheap 1") then Ok One
+    else if bytes_eq line (codes "rheap 2") then Ok Two
+    else Err Header
 
 -- a line with its line end, by what is due
 unfoldable pub line_due : Due → List ℕ → Result DumpLine DumpKind
-line_due dues.Header line = if bytes_eq line (codes "rheap 1") then Ok header_line else Err Header
-line_due dues.Roots line = do
+line_due dues.Header line = do
+  version ← version_or_fault line
+  Ok (header_line version)
+line_due (dues.Roots version) line = do
   parts ← formed_parts line
   count ← roots_of_parts parts
   Ok (roots_line count)
-line_due (dues.Root left last met) line = do
+line_due (dues.Root version left last met) line = do
   parts ← formed_parts line
   root ← root_of_parts last met parts
   Ok (root_line root.0 root.1)
-line_due (dues.Objects met) line = do
+line_due (dues.Objects version met) line = do
   parts ← formed_parts line
   count ← objects_of_parts met parts
   Ok (objects_line count)
-line_due (dues.Object number count met) line = do
+line_due (dues.Object version number count met) line = do
   parts ← formed_parts line
-  object ← object_of_parts number count met parts
+  object ← object_of_parts version number count met parts
   Ok (object_line object.0 object.1)
 line_due dues.End line = if bytes_eq line (codes "end") then Ok end_line else Err Form
 line_due dues.Nothing line = Err Trailing
@@ -169,7 +191,7 @@ lines_from limit due number size (raw ∷ raws) = do
 -- the graph with one line more
 abbrev pub with_line : GraphState → DumpLine → GraphState
 with_line g (root_line root value) = record g { roots = g.roots ++ (root, value) ∷ [] }
-with_line g (object_line number fields) = record g { objects = g.objects ++ fields ∷ [] }
+with_line g (object_line number object) = record g { objects = g.objects ++ object ∷ [] }
 with_line g line = g
 
 -- the graph of lines

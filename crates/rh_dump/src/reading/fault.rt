@@ -4,7 +4,7 @@ use thiserror::Error;
 
 /// What is wrong with a line. In each line the first of these that holds is named, in this order;
 /// but `Number`, `Order` and `Count` are looked at part by part from left to right, and a wrong
-/// number of values in an object's line comes after its first two parts.
+/// number of values in an object's line comes after its number and the number of its fields.
 #[derive(Clone, Copy, Debug, PartialEq, Eq, Error)]
 pub enum DumpKind {
     /// The text passes 268,435,456 bytes in this line.
@@ -13,7 +13,7 @@ pub enum DumpKind {
     /// The text ends before this line's line end.
     #[error("End")]
     End,
-    /// The first line isn't `rheap 1`.
+    /// The first line is neither `rheap 1` nor `rheap 2`.
     #[error("Header")]
     Header,
     /// The line stands after the line `end`.
@@ -23,7 +23,8 @@ pub enum DumpKind {
     /// is `nil`.
     #[error("Form")]
     Form,
-    /// A part that should be a number, a root or a value isn't one, or is out of range.
+    /// A part that should be a number, a root or a value isn't one, or is out of range, or a raw
+    /// object has a reference.
     #[error("Number")]
     Number,
     /// A root isn't above the one before it, an object's number isn't the next, or a reference is

@@ -5,14 +5,15 @@ ghost use Rattle.std.specs.Option.{option_map};
 ghost use Rattle.rh_text.specs.Parts.{parts_of, parts_left};
 ghost use Rattle.rh_text.specs.Steps.{Shows};
 ghost use Rattle.rh_dump.specs.Meeting.{IsBelow};
-ghost use Rattle.rh_dump.specs.texts.Part.{object_head};
+ghost use Rattle.rh_dump.specs.texts.Part.{kind_and_rest, object_head};
 ghost use Rattle.rh_dump.specs.texts.Putting.{start_of};
 ghost use Rattle.rh_dump.specs.texts.Reading.{formed_parts, part_after, roots_of_parts, objects_of_parts, root_of_parts, own_number};
 
 use crate::limits::{LAST_OBJECT, MAX_OBJECTS, MAX_ROOTS};
+use crate::reading::due::Version;
 use crate::reading::fault::DumpKind;
 use crate::reading::parts::{after_at, number_or_fault, root_or_fault, value_or_fault};
-use rh_layout::{MAX_FIELDS, RootId, Value};
+use rh_layout::{MAX_FIELDS, RootId, Shape, Value};
 use rh_text::{is_formed, next_part, two_parts};
 
 /// The parts of a line that is well formed.
@@ -82,16 +83,40 @@ pub fn root_of_parts(
     Ok((root, value))
 }
 
-/// What stands after the `@` of the first part, the second part, and the parts after it.
+/// Whether the first part is `raw`, in a version that has raw objects, and the parts after it.
+fn kind_and_rest(version: Version, rest: Option<&[u8]>) -> (bool, Option<&[u8]>)
+    ensures { (result.0, parts_left result.1) ≡ kind_and_rest version (parts_left rest.entry) }
+{
+    match version {
+        Version::One => (false, rest),
+        Version::Two => match next_part(rest) {
+            Some((part, others)) => {
+                if part == b"raw".as_slice() {
+                    (true, others)
+                } else {
+                    (false, rest)
+                }
+            }
+            None => (false, rest),
+        },
+    }
+}
+
+/// The start of an object's line: what stands after the `@` of the first part, whether `raw` stands
+/// after it, the next part, and the parts after that.
 #[tactic(auto, unfolding(crate::specs::texts::Part::object_head))]
-fn object_head(rest: Option<&[u8]>) -> Option<(&[u8], &[u8], Option<&[u8]>)>
-    ensures { option_map (λ x. (x.0.now, x.1.now, parts_left x.2)) result
-        ≡ object_head (parts_left rest.entry) }
+fn object_head(
+    version: Version,
+    rest: Option<&[u8]>,
+) -> Option<(&[u8], bool, &[u8], Option<&[u8]>)>
+    ensures { option_map (λ x. (x.0.now, x.1, x.2.now, parts_left x.3)) result
+        ≡ object_head version (parts_left rest.entry) }
 {
     let (first, rest) = next_part(rest)?;
     let own = after_at(first)?;
-    let (second, rest) = next_part(rest)?;
-    Some((own, second, rest))
+    let (raw, rest) = kind_and_rest(version, rest);
+    let (fields, rest) = next_part(rest)?;
+    Some((own, raw, fields, rest))
 }
 
 /// An object's own number, which is the next and was met.
@@ -134,19 +159,26 @@ fn count_left(rest: Option<&[u8]>) -> usize
     }
 }
 
-/// How many fields an object has, by its line, and the parts of their values, which are as many.
+/// The shape of an object, by its line, and the parts of its fields' values, which are as many as
+/// its fields.
 #[tactic(auto, unfolding(crate::specs::texts::Putting::start_of))]
-pub fn start_of(number: u32, met: u32, line: &[u8]) -> Result<(u32, Option<&[u8]>), DumpKind>
-    ensures value { Shows (λ x. (x.0, parts_left x.1)) result (start_of number met line.now) }
+pub fn start_of(
+    version: Version,
+    number: u32,
+    met: u32,
+    line: &[u8],
+) -> Result<(Shape, Option<&[u8]>), DumpKind>
+    ensures value { Shows (λ x. (x.0, parts_left x.1)) result
+        (start_of version number met line.now) }
     ensures met { OnOk result (number < met) }
-    ensures count { IfOk result (λ x. length (parts_left x.1) ≡ x.0) }
+    ensures count { IfOk result (λ x. length (parts_left x.1) ≡ x.0.fields) }
 {
     let parts = formed_parts(line)?;
-    let (own, fields, values) = object_head(parts).ok_or(DumpKind::Form)?;
+    let (own, raw, fields, values) = object_head(version, parts).ok_or(DumpKind::Form)?;
     own_number(number, met, own)?;
-    let count = number_or_fault(MAX_FIELDS, fields)?;
-    if count_left(values) == count as usize {
-        Ok((count, values))
+    let fields = number_or_fault(MAX_FIELDS, fields)?;
+    if count_left(values) == fields as usize {
+        Ok((Shape { fields, raw }, values))
     } else {
         Err(DumpKind::Form)
     }

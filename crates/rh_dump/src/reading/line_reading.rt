@@ -8,18 +8,18 @@ ghost use Rattle.rh_dump.specs.Dump.{met_with};
 ghost use Rattle.rh_dump.specs.texts.Line.{root_due, object_due};
 ghost use Rattle.rh_dump.specs.Meeting.{IsBelow};
 ghost use Rattle.rh_dump.specs.texts.Putting.{Tells, IsDue, root_in, due_read, put_read, put_values};
-ghost use Rattle.rh_dump.specs.texts.Reading.{values_or_fault, line_due, line_or_kind};
+ghost use Rattle.rh_dump.specs.texts.Reading.{values_or_fault, version_or_fault, line_due, line_or_kind};
 ghost use Rattle.rh_dump.specs.declared.reading.due.Due.TheVariants as dues;
 ghost use Rattle.rh_dump.specs.declared.reading.read_error.LineError.TheVariants as errors;
 
 use crate::graph_builder::GraphBuilder;
 use crate::limits::{MAX_DUMP_BYTES, MAX_OBJECTS};
-use crate::reading::due::Due;
+use crate::reading::due::{Due, Version};
 use crate::reading::fault::DumpKind;
 use crate::reading::line_parts::{
     formed_parts, objects_of_parts, root_of_parts, roots_of_parts, start_of,
 };
-use crate::reading::parts::value_or_fault;
+use crate::reading::parts::field_or_fault;
 use crate::reading::read_error::LineError;
 use rh_layout::{RootId, Value};
 use rh_text::next_part;
@@ -38,13 +38,14 @@ fn met_with(met: u32, value: Value) -> u32
 }
 
 /// What is due where so many root lines are.
-fn root_due(left: u32, last: Option<RootId>, met: u32) -> Due
-    ensures { result ≡ root_due left last met }
+fn root_due(version: Version, left: u32, last: Option<RootId>, met: u32) -> Due
+    ensures { result ≡ root_due version left last met }
 {
     if left == 0 {
-        return Due::Objects { met };
+        return Due::Objects { version, met };
     }
     Due::Root {
+        version,
         left: left - 1,
         last,
         met,
@@ -52,46 +53,63 @@ fn root_due(left: u32, last: Option<RootId>, met: u32) -> Due
 }
 
 /// What is due where the objects from this number on are.
-fn object_due(number: u32, count: u32, met: u32) -> Due
-    ensures { result ≡ object_due number count met }
+fn object_due(version: Version, number: u32, count: u32, met: u32) -> Due
+    ensures { result ≡ object_due version number count met }
 {
     if number < count {
-        Due::Object { number, count, met }
+        Due::Object {
+            version,
+            number,
+            count,
+            met,
+        }
     } else {
         Due::End
     }
 }
 
-/// `rheap 1`: what is due after it.
+/// The version that the first line names.
+#[tactic(auto, unfolding(crate::specs::texts::Reading::version_or_fault))]
+fn version_or_fault(line: &[u8]) -> Result<Version, DumpKind>
+    ensures { result ≡ version_or_fault line.now }
+{
+    if line == b"rheap 1".as_slice() {
+        return Ok(Version::One);
+    }
+    if line == b"rheap 2".as_slice() {
+        return Ok(Version::Two);
+    }
+    Err(DumpKind::Header)
+}
+
+/// `rheap 1` or `rheap 2`: what is due after it.
 #[tactic(auto, unfolding(crate::specs::texts::Reading::line_due))]
 fn after_header(line: &[u8]) -> Result<Due, DumpKind>
     ensures { result ≡ due_read dues.Header (line_due dues.Header line.now) }
 {
-    if line == b"rheap 1".as_slice() {
-        Ok(Due::Roots)
-    } else {
-        Err(DumpKind::Header)
-    }
+    let version = version_or_fault(line)?;
+    Ok(Due::Roots { version })
 }
 
 /// `roots R`: what is due after it.
 #[tactic(auto, unfolding(crate::specs::texts::Reading::line_due))]
-fn after_roots(line: &[u8]) -> Result<Due, DumpKind>
-    ensures { result ≡ due_read dues.Roots (line_due dues.Roots line.now) }
+fn after_roots(version: Version, line: &[u8]) -> Result<Due, DumpKind>
+    ensures { result ≡ due_read (dues.Roots version) (line_due (dues.Roots version) line.now) }
 {
     let parts = formed_parts(line)?;
     let count = roots_of_parts(parts)?;
-    Ok(root_due(count, None, 0))
+    Ok(root_due(version, count, None, 0))
 }
 
 /// `objects N`, where so many objects were met: what is due after it.
 #[tactic(auto, unfolding(crate::specs::texts::Reading::line_due))]
-fn after_objects(met: u32, line: &[u8]) -> Result<Due, DumpKind>
-    ensures { result ≡ due_read (dues.Objects met) (line_due (dues.Objects met) line.now) }
+fn after_objects(version: Version, met: u32, line: &[u8]) -> Result<Due, DumpKind>
+    ensures { result
+        ≡ due_read (dues.Objects version met) (line_due (dues.Objects version met) line.now) }
 {
     let parts = formed_parts(line)?;
     let count = objects_of_parts(met, parts)?;
-    Ok(object_due(0, count, met))
+    Ok(object_due(version, 0, count, met))
 }
 
 /// `end`: nothing is due after it.
@@ -129,13 +147,14 @@ fn root_in(last: Option<RootId>, met: u32, line: &[u8]) -> Result<(RootId, Value
 /// The line of a root: puts it, and answers what is due after it.
 fn read_root<A: Allocator + Copy>(
     builder: &mut GraphBuilder<A>,
+    version: Version,
     left: u32,
     last: Option<RootId>,
     met: u32,
     line: &[u8],
 ) -> Result<Due, LineError>
     ensures { Tells (λ due. (builder.new, due)) result (put_read builder.old
-        (dues.Root left last met) (line_due (dues.Root left last met) line.now)) }
+        (dues.Root version left last met) (line_due (dues.Root version left last met) line.now)) }
 {
     let (root, value) = match root_in(last, met, line) {
         Ok(root) => root,
@@ -144,25 +163,26 @@ fn read_root<A: Allocator + Copy>(
     if builder.push_root(root, value).is_err() {
         return Err(LineError::OutOfMemory);
     }
-    Ok(root_due(left, Some(root), met_with(met, value)))
+    Ok(root_due(version, left, Some(root), met_with(met, value)))
 }
 
-/// Puts the values of all parts that are left of an object's line, where so many objects are and so
-/// many were met. Answers how many are met then.
+/// Puts the values of all parts that are left of an object's line, which may be raw, where so many
+/// objects are and so many were met. Answers how many are met then.
 fn read_values<A: Allocator + Copy>(
     builder: &mut GraphBuilder<A>,
+    raw: bool,
     count: u32,
     met_before: u32,
     rest: Option<&[u8]>,
 ) -> Result<u32, LineError>
     requires { count ≤ MAX_OBJECTS }
     ensures { Tells (λ met. (builder.new, met)) result (put_values builder.old met_before
-        (values_or_fault count met_before (parts_left rest.entry))) }
+        (values_or_fault raw count met_before (parts_left rest.entry))) }
 {
     let mut met = met_before;
     let mut left = rest;
     while let Some((part, others)) = next_part(left) {
-        let value = match value_or_fault(count, met, part) {
+        let value = match field_or_fault(raw, count, met, part) {
             Ok(value) => value,
             Err(kind) => return Err(LineError::Kind(kind)),
         };
@@ -178,6 +198,7 @@ fn read_values<A: Allocator + Copy>(
 /// The line of an object: puts it, and answers what is due after it.
 fn read_object<A: Allocator + Copy>(
     builder: &mut GraphBuilder<A>,
+    version: Version,
     number: u32,
     count: u32,
     met: u32,
@@ -186,17 +207,18 @@ fn read_object<A: Allocator + Copy>(
     requires met { met ≤ count }
     requires count { count ≤ MAX_OBJECTS }
     ensures { Tells (λ due. (builder.new, due)) result (put_read builder.old
-        (dues.Object number count met) (line_due (dues.Object number count met) line.now)) }
+        (dues.Object version number count met)
+        (line_due (dues.Object version number count met) line.now)) }
 {
-    let (fields, values) = match start_of(number, met, line) {
+    let (shape, values) = match start_of(version, number, met, line) {
         Ok(start) => start,
         Err(kind) => return Err(LineError::Kind(kind)),
     };
-    if builder.begin_object(fields).is_err() {
+    if builder.begin_object(shape).is_err() {
         return Err(LineError::OutOfMemory);
     }
-    match read_values(builder, count, met, values) {
-        Ok(met) => Ok(object_due(number + 1, count, met)),
+    match read_values(builder, shape.raw, count, met, values) {
+        Ok(met) => Ok(object_due(version, number + 1, count, met)),
         Err(error) => Err(error),
     }
 }
@@ -213,10 +235,20 @@ fn read_line<A: Allocator + Copy>(
 {
     match due {
         Due::Header => of_kind(after_header(line)),
-        Due::Roots => of_kind(after_roots(line)),
-        Due::Root { left, last, met } => read_root(builder, left, last, met, line),
-        Due::Objects { met } => of_kind(after_objects(met, line)),
-        Due::Object { number, count, met } => read_object(builder, number, count, met, line),
+        Due::Roots { version } => of_kind(after_roots(version, line)),
+        Due::Root {
+            version,
+            left,
+            last,
+            met,
+        } => read_root(builder, version, left, last, met, line),
+        Due::Objects { version, met } => of_kind(after_objects(version, met, line)),
+        Due::Object {
+            version,
+            number,
+            count,
+            met,
+        } => read_object(builder, version, number, count, met, line),
         Due::End => of_kind(after_end(line)),
         Due::Nothing => Err(LineError::Kind(DumpKind::Trailing)),
     }

@@ -4,7 +4,7 @@ ghost use Rattle.std.specs.Prelude.{◌≡◌, ℕ, IfOk};
 ghost use Rattle.std.specs.Option.{option_map};
 ghost use Rattle.rh_dump.specs.Meeting.{IsBelow};
 ghost use Rattle.rh_dump.specs.texts.Part.{number_up_to, whole_of, small_root_of, after_at};
-ghost use Rattle.rh_dump.specs.texts.Reading.{number_or_fault, reference_or_fault, whole_or_fault, value_or_fault, is_root_before, is_root_after, root_or_fault};
+ghost use Rattle.rh_dump.specs.texts.Reading.{number_or_fault, reference_or_fault, whole_or_fault, value_or_fault, plain_or_fault, field_or_fault, is_root_before, is_root_after, root_or_fault};
 
 use crate::limits::LAST_OBJECT;
 use crate::reading::fault::DumpKind;
@@ -86,6 +86,31 @@ pub fn value_or_fault(count: u32, met: u32, part: &[u8]) -> Result<Value, DumpKi
     match after_at(part) {
         Some(digits) => reference_or_fault(count, met, digits),
         None => whole_or_fault(part),
+    }
+}
+
+/// `nil` or a whole number.
+#[tactic(auto, unfolding(crate::specs::texts::Reading::plain_or_fault))]
+fn plain_or_fault(part: &[u8]) -> Result<Value, DumpKind>
+    ensures value { result ≡ plain_or_fault part.now }
+    ensures below { IfOk result (λ v. (count : ℕ) → IsBelow count v) }
+{
+    if part == b"nil".as_slice() {
+        return Ok(Value::Nil);
+    }
+    whole_or_fault(part)
+}
+
+/// What a field of an object holds, which may be raw, where so many objects are and so many were
+/// met.
+pub fn field_or_fault(raw: bool, count: u32, met: u32, part: &[u8]) -> Result<Value, DumpKind>
+    ensures value { result ≡ field_or_fault raw count met part.now }
+    ensures below { IfOk result (λ v. IsBelow count v) }
+{
+    if raw {
+        plain_or_fault(part)
+    } else {
+        value_or_fault(count, met, part)
     }
 }
 

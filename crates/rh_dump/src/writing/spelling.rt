@@ -1,17 +1,19 @@
 //! The texts of a dump's lines.
 
-ghost use Rattle.std.specs.Prelude.{◌≡◌, ◌+◌, ◌≤◌, ◌++◌, ◌∷◌, codes, decimal, length};
-ghost use Rattle.rh_dump.specs.texts.Line.{spell_dump_line, value_text, header_line, roots_line, root_line, objects_line};
+ghost use Rattle.std.specs.Prelude.{◌≡◌, ◌+◌, ◌≤◌, ◌++◌, ◌∷◌, [], codes, decimal, length};
+ghost use Rattle.std.specs.List.{join_with_byte};
+ghost use Rattle.rh_dump.specs.declared.reading.due.Version.TheVariants.{Two};
+ghost use Rattle.rh_dump.specs.texts.Line.{kind_parts, spell_dump_line, value_text, header_line, roots_line, root_line, objects_line};
 
 use rh_layout::{RootId, Value};
 use rh_text::LineText;
 
 /// The text becomes that of the first two lines, where so many roots aren't nil.
 pub fn put_head(text: &mut LineText, roots: usize)
-    ensures { text.new ≡ spell_dump_line header_line ++ spell_dump_line (roots_line roots) }
+    ensures { text.new ≡ spell_dump_line (header_line Two) ++ spell_dump_line (roots_line roots) }
 {
     text.clear();
-    text.put(b"rheap 1\nroots ");
+    text.put(b"rheap 2\nroots ");
     text.put_integer(roots);
     text.put(b"\n");
 }
@@ -53,13 +55,17 @@ pub fn put_objects_line(text: &mut LineText, objects: usize)
     text.put(b"\n");
 }
 
-/// The text becomes the first two parts of an object's line.
-pub fn put_object_head(text: &mut LineText, number: usize, fields: usize)
-    ensures { text.new ≡ 64 ∷ decimal number ++ 32 ∷ decimal fields }
+/// The text becomes the parts of an object's line before its values.
+pub fn put_object_head(text: &mut LineText, number: usize, raw: bool, fields: usize)
+    ensures { text.new
+        ≡ join_with_byte 32 ((64 ∷ decimal number) ∷ (kind_parts raw ++ decimal fields ∷ [])) }
 {
     text.clear();
     text.put(b"@");
     text.put_integer(number);
+    if raw {
+        text.put(b" raw");
+    }
     text.put(b" ");
     text.put_integer(fields);
 }

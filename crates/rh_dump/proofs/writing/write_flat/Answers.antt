@@ -11,14 +11,14 @@ pub returns-in_err-send-clause-err : goal.returns-in_err-send-clause-err
 returns-in_err-send-clause-err g c =
     let known = g.W.Write.contents in
     let p = err_from_is_err_and c.from_residual.result c.from_residual.ensures.1 in
-    let graph : GraphState = graph_in (record { roots = c.args.roots.now; counts = c.args.counts.now; values = c.args.values.now }) in
+    let graph : GraphState = graph_in (record { roots = c.args.roots.now; shapes = c.args.shapes.now; values = c.args.values.now }) in
     rw p.1 (head_less graph (known c.args.writer.now) (known c.send.new.writer) c.as_bytes.result.now (c.as_bytes.ensures ∙ c.put_head.ensures) c.in_err-send.ensures.err)
 
 pub returns-in_err-write_roots-clause-err : goal.returns-in_err-write_roots-clause-err
 returns-in_err-write_roots-clause-err g c =
     let known = g.W.Write.contents in
     let p = err_from_is_err_and c.from_residual-in_err-write_roots.result c.from_residual-in_err-write_roots.ensures.1 in
-    let graph : GraphState = graph_in (record { roots = c.args.roots.now; counts = c.args.counts.now; values = c.args.values.now }) in
+    let graph : GraphState = graph_in (record { roots = c.args.roots.now; shapes = c.args.shapes.now; values = c.args.values.now }) in
     let head = head_next graph (known c.args.writer.now) (known c.send.new.writer) c.as_bytes.result.now (c.as_bytes.ensures ∙ c.put_head.ensures) c.in_ok-send.ensures.ok in
     rw p.1 (roots_less graph (known c.args.writer.now) (known c.send.new.writer) (known c.write_roots.new.writer) head c.in_err-write_roots.ensures.err)
 
@@ -26,30 +26,30 @@ pub returns-in_err-send-2-clause-err : goal.returns-in_err-send-2-clause-err
 returns-in_err-send-2-clause-err g c =
     let known = g.W.Write.contents in
     let p = err_from_is_err_and c.from_residual-in_err-send-2.result c.from_residual-in_err-send-2.ensures.1 in
-    let graph : GraphState = graph_in (record { roots = c.args.roots.now; counts = c.args.counts.now; values = c.args.values.now }) in
+    let graph : GraphState = graph_in (record { roots = c.args.roots.now; shapes = c.args.shapes.now; values = c.args.values.now }) in
     let head = head_next graph (known c.args.writer.now) (known c.send.new.writer) c.as_bytes.result.now (c.as_bytes.ensures ∙ c.put_head.ensures) c.in_ok-send.ensures.ok in
     let roots = roots_next graph (known c.args.writer.now) (known c.send.new.writer) (known c.write_roots.new.writer) head c.in_ok-write_roots.ensures.ok in
-    let is = c.as_bytes-2.ensures ∙ c.put_objects_line.ensures ∙ ap (λ n. spell_dump_line (objects_line n)) (sym (length-objects_in c.args.counts.now c.args.values.now)) in
+    let is = c.as_bytes-2.ensures ∙ c.put_objects_line.ensures ∙ ap (λ n. spell_dump_line (objects_line n)) (sym (length-objects_in c.args.shapes.now c.args.values.now)) in
     rw p.1 (count_less graph (known c.args.writer.now) (known c.write_roots.new.writer) (known c.send-2.new.writer) c.as_bytes-2.result.now is roots c.in_err-send-2.ensures.err)
 
 pub returns-in_err-write_objects-clause-err : goal.returns-in_err-write_objects-clause-err
 returns-in_err-write_objects-clause-err g c =
     let known = g.W.Write.contents in
     let p = err_from_is_err_and c.from_residual-in_err-write_objects.result c.from_residual-in_err-write_objects.ensures.1 in
-    let graph : GraphState = graph_in (record { roots = c.args.roots.now; counts = c.args.counts.now; values = c.args.values.now }) in
+    let graph : GraphState = graph_in (record { roots = c.args.roots.now; shapes = c.args.shapes.now; values = c.args.values.now }) in
     let head = head_next graph (known c.args.writer.now) (known c.send.new.writer) c.as_bytes.result.now (c.as_bytes.ensures ∙ c.put_head.ensures) c.in_ok-send.ensures.ok in
     let roots = roots_next graph (known c.args.writer.now) (known c.send.new.writer) (known c.write_roots.new.writer) head c.in_ok-write_roots.ensures.ok in
-    let is = c.as_bytes-2.ensures ∙ c.put_objects_line.ensures ∙ ap (λ n. spell_dump_line (objects_line n)) (sym (length-objects_in c.args.counts.now c.args.values.now)) in
+    let is = c.as_bytes-2.ensures ∙ c.put_objects_line.ensures ∙ ap (λ n. spell_dump_line (objects_line n)) (sym (length-objects_in c.args.shapes.now c.args.values.now)) in
     let count = count_next graph (known c.args.writer.now) (known c.write_roots.new.writer) (known c.send-2.new.writer) c.as_bytes-2.result.now is roots c.in_ok-send-2.ensures.ok in
     rw p.1 (all_less graph (known c.args.writer.now) (known c.send-2.new.writer) (known c.write_objects.new.writer) count c.in_err-write_objects.ensures.err)
 
 pub returns-clause-ok : goal.returns-clause-ok
 returns-clause-ok g c =
     let known = g.W.Write.contents in
-    let graph : GraphState = graph_in (record { roots = c.args.roots.now; counts = c.args.counts.now; values = c.args.values.now }) in
+    let graph : GraphState = graph_in (record { roots = c.args.roots.now; shapes = c.args.shapes.now; values = c.args.values.now }) in
     let head = head_next graph (known c.args.writer.now) (known c.send.new.writer) c.as_bytes.result.now (c.as_bytes.ensures ∙ c.put_head.ensures) c.in_ok-send.ensures.ok in
     let roots = roots_next graph (known c.args.writer.now) (known c.send.new.writer) (known c.write_roots.new.writer) head c.in_ok-write_roots.ensures.ok in
-    let is = c.as_bytes-2.ensures ∙ c.put_objects_line.ensures ∙ ap (λ n. spell_dump_line (objects_line n)) (sym (length-objects_in c.args.counts.now c.args.values.now)) in
+    let is = c.as_bytes-2.ensures ∙ c.put_objects_line.ensures ∙ ap (λ n. spell_dump_line (objects_line n)) (sym (length-objects_in c.args.shapes.now c.args.values.now)) in
     let count = count_next graph (known c.args.writer.now) (known c.write_roots.new.writer) (known c.send-2.new.writer) c.as_bytes-2.result.now is roots c.in_ok-send-2.ensures.ok in
     let all = all_next graph (known c.args.writer.now) (known c.send-2.new.writer) (known c.write_objects.new.writer) count c.in_ok-write_objects.ensures.ok in
     on_ok c.send-3.result (Sent-last (known c.args.writer.now) (known c.write_objects.new.writer) (known c.send-3.new.writer) (dump_text graph) text_end all) c.send-3.ensures.ok
@@ -57,10 +57,10 @@ returns-clause-ok g c =
 pub returns-clause-err : goal.returns-clause-err
 returns-clause-err g c =
     let known = g.W.Write.contents in
-    let graph : GraphState = graph_in (record { roots = c.args.roots.now; counts = c.args.counts.now; values = c.args.values.now }) in
+    let graph : GraphState = graph_in (record { roots = c.args.roots.now; shapes = c.args.shapes.now; values = c.args.values.now }) in
     let head = head_next graph (known c.args.writer.now) (known c.send.new.writer) c.as_bytes.result.now (c.as_bytes.ensures ∙ c.put_head.ensures) c.in_ok-send.ensures.ok in
     let roots = roots_next graph (known c.args.writer.now) (known c.send.new.writer) (known c.write_roots.new.writer) head c.in_ok-write_roots.ensures.ok in
-    let is = c.as_bytes-2.ensures ∙ c.put_objects_line.ensures ∙ ap (λ n. spell_dump_line (objects_line n)) (sym (length-objects_in c.args.counts.now c.args.values.now)) in
+    let is = c.as_bytes-2.ensures ∙ c.put_objects_line.ensures ∙ ap (λ n. spell_dump_line (objects_line n)) (sym (length-objects_in c.args.shapes.now c.args.values.now)) in
     let count = count_next graph (known c.args.writer.now) (known c.write_roots.new.writer) (known c.send-2.new.writer) c.as_bytes-2.result.now is roots c.in_ok-send-2.ensures.ok in
     let all = all_next graph (known c.args.writer.now) (known c.send-2.new.writer) (known c.write_objects.new.writer) count c.in_ok-write_objects.ensures.ok in
     on_err c.send-3.result (Sent-last_less (known c.args.writer.now) (known c.write_objects.new.writer) (known c.send-3.new.writer) (dump_text graph) text_end all) c.send-3.ensures.err

@@ -6,11 +6,11 @@ use Rattle.rh_dump.specs.Graph.{objects_in, total}
 use Rattle.rh_dump.specs.texts.Line.{spell_dump_line, object_lines}
 use Rattle.rh_dump.proofs.writing.write_objects.Given as goal
 
-abbrev pub invariant-loop-count : goal.invariant-loop-count
-invariant-loop-count g l = record {
-  sent : Sent (g.W.Write.contents l.fn.writer) (g.W.Write.contents l.writer) (flat_map spell_dump_line (object_lines 0 (objects_in l.counts l.values))) (flat_map spell_dump_line (object_lines l.number (objects_in (drop l.count-index l.counts) l.rest)));
-  filled : total (drop l.count-index l.counts) ≡ length l.rest;
-  number : l.number ≡ l.count-index;
+abbrev pub invariant-loop-shape : goal.invariant-loop-shape
+invariant-loop-shape g l = record {
+  sent : Sent (g.W.Write.contents l.fn.writer) (g.W.Write.contents l.writer) (flat_map spell_dump_line (object_lines 0 (objects_in l.shapes l.values))) (flat_map spell_dump_line (object_lines l.number (objects_in (drop l.shape-index l.shapes) l.rest)));
+  filled : total (drop l.shape-index l.shapes) ≡ length l.rest;
+  number : l.number ≡ l.shape-index;
   none_failed : l.writes.failed ≡ false;
   counted : MadeSince 0 l.fn.writes l.writes;
 }

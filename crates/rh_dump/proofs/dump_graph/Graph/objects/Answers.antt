@@ -6,5 +6,5 @@ use Rattle.rh_dump.proofs.dump_graph.Graph.objects.Goals as goal
 pub returns : goal.returns
 returns g c =
     let i = c.self.inside in
-    let e : c.len.result ≡ length i.counts.items = search rules in
-    e ∙ sym (length-objects_in i.counts.items i.values.items) ∙ ap (λ (x : GraphState). length x.objects) c.self.view_is
+    let e : c.len.result ≡ length i.shapes.items = search rules in
+    e ∙ sym (length-objects_in i.shapes.items i.values.items) ∙ ap (λ (x : GraphState). length x.objects) c.self.view_is

@@ -19,14 +19,15 @@ pub returns-in-Roots : goal.returns-in-Roots
 returns-in-Roots g c =
     let flat = c.args.builder.now in
     let line = c.args.line.now in
-    rw c.in-Roots.is (subst (λ (r : Result Due LineError). Tells (λ (next : Due). (flat, next)) r (put_read flat dues.Roots (line_due dues.Roots line))) (sym (c.of_kind-in-Roots.ensures ∙ ap (with_fault Kind) c.after_roots.ensures)) (roots_put flat line))
+    let due = dues.Roots c.in-Roots.version in
+    rw c.in-Roots.is (subst (λ (r : Result Due LineError). Tells (λ (next : Due). (flat, next)) r (put_read flat due (line_due due line))) (sym (c.of_kind-in-Roots.ensures ∙ ap (with_fault Kind) c.after_roots.ensures)) (roots_put flat c.in-Roots.version line))
 
 pub returns-in-Objects : goal.returns-in-Objects
 returns-in-Objects g c =
     let flat = c.args.builder.now in
     let line = c.args.line.now in
-    let due = dues.Objects c.in-Objects.met in
-    rw c.in-Objects.is (subst (λ (r : Result Due LineError). Tells (λ (next : Due). (flat, next)) r (put_read flat due (line_due due line))) (sym (c.of_kind-in-Objects.ensures ∙ ap (with_fault Kind) c.after_objects.ensures)) (objects_put flat c.in-Objects.met line (rw c.in-Objects.is at c.requires)))
+    let due = dues.Objects c.in-Objects.version c.in-Objects.met in
+    rw c.in-Objects.is (subst (λ (r : Result Due LineError). Tells (λ (next : Due). (flat, next)) r (put_read flat due (line_due due line))) (sym (c.of_kind-in-Objects.ensures ∙ ap (with_fault Kind) c.after_objects.ensures)) (objects_put flat c.in-Objects.version c.in-Objects.met line (rw c.in-Objects.is at c.requires)))
 
 pub returns-in-End : goal.returns-in-End
 returns-in-End g c =

@@ -11,7 +11,7 @@ returns-in-Err g c =
     let left = parts_left c.loop-part.left in
     let others = parts_left c.in-Some.others in
     let next : left ≡ c.in-Some.part.now ∷ others = first_is left (c.in-Some.part.now, others) c.in-Some.ensures in
-    sym c.loop-part.invariant ∙ values_stop c.loop-part.builder c.args.count c.loop-part.met left others c.in-Some.part.now c.in-Err.kind next c.in-Err.ensures.value
+    sym c.loop-part.invariant ∙ values_stop c.loop-part.builder c.args.raw c.args.count c.loop-part.met left others c.in-Some.part.now c.in-Err.kind next c.in-Err.ensures.value
 
 pub loop-part-preserved : goal.loop-part-preserved
 loop-part-preserved g c =
@@ -21,12 +21,12 @@ loop-part-preserved g c =
     let others = parts_left c.in-Some.others in
     let next : left ≡ c.in-Some.part.now ∷ others = first_is left (c.in-Some.part.now, others) c.in-Some.ensures in
     let pushed : c.push_value.new.self ≡ record flat { values = flat.values ++ value ∷ [] } = on_ok c.push_value.result (sym c.is_err.ensures.value ∙ c.if-is_err.false) c.push_value.ensures.ok in
-    ap (λ (f : FlatGraph). put_values f c.met_with-met.result (values_or_fault c.args.count c.met_with-met.result others)) pushed
-    ∙ ap (λ (m : ℕ). put_values (record flat { values = flat.values ++ value ∷ [] }) m (values_or_fault c.args.count m others)) c.met_with-met.ensures
-    ∙ values_next flat c.args.count c.loop-part.met left others c.in-Some.part.now value next c.in-Ok.ensures.value
+    ap (λ (f : FlatGraph). put_values f c.met_with-met.result (values_or_fault c.args.raw c.args.count c.met_with-met.result others)) pushed
+    ∙ ap (λ (m : ℕ). put_values (record flat { values = flat.values ++ value ∷ [] }) m (values_or_fault c.args.raw c.args.count m others)) c.met_with-met.ensures
+    ∙ values_next flat c.args.raw c.args.count c.loop-part.met left others c.in-Some.part.now value next c.in-Ok.ensures.value
     ∙ c.loop-part.invariant
 
 pub returns : goal.returns
 returns g c =
     let left = parts_left c.loop-part.left in
-    sym c.loop-part.invariant ∙ values_done c.loop-part.builder c.args.count c.loop-part.met left (none_left left c.in_default.ensures)
+    sym c.loop-part.invariant ∙ values_done c.loop-part.builder c.args.raw c.args.count c.loop-part.met left (none_left left c.in_default.ensures)
