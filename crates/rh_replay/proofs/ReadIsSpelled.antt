@@ -10,9 +10,9 @@ use Rattle.std.proofs.lemmas.Slice.Eq.{bytes_eq-Decides}
 use Rattle.rh_layout.specs.declared.command.Command.{Command}
 use Rattle.rh_layout.specs.declared.command.Command.TheVariants as commands
 use Rattle.rh_layout.specs.declared.command.Reply.{Reply}
-use Rattle.rh_layout.specs.declared.command.Reply.TheVariants.{Done, Nil, Int, Object, Same}
+use Rattle.rh_layout.specs.declared.command.Reply.TheVariants.{Done, Nil, Int, Object, Raw, Same}
 use Rattle.rh_layout.specs.declared.refusal.Refusal.{Refusal}
-use Rattle.rh_layout.specs.declared.refusal.Refusal.TheVariants.{NoRoot, NotYours, NotObject, NoField, IntRange, FieldsRange, SpaceFull, LogFull, NumbersSpent}
+use Rattle.rh_layout.specs.declared.refusal.Refusal.TheVariants.{NoRoot, NotYours, NotObject, NoField, RawField, IntRange, FieldsRange, SpaceFull, LogFull, NumbersSpent}
 use Rattle.rh_text.specs.Number.{number_of, integer_of}
 use Rattle.rh_text.specs.Parts.{parts_of, is_formed, spell_parts, one_part, two_parts, three_parts, ◌>>=◌ as ◌>>=?◌}
 use Rattle.rh_text.specs.RawLine.{RawLine, lines_of, raw_text}
@@ -89,8 +89,9 @@ refusal_named-means part a e =
     (by_test (bytes_eq part (codes "NotYours")) (Some (Err NotYours)) _ a goal (λ t f. spoken before part (codes "NotYours") (Err NotYours) a refl refl t f)
     (by_test (bytes_eq part (codes "NotObject")) (Some (Err NotObject)) _ a goal (λ t f. spoken before part (codes "NotObject") (Err NotObject) a refl refl t f)
     (by_test (bytes_eq part (codes "NoField")) (Some (Err NoField)) _ a goal (λ t f. spoken before part (codes "NoField") (Err NoField) a refl refl t f)
+    (by_test (bytes_eq part (codes "RawField")) (Some (Err RawField)) _ a goal (λ t f. spoken before part (codes "RawField") (Err RawField) a refl refl t f)
     (by_test (bytes_eq part (codes "IntRange")) (Some (Err IntRange)) _ a goal (λ t f. spoken before part (codes "IntRange") (Err IntRange) a refl refl t f)
-    (by_test (bytes_eq part (codes "FieldsRange")) (Some (Err FieldsRange)) None a goal (λ t f. spoken before part (codes "FieldsRange") (Err FieldsRange) a refl refl t f) (λ f. absurd (none_is a f))))))) e
+    (by_test (bytes_eq part (codes "FieldsRange")) (Some (Err FieldsRange)) None a goal (λ t f. spoken before part (codes "FieldsRange") (Err FieldsRange) a refl refl t f) (λ f. absurd (none_is a f)))))))) e
 
 -- an answer of two parts, the first of which is this word
 after_word : (t : Bool) (part word other : List ℕ) (a : Ans) → (t ≡ true → part ≡ word) → t ≡ true → Speaks (word ∷ other ∷ []) a → Speaks (part ∷ other ∷ []) a
@@ -108,14 +109,21 @@ object-means part a e =
     let n = number_means part m.0 m.1 in
     subst (Speaks (codes "object" ∷ part ∷ [])) m.2 (ap (λ (p : List ℕ). codes "object" ∷ p ∷ []) n.0, n.1)
 
+raw-means : (part : List ℕ) (a : Ans) → option_map (λ n. Ok (Raw n)) (number_of part) ≡ Some a → Speaks (codes "raw" ∷ part ∷ []) a
+raw-means part a e =
+    let m = map_some (number_of part) (λ n. Ok (Raw n)) a e in
+    let n = number_means part m.0 m.1 in
+    subst (Speaks (codes "raw" ∷ part ∷ [])) m.2 (ap (λ (p : List ℕ). codes "raw" ∷ p ∷ []) n.0, n.1)
+
 answer_with-means : (word part : List ℕ) (a : Ans) → answer_with word part ≡ Some a → Speaks (word ∷ part ∷ []) a
 unfolding answer_with
 answer_with-means word part a e =
     let goal : Type 0 = Speaks (word ∷ part ∷ []) a in
     by_test (bytes_eq word (codes "int")) (option_map (λ n. Ok (Int n)) (integer_of part)) _ a goal (λ t f. after_word (bytes_eq word (codes "int")) word (codes "int") part a (word_is word (codes "int")) t (int-means part a f))
     (by_test (bytes_eq word (codes "object")) (option_map (λ n. Ok (Object n)) (number_of part)) _ a goal (λ t f. after_word (bytes_eq word (codes "object")) word (codes "object") part a (word_is word (codes "object")) t (object-means part a f))
+    (by_test (bytes_eq word (codes "raw")) (option_map (λ n. Ok (Raw n)) (number_of part)) _ a goal (λ t f. after_word (bytes_eq word (codes "raw")) word (codes "raw") part a (word_is word (codes "raw")) t (raw-means part a f))
     (by_test (bytes_eq word (codes "same")) (sameness_of part) _ a goal (λ t f. after_word (bytes_eq word (codes "same")) word (codes "same") part a (word_is word (codes "same")) t (sameness_of-means part a f))
-    (by_test (bytes_eq word (codes "refused")) (refusal_named part) None a goal (λ t f. after_word (bytes_eq word (codes "refused")) word (codes "refused") part a (word_is word (codes "refused")) t (refusal_named-means part a f)) (λ f. absurd (none_is a f))))) e
+    (by_test (bytes_eq word (codes "refused")) (refusal_named part) None a goal (λ t f. after_word (bytes_eq word (codes "refused")) word (codes "refused") part a (word_is word (codes "refused")) t (refusal_named-means part a f)) (λ f. absurd (none_is a f)))))) e
 
 pub answer_of-means : (parts : List (List ℕ)) (a : Ans) → answer_of parts ≡ Some a → Speaks parts a
 unfolding answer_of one_part two_parts
@@ -149,6 +157,7 @@ some_answer (Ok Done) = (codes "done", [], refl)
 some_answer (Ok Nil) = (codes "nil", [], refl)
 some_answer (Ok (Int n)) = (codes "int", _, refl)
 some_answer (Ok (Object n)) = (codes "object", _, refl)
+some_answer (Ok (Raw n)) = (codes "raw", _, refl)
 some_answer (Ok (Same true)) = (codes "same", _, refl)
 some_answer (Ok (Same false)) = (codes "same", _, refl)
 some_answer (Err refusal) = (codes "refused", _, refl)
@@ -188,6 +197,7 @@ join-append x (z ∷ xs) y ys =
 
 pub some_command : (owner : ℕ) (command : Command) → (xs : List (List ℕ)) × (command_parts owner command ≡ decimal owner ∷ xs)
 some_command owner (commands.Alloc dst fields) = (_, refl)
+some_command owner (commands.Raw dst fields) = (_, refl)
 some_command owner (commands.Load dst src field) = (_, refl)
 some_command owner (commands.Store obj field operand) = (_, refl)
 some_command owner (commands.Copy dst src) = (_, refl)
@@ -199,12 +209,14 @@ answer_join (Ok Done) fits = refl
 answer_join (Ok Nil) fits = refl
 answer_join (Ok (Int n)) fits = refl
 answer_join (Ok (Object n)) fits = refl
+answer_join (Ok (Raw n)) fits = refl
 answer_join (Ok (Same true)) fits = refl
 answer_join (Ok (Same false)) fits = refl
 answer_join (Err NoRoot) fits = refl
 answer_join (Err NotYours) fits = refl
 answer_join (Err NotObject) fits = refl
 answer_join (Err NoField) fits = refl
+answer_join (Err RawField) fits = refl
 answer_join (Err IntRange) fits = refl
 answer_join (Err FieldsRange) fits = refl
 answer_join (Err (SpaceFull need free)) fits = absurd cc

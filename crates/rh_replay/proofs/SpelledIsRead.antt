@@ -14,10 +14,10 @@ use Rattle.rh_layout.specs.declared.command.Command.TheVariants as commands
 use Rattle.rh_layout.specs.declared.command.Operand.{Operand}
 use Rattle.rh_layout.specs.declared.command.Operand.TheVariants as operands
 use Rattle.rh_layout.specs.declared.command.Reply.{Reply}
-use Rattle.rh_layout.specs.declared.command.Reply.TheVariants.{Done, Nil, Int, Object, Same}
+use Rattle.rh_layout.specs.declared.command.Reply.TheVariants.{Done, Nil, Int, Object, Raw, Same}
 use Rattle.rh_layout.specs.declared.command.RootId.{RootId}
 use Rattle.rh_layout.specs.declared.refusal.Refusal.{Refusal}
-use Rattle.rh_layout.specs.declared.refusal.Refusal.TheVariants.{NoRoot, NotYours, NotObject, NoField, IntRange, FieldsRange, SpaceFull, LogFull, NumbersSpent}
+use Rattle.rh_layout.specs.declared.refusal.Refusal.TheVariants.{NoRoot, NotYours, NotObject, NoField, RawField, IntRange, FieldsRange, SpaceFull, LogFull, NumbersSpent}
 use Rattle.rh_text.specs.Number.{IsU32}
 use Rattle.rh_text.specs.Parts.{begins_with_digit, spell_parts, one_part, two_parts, three_parts, ◌>>=◌ as ◌>>=?◌}
 use Rattle.rh_text.specs.RawLine.{RawLine, lines_of}
@@ -70,6 +70,7 @@ mark_operand (operands.Root root) fits = mark_root root fits
 
 free : (owner : ℕ) (command : Command) → CommandFits owner command → before_equals (command_parts owner command) ≡ command_parts owner command
 free owner (Alloc dst fields) fits = rw (mark_number owner fits.0, mark_root dst fits.1, mark_number fields fits.2) refl
+free owner (commands.Raw dst fields) fits = rw (mark_number owner fits.0, mark_root dst fits.1, mark_number fields fits.2) refl
 free owner (Load dst src field) fits = rw (mark_number owner fits.0, mark_root dst fits.1, mark_root src fits.2, mark_number field fits.3) refl
 free owner (Store obj field operand) fits = rw (mark_number owner fits.0, mark_root obj fits.1, mark_number field fits.2, mark_operand operand fits.3) refl
 free owner (Copy dst src) fits = rw (mark_number owner fits.0, mark_root dst fits.1, mark_root src fits.2) refl
@@ -84,12 +85,14 @@ answer_read (Ok Done) fits = refl
 answer_read (Ok Nil) fits = refl
 answer_read (Ok (Int n)) fits = ap (option_map (λ m. Ok (Int m))) (integer_of-decimal n fits)
 answer_read (Ok (Object n)) fits = ap (option_map (λ m. Ok (Object m))) (number_of-decimal n fits)
+answer_read (Ok (Raw n)) fits = ap (option_map (λ m. Ok (Raw m))) (number_of-decimal n fits)
 answer_read (Ok (Same true)) fits = refl
 answer_read (Ok (Same false)) fits = refl
 answer_read (Err NoRoot) fits = refl
 answer_read (Err NotYours) fits = refl
 answer_read (Err NotObject) fits = refl
 answer_read (Err NoField) fits = refl
+answer_read (Err RawField) fits = refl
 answer_read (Err IntRange) fits = refl
 answer_read (Err FieldsRange) fits = refl
 answer_read (Err (SpaceFull need free)) fits = absurd cc
@@ -113,12 +116,14 @@ answer_parts_are (Ok Done) fits = one_word (codes "done") (record { filled = ref
 answer_parts_are (Ok Nil) fits = one_word (codes "nil") (record { filled = refl; glyphs = refl; short = omega arith })
 answer_parts_are (Ok (Int n)) fits = two_words (codes "int") (signed_decimal n) (record { filled = refl; glyphs = refl; short = omega arith }) (integer_part n fits)
 answer_parts_are (Ok (Object n)) fits = two_words (codes "object") (decimal n) (record { filled = refl; glyphs = refl; short = omega arith }) (number_part n fits)
+answer_parts_are (Ok (Raw n)) fits = two_words (codes "raw") (decimal n) (record { filled = refl; glyphs = refl; short = omega arith }) (number_part n fits)
 answer_parts_are (Ok (Same true)) fits = two_words (codes "same") (codes "yes") same_part (record { filled = refl; glyphs = refl; short = omega arith })
 answer_parts_are (Ok (Same false)) fits = two_words (codes "same") (codes "no") same_part (record { filled = refl; glyphs = refl; short = omega arith })
 answer_parts_are (Err NoRoot) fits = two_words (codes "refused") (codes "NoRoot") refused_part (record { filled = refl; glyphs = refl; short = omega arith })
 answer_parts_are (Err NotYours) fits = two_words (codes "refused") (codes "NotYours") refused_part (record { filled = refl; glyphs = refl; short = omega arith })
 answer_parts_are (Err NotObject) fits = two_words (codes "refused") (codes "NotObject") refused_part (record { filled = refl; glyphs = refl; short = omega arith })
 answer_parts_are (Err NoField) fits = two_words (codes "refused") (codes "NoField") refused_part (record { filled = refl; glyphs = refl; short = omega arith })
+answer_parts_are (Err RawField) fits = two_words (codes "refused") (codes "RawField") refused_part (record { filled = refl; glyphs = refl; short = omega arith })
 answer_parts_are (Err IntRange) fits = two_words (codes "refused") (codes "IntRange") refused_part (record { filled = refl; glyphs = refl; short = omega arith })
 answer_parts_are (Err FieldsRange) fits = two_words (codes "refused") (codes "FieldsRange") refused_part (record { filled = refl; glyphs = refl; short = omega arith })
 answer_parts_are (Err (SpaceFull need free)) fits = absurd cc
@@ -130,6 +135,7 @@ answer_few (Ok Done) = omega arith
 answer_few (Ok Nil) = omega arith
 answer_few (Ok (Int n)) = omega arith
 answer_few (Ok (Object n)) = omega arith
+answer_few (Ok (Raw n)) = omega arith
 answer_few (Ok (Same true)) = omega arith
 answer_few (Ok (Same false)) = omega arith
 answer_few (Err refusal) = omega arith
@@ -138,6 +144,7 @@ answer_few (Err refusal) = omega arith
 
 command_few : (owner : ℕ) (command : Command) → length (command_parts owner command) ≤ 5
 command_few owner (Alloc dst fields) = omega arith
+command_few owner (commands.Raw dst fields) = omega arith
 command_few owner (Load dst src field) = omega arith
 command_few owner (Store obj field operand) = omega arith
 command_few owner (Copy dst src) = omega arith
@@ -172,6 +179,7 @@ call_parts_are call fits =
 
 owner_fits : (owner : ℕ) (command : Command) → CommandFits owner command → IsU32 owner
 owner_fits owner (Alloc dst fields) fits = fits.0
+owner_fits owner (commands.Raw dst fields) fits = fits.0
 owner_fits owner (Load dst src field) fits = fits.0
 owner_fits owner (Store obj field operand) fits = fits.0
 owner_fits owner (Copy dst src) fits = fits.0

@@ -2,7 +2,7 @@
 use Rattle.std.specs.Prelude.{◌≡◌, ℕ, ◌≤◌, ⊤, false, List, [], ◌∷◌, ◌++◌, length, take, Result, Ok, Err}
 use Rattle.std.specs.List.{AllByRecursion}
 use Rattle.rh_layout.specs.declared.command.Reply.{Reply}
-use Rattle.rh_layout.specs.declared.command.Reply.TheVariants.{Done, Nil, Int, Object, Same}
+use Rattle.rh_layout.specs.declared.command.Reply.TheVariants.{Done, Nil, Int, Object, Raw, Same}
 use Rattle.rh_layout.specs.declared.refusal.Refusal.{Refusal}
 use Rattle.rh_layout.specs.Refusal.{is_limit}
 use Rattle.rh_text.specs.Number.{IsU32, IsI64}
@@ -27,6 +27,7 @@ ReplyFits Done = ⊤
 ReplyFits Nil = ⊤
 ReplyFits (Int n) = IsI64 n
 ReplyFits (Object fields) = IsU32 fields
+ReplyFits (Raw fields) = IsU32 fields
 ReplyFits (Same same) = ⊤
 
 -- the same of an answer's numbers, where the answer is kept: it is a reply, or a refusal that isn't

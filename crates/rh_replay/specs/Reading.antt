@@ -4,9 +4,9 @@ use Rattle.std.specs.Option.{option_map}
 use Rattle.std.specs.Str.{bytes_eq}
 use Rattle.rh_layout.specs.declared.command.Command.{Command}
 use Rattle.rh_layout.specs.declared.command.Reply.{Reply}
-use Rattle.rh_layout.specs.declared.command.Reply.TheVariants.{Done, Nil, Int, Object, Same}
+use Rattle.rh_layout.specs.declared.command.Reply.TheVariants.{Done, Nil, Int, Object, Raw, Same}
 use Rattle.rh_layout.specs.declared.refusal.Refusal.{Refusal}
-use Rattle.rh_layout.specs.declared.refusal.Refusal.TheVariants.{NoRoot, NotYours, NotObject, NoField, IntRange, FieldsRange}
+use Rattle.rh_layout.specs.declared.refusal.Refusal.TheVariants.{NoRoot, NotYours, NotObject, NoField, RawField, IntRange, FieldsRange}
 use Rattle.rh_text.specs.RawLine.{RawLine, lines_of}
 use Rattle.rh_text.specs.Parts.{one_part, two_parts, three_parts, ◌>>=◌ as ◌>>=?◌}
 use Rattle.rh_text.specs.Number.{number_of, integer_of}
@@ -43,6 +43,7 @@ refusal_named part =
     else if bytes_eq part (codes "NotYours") then Some (Err NotYours)
     else if bytes_eq part (codes "NotObject") then Some (Err NotObject)
     else if bytes_eq part (codes "NoField") then Some (Err NoField)
+    else if bytes_eq part (codes "RawField") then Some (Err RawField)
     else if bytes_eq part (codes "IntRange") then Some (Err IntRange)
     else if bytes_eq part (codes "FieldsRange") then Some (Err FieldsRange)
     else None
@@ -52,6 +53,7 @@ unfoldable pub answer_with : List ℕ → List ℕ → Option (Result Reply Refu
 answer_with word part =
     if bytes_eq word (codes "int") then option_map (λ n. Ok (Int n)) (integer_of part)
     else if bytes_eq word (codes "object") then option_map (λ n. Ok (Object n)) (number_of part)
+    else if bytes_eq word (codes "raw") then option_map (λ n. Ok (Raw n)) (number_of part)
     else if bytes_eq word (codes "same") then sameness_of part
     else if bytes_eq word (codes "refused") then refusal_named part
     else None

@@ -3,7 +3,7 @@ use Rattle.std.specs.Prelude.{ℕ, ◌≤◌, true, false, List, [], ◌∷◌, 
 use Rattle.std.specs.Fmt.{signed_decimal}
 use Rattle.std.specs.List.{flat_map}
 use Rattle.rh_layout.specs.declared.command.Reply.{Reply}
-use Rattle.rh_layout.specs.declared.command.Reply.TheVariants.{Done, Nil, Int, Object, Same}
+use Rattle.rh_layout.specs.declared.command.Reply.TheVariants.{Done, Nil, Int, Object, Raw, Same}
 use Rattle.rh_layout.specs.declared.refusal.Refusal.{Refusal}
 use Rattle.rh_text.specs.Parts.{spell_parts}
 use Rattle.rh_syntax.specs.CommandAnswers.{answer_text, refusal_name}
@@ -43,6 +43,7 @@ answer_parts (Ok Done) = codes "done" ∷ []
 answer_parts (Ok Nil) = codes "nil" ∷ []
 answer_parts (Ok (Int n)) = codes "int" ∷ signed_decimal n ∷ []
 answer_parts (Ok (Object fields)) = codes "object" ∷ decimal fields ∷ []
+answer_parts (Ok (Raw fields)) = codes "raw" ∷ decimal fields ∷ []
 answer_parts (Ok (Same true)) = codes "same" ∷ codes "yes" ∷ []
 answer_parts (Ok (Same false)) = codes "same" ∷ codes "no" ∷ []
 answer_parts (Err refusal) = codes "refused" ∷ refusal_name refusal ∷ []

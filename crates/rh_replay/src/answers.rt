@@ -52,6 +52,9 @@ fn refusal_named(part: &[u8]) -> Option<Result<Reply, Refusal>>
     if part == b"NoField".as_slice() {
         return Some(Err(Refusal::NoField));
     }
+    if part == b"RawField".as_slice() {
+        return Some(Err(Refusal::RawField));
+    }
     if part == b"IntRange".as_slice() {
         return Some(Err(Refusal::IntRange));
     }
@@ -71,6 +74,9 @@ fn answer_with(word: &[u8], part: &[u8]) -> Option<Result<Reply, Refusal>>
     }
     if word == b"object".as_slice() {
         return Some(Ok(Reply::Object(read_number(part)?)));
+    }
+    if word == b"raw".as_slice() {
+        return Some(Ok(Reply::Raw(read_number(part)?)));
     }
     if word == b"same".as_slice() {
         return sameness_of(part);

@@ -33,6 +33,7 @@ pub fn command_fits(owner: u32, command: Command)
 {
     match command {
         Command::Alloc { .. } => {}
+        Command::Raw { .. } => {}
         Command::Load { .. } => {}
         Command::Store { operand, .. } => operand_fits(operand),
         Command::Copy { .. } => {}
@@ -49,6 +50,7 @@ pub fn answer_fits(answer: Result<Reply, Refusal>)
     match answer {
         Ok(Reply::Int(_number)) => {}
         Ok(Reply::Object(_fields)) => {}
+        Ok(Reply::Raw(_fields)) => {}
         Ok(_) => {}
         Err(_) => {}
     }
