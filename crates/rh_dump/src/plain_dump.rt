@@ -1,7 +1,8 @@
 //! The dump of a plain heap.
 
-ghost use Rattle.std.specs.Prelude.{◌≡◌, ◌≤◌, ◌^◌, IfOk, length};
+ghost use Rattle.std.specs.Prelude.{◌≡◌, ◌≤◌, ◌^◌, false, IfOk, length, slice_index_or};
 ghost use Rattle.rh_model.specs.Plain as plain;
+ghost use Rattle.rh_model.specs.Plain.{kinds};
 ghost use Rattle.rh_model.specs.PlainValue.{value_of_plain};
 ghost use Rattle.rh_dump.specs.PlainDump.{plain_dump_of};
 ghost use Rattle.rh_dump.specs.Meeting.{IsBelow};
@@ -41,11 +42,10 @@ impl<A: Allocator + Copy> ObjectGraph for Plain<A> {
             Some(fields) => fields,
             None => 0,
         };
-        let raw = match self.raw(name as usize) {
-            Some(raw) => raw,
-            None => false,
-        };
-        Shape { fields, raw }
+        Shape {
+            fields,
+            raw: is_raw(self, name as usize),
+        }
     }
 
     fn value(&self, name: u32, field: u32) -> Value {
@@ -55,6 +55,16 @@ impl<A: Allocator + Copy> ObjectGraph for Plain<A> {
             Some(value) => value_of(value),
             None => Value::Nil,
         }
+    }
+}
+
+/// Whether the object at this position in the list of objects is raw; false where there is none.
+fn is_raw<A: Allocator + Copy>(heap: &Plain<A>, position: usize) -> bool
+    ensures { result ≡ slice_index_or (kinds heap.now.objects) position false }
+{
+    match heap.raw(position) {
+        Some(raw) => raw,
+        None => false,
     }
 }
 

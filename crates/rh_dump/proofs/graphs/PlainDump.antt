@@ -85,8 +85,8 @@ IsBelow-read_field p plain few a f w read = IsBelow-storable p.objects few w (by
     by (Some fields) is at =
         subst (IsStorable p.objects) (ap (λ o. field_value o f) is ∙ get_or_from_slice_get fields f w Nil (sym at)) (plain.fields a f)
 
--- the shape that the readers give of the object at a position
-pub shape-read : (objects : List PlainObject) (a : ℕ) → unwrap_or (slice_get (kinds objects) a) false ≡ slice_index_or (kinds objects) a false
-shape-read [] a = refl
-shape-read (o ∷ os) zero = refl
-shape-read (o ∷ os) (suc a) = shape-read os a
+-- where no object is, none is raw
+pub raw-none : (objects : List PlainObject) (a : ℕ) → None ≡ slice_get (kinds objects) a → false ≡ slice_index_or (kinds objects) a false
+raw-none [] a none = refl
+raw-none (o ∷ os) zero none = absurd (none-some o.raw none)
+raw-none (o ∷ os) (suc a) none = raw-none os a none

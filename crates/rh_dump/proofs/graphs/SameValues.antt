@@ -1,6 +1,8 @@
 -- The derived tests of values, roots and shapes tell them apart.
 use Rattle.std.proofs.Common.{◌≡◌, ℕ, Bool, false, ◌&&◌, eqb, refl, ap, ◌∙◌}
 use Rattle.std.specs.Bool.{Decides}
+use Rattle.std.specs.Cmp.{booleans_Decides}
+use Rattle.std.proofs.Math.Bool.{beq}
 use Rattle.std.specs.Ordering.{int_eq}
 use Rattle.std.proofs.lemmas.Bool.{false≢true, and_parts, and_from}
 use Rattle.std.proofs.lemmas.Bool.Decides.{Decides-eqb, Decides-int_eq}
@@ -60,4 +62,4 @@ shape_from a b h = ap (λ (n : ℕ). shaped n a.raw) h.0 ∙ ap (λ (t : Bool). 
 
 pub shape_eq-Decides : (a b : Shape) → Decides (shapes.ghosts.eq a b) (a ≡ b)
 shape_eq-Decides a b =
-    by (eqb a.fields b.fields && bool_eq a.raw b.raw) ((a.fields ≡ b.fields) × (a.raw ≡ b.raw)) (a ≡ b) (both (eqb a.fields b.fields) (bool_eq a.raw b.raw) (a.fields ≡ b.fields) (a.raw ≡ b.raw) (Decides-eqb a.fields b.fields) (Decides-bool_eq a.raw b.raw)) (shape_from a b) (λ e. (ap (λ (s : Shape). s.fields) e, ap (λ (s : Shape). s.raw) e))
+    by (eqb a.fields b.fields && beq a.raw b.raw) ((a.fields ≡ b.fields) × (a.raw ≡ b.raw)) (a ≡ b) (both (eqb a.fields b.fields) (beq a.raw b.raw) (a.fields ≡ b.fields) (a.raw ≡ b.raw) (Decides-eqb a.fields b.fields) (Decides-beq a.raw b.raw)) (shape_from a b) (λ e. (ap (λ (s : Shape). s.fields) e, ap (λ (s : Shape). s.raw) e))

@@ -356,13 +356,13 @@ module _ (version : Version) (number count met : ℕ) (a : List ℕ) (others : L
       (judges-here Form ⊤ no_fault tt)
   rest_by raw (b ∷ values) kind = first_by raw b values (after_at a) kind refl
 
+judges-nothing : (version : Version) (number count met : ℕ) → Judges (object_faults version number count met []) (object_by_head number count met (object_head version []))
+unfolding object_head
+judges-nothing version number count met = judges-here Form ⊤ no_fault tt
+
 judges-object : (version : Version) (number count met : ℕ) (parts : List (List ℕ)) → Judges (object_faults version number count met parts) (object_of_parts version number count met parts)
 unfolding object_of_parts
-judges-object version number count met [] = judges-none
-  where
-    judges-none : Judges (object_faults version number count met []) (object_by_head number count met (object_head version []))
-    unfolding object_head
-    judges-none = judges-here Form ⊤ no_fault tt
+judges-object version number count met [] = judges-nothing version number count met
 judges-object version number count met (a ∷ others) = rest_by version number count met a others (kind_and_rest version others).0 (kind_and_rest version others).1 refl
 
 -- ---- lines by what is due

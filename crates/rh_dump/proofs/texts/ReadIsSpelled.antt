@@ -108,13 +108,13 @@ value_or_fault-means : (part : List ℕ) (count met : ℕ) (v : Value) → met �
 unfolding value_or_fault
 value_or_fault-means part count met v all e = value_by (bytes_eq part (codes "nil")) part count met v all (bytes_eq-Decides part (codes "nil")).0 e
 
+whole_plain : (part : List ℕ) (v : Value) → whole_or_fault part ≡ Ok v → IsUnreferring v
+unfolding whole_or_fault
+whole_plain part v e = let a = bind_ok (or_fault (whole_of part) Number) (λ (n : ℤ). Ok (Int n)) v e in subst IsUnreferring (ok_is (Int a.0) v a.2) refl
+
 plain_by : (nil : Bool) (part : List ℕ) (count met : ℕ) (v : Value) → met ≤ count → (nil ≡ true → part ≡ codes "nil") → cond nil (Ok Nil) (whole_or_fault part) ≡ Ok v → Says part count met v × IsUnreferring v
 plain_by true part count met v all is e = (value_by true part count met v all is e, subst IsUnreferring (ok_is Nil v e) refl)
 plain_by false part count met v all is e = (whole_means part count met v all e, whole_plain part v e)
-  where
-    whole_plain : (part : List ℕ) (v : Value) → whole_or_fault part ≡ Ok v → IsUnreferring v
-    unfolding whole_or_fault
-    whole_plain part v e = let a = bind_ok (or_fault (whole_of part) Number) (λ (n : ℤ). Ok (Int n)) v e in subst IsUnreferring (ok_is (Int a.0) v a.2) refl
 
 plain_or_fault-means : (part : List ℕ) (count met : ℕ) (v : Value) → met ≤ count → plain_or_fault part ≡ Ok v → Says part count met v × IsUnreferring v
 unfolding plain_or_fault

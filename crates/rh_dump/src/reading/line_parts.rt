@@ -105,10 +105,7 @@ fn kind_and_rest(version: Version, rest: Option<&[u8]>) -> (bool, Option<&[u8]>)
 /// The start of an object's line: what stands after the `@` of the first part, whether `raw` stands
 /// after it, the next part, and the parts after that.
 #[tactic(auto, unfolding(crate::specs::texts::Part::object_head))]
-fn object_head(
-    version: Version,
-    rest: Option<&[u8]>,
-) -> Option<(&[u8], bool, &[u8], Option<&[u8]>)>
+fn object_head(version: Version, rest: Option<&[u8]>) -> Option<(&[u8], bool, &[u8], Option<&[u8]>)>
     ensures { option_map (λ x. (x.0.now, x.1, x.2.now, parts_left x.3)) result
         ≡ object_head version (parts_left rest.entry) }
 {
