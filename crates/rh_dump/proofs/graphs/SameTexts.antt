@@ -1,5 +1,5 @@
 -- Graphs are stored alike exactly where their texts are equal.
-use Rattle.std.proofs.Common.{◌≡◌, ℕ, List, sym, ap, ◌∙◌}
+use Rattle.std.proofs.Common.{◌≡◌, List, sym, ap, ◌∙◌}
 use Rattle.rh_layout.specs.declared.value.Value.{Value}
 use Rattle.rh_layout.specs.declared.command.RootId.{RootId}
 use Rattle.rh_layout.specs.declared.shape.Shape.{Shape}

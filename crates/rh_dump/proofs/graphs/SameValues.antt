@@ -62,4 +62,4 @@ shape_from a b h = ap (λ (n : ℕ). shaped n a.raw) h.0 ∙ ap (λ (t : Bool). 
 
 pub shape_eq-Decides : (a b : Shape) → Decides (shapes.ghosts.eq a b) (a ≡ b)
 shape_eq-Decides a b =
-    by (eqb a.fields b.fields && beq a.raw b.raw) ((a.fields ≡ b.fields) × (a.raw ≡ b.raw)) (a ≡ b) (both (eqb a.fields b.fields) (beq a.raw b.raw) (a.fields ≡ b.fields) (a.raw ≡ b.raw) (Decides-eqb a.fields b.fields) (Decides-beq a.raw b.raw)) (shape_from a b) (λ e. (ap (λ (s : Shape). s.fields) e, ap (λ (s : Shape). s.raw) e))
+    by (eqb a.fields b.fields && beq a.raw b.raw) ((a.fields ≡ b.fields) × (a.raw ≡ b.raw)) (a ≡ b) (both (eqb a.fields b.fields) (beq a.raw b.raw) (a.fields ≡ b.fields) (a.raw ≡ b.raw) (Decides-eqb a.fields b.fields) (booleans_Decides a.raw b.raw)) (shape_from a b) (λ e. (ap (λ (s : Shape). s.fields) e, ap (λ (s : Shape). s.raw) e))

@@ -1,5 +1,5 @@
 -- What is stored once all objects were looked at is the dump, and every dump of a heap is a graph.
-use Rattle.std.specs.Prelude.{◌≡◌, ◌≢◌, ◌⊎◌, ◌<◌, ◌≤◌, ◌+◌, ◌-◌, ℕ, zero, suc, Bool, true, false, List, [], ◌∷◌, ◌++◌, map, length, take, drop, slice_get, Option, Some, None}
+use Rattle.std.specs.Prelude.{◌≡◌, ◌≢◌, ◌⊎◌, ◌<◌, ◌≤◌, ◌+◌, ◌-◌, ℕ, zero, suc, List, [], ◌∷◌, ◌++◌, map, length, take, drop, slice_get, Option, Some, None}
 use Rattle.std.specs.List.{flat_map, AllByRecursion}
 use Rattle.std.proofs.Common.{refl, sym, ap, subst, ◌∙◌, arith, inl, inr, append_assoc}
 use Rattle.std.proofs.lemmas.Option.{none-some, same_Some, slice_get-get_or}
@@ -11,7 +11,6 @@ use Rattle.rh_layout.specs.declared.value.Value.TheVariants.{Nil, Int, Ref}
 use Rattle.rh_layout.specs.declared.command.RootId.{RootId}
 use Rattle.rh_layout.specs.declared.shape.Shape.{Shape}
 use Rattle.rh_layout.specs.Shape.{shape_of}
-use Rattle.rh_layout.specs.Value.{is_reference}
 use Rattle.rh_model.specs.Plain.{PlainObject}
 use Rattle.rh_model.specs.Graph.{Graph, root_value}
 use Rattle.rh_dump.specs.Dump.{GraphState, values_of, root_values, met_after, AreNumbered, AreMetBefore, IsTold, IsRootTold, IsRootBefore, IsRootAfter, RootsRise, IsUnreferring, IsObjectTold, IsGraph}

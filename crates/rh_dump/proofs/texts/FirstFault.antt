@@ -32,7 +32,7 @@ use Rattle.rh_dump.specs.declared.reading.fault.DumpFault.{DumpFault}
 use Rattle.rh_model.specs.Plain.{PlainObject}
 use Rattle.rh_dump.specs.Dump.{GraphState, met_with, met_after, IsTold, IsRootAfter, IsGraph}
 use Rattle.rh_dump.specs.texts.Faults.{met_with_reference, number_or_none, version_named, value_parts, met_with_part, met_with_parts, due_after_parts, IsNumberUpTo, IsWholePart, IsRootPart, RefersTo, BeginsWithAt, value_faults, field_faults, values_faults, count_faults, root_faults, object_part_faults, object_faults, due_faults, line_faults, end_faults, faults_from, dump_faults}
-use Rattle.rh_dump.specs.texts.Line.{DumpLine, header_line, roots_line, root_line, objects_line, object_line, end_line, value_text, dump_line_parts, kind_parts, HasKind, CanSay, IsTextOf, root_due, object_due, due_after}
+use Rattle.rh_dump.specs.texts.Line.{DumpLine, header_line, roots_line, root_line, objects_line, object_line, end_line, value_text, dump_line_parts, IsTextOf, root_due, object_due, due_after}
 use Rattle.rh_dump.specs.texts.Part.{number_up_to, whole_of, small_root_of, after_at, kind_and_rest, object_head}
 use Rattle.rh_dump.specs.texts.Reading.{formed_parts, part_after, number_or_fault, roots_of_parts, objects_of_parts, reference_or_fault, whole_or_fault, reference_or_whole, value_or_fault, plain_or_fault, field_or_fault, values_or_fault, is_root_after, root_or_fault, root_of_parts, own_number, fields_or_fault, object_of_parts, version_or_fault, line_due, line_or_kind, fault_at, end_or_fault, lines_from, graph_of, graph_within, graph_of_text}
 use Rattle.rh_dump.proofs.texts.PartMeans.{number_up_to-means, whole_of-means, small_root_of-means, after_at-means, reference_of-plain, reference_of-at, object_head-at, object_head-plain, object_head-short, of_kind, head_of}

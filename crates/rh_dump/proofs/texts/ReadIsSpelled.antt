@@ -25,12 +25,12 @@ use Rattle.rh_dump.specs.declared.reading.fault.DumpKind.{DumpKind}
 use Rattle.rh_dump.specs.declared.reading.fault.DumpKind.TheVariants.{Long, End, Header, Form, Number, Order, Count}
 use Rattle.rh_model.specs.Plain.{PlainObject}
 use Rattle.rh_dump.specs.Dump.{GraphState, root_values, met_with, met_after, IsNumberedAfter, AreNumbered, AreMetBefore, IsTold, IsRootTold, IsRootBefore, IsRootAfter, RootsRise, IsUnreferring, IsObjectTold, IsGraph}
-use Rattle.rh_dump.specs.texts.Line.{DumpLine, header_line, roots_line, root_line, objects_line, object_line, end_line, value_text, dump_line_parts, spell_dump_line, root_lines, object_lines, lines_in, text_in, kind_parts, HasKind, CanSay, IsTextOf, root_due, object_due, due_after}
-use Rattle.rh_dump.specs.texts.Part.{number_up_to, whole_of, small_root_of, after_at, kind_and_rest, object_head}
+use Rattle.rh_dump.specs.texts.Line.{DumpLine, header_line, roots_line, root_line, objects_line, object_line, end_line, value_text, dump_line_parts, spell_dump_line, root_lines, object_lines, lines_in, text_in, kind_parts, CanSay, IsTextOf, root_due, object_due, due_after}
+use Rattle.rh_dump.specs.texts.Part.{number_up_to, whole_of, small_root_of, after_at, object_head}
 use Rattle.rh_dump.specs.texts.Reading.{formed_parts, part_after, number_or_fault, roots_of_parts, objects_of_parts, reference_or_fault, whole_or_fault, reference_or_whole, value_or_fault, plain_or_fault, field_or_fault, values_or_fault, is_root_before, is_root_after, root_or_fault, root_of_parts, own_number, fields_or_fault, object_of_parts, version_or_fault, line_due, line_or_kind, fault_at, end_or_fault, lines_from, graph_of, graph_within}
 use Rattle.rh_dump.specs.texts.Putting.{IsDue}
 use Rattle.rh_dump.proofs.numbers.ObjectsIn.{joined}
-use Rattle.rh_dump.proofs.texts.PartMeans.{number_up_to-means, whole_of-means, small_root_of-means, after_at-means, object_head-means, IsHeadOf}
+use Rattle.rh_dump.proofs.texts.PartMeans.{number_up_to-means, whole_of-means, small_root_of-means, after_at-means, object_head-means}
 use Rattle.rh_dump.proofs.numbers.MetValues.{met_after-append, AreNumbered-append}
 use Rattle.rh_dump.proofs.texts.SpelledIsRead.{met_after_grows, length-map_text, root_due-more, graph_of-lines_in}
 

@@ -8,7 +8,6 @@ use Rattle.std.proofs.lemmas.List.Concat.{flat_map-append}
 use Rattle.rh_layout.specs.declared.value.Value.{Value}
 use Rattle.rh_layout.specs.declared.command.RootId.{RootId}
 use Rattle.rh_layout.specs.declared.shape.Shape.{Shape}
-use Rattle.rh_layout.specs.Shape.{shape_of}
 use Rattle.rh_model.specs.Plain.{PlainObject}
 use Rattle.rh_dump.specs.declared.reading.due.Version.TheVariants.{Two}
 use Rattle.rh_text.specs.Output.{AppendsLess}
