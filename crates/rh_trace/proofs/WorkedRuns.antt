@@ -1,6 +1,6 @@
 -- The definitions at work: what is written where a field is stored to between a deal and a give, and
 -- where what is held was stored over and is given again, and answers that are not those of a plain heap.
-use Rattle.std.proofs.Common.{◌≡◌, ℕ, List, [], ◌∷◌, ◌++◌, Result, Ok, refl, ap, subst, inl, inr}
+use Rattle.std.proofs.Common.{◌≡◌, ℕ, false, List, [], ◌∷◌, ◌++◌, Result, Ok, refl, ap, subst, inl, inr}
 use Rattle.std.specs.Prelude.{codes}
 use Rattle.std.specs.Fmt.{digits}
 use Rattle.std.specs.List.{flat_map}
@@ -9,10 +9,9 @@ use Rattle.rh_layout.specs.declared.command.Reply.{Reply}
 use Rattle.rh_layout.specs.declared.command.Reply.TheVariants as replies
 use Rattle.rh_layout.specs.declared.command.RootId.{RootId}
 use Rattle.rh_layout.specs.declared.refusal.Refusal.{Refusal}
-use Rattle.rh_layout.specs.declared.value.Value.{Value}
 use Rattle.rh_layout.specs.declared.value.Value.TheVariants as values
 use Rattle.rh_core.specs.Classes.{class_of}
-use Rattle.rh_core.specs.Commands.{heap_step, heap_after_command, is_limit_answer, AnswersAs}
+use Rattle.rh_core.specs.Commands.{heap_step, heap_after_command, AnswersAs}
 use Rattle.rh_mutator.specs.Commands.{limit_of, mutators_after}
 use Rattle.rh_core.specs.Cycle.{begin_step, flip_step}
 use Rattle.rh_core.specs.Recall.{recall_step, abandon_step}
@@ -21,7 +20,7 @@ use Rattle.rh_core.specs.Dealing.{deal_step}
 use Rattle.rh_core.specs.Giving.{give_step}
 use Rattle.rh_core.specs.Shading.{shade_step}
 use Rattle.rh_model.specs.Graph.{refusal_of, fault_in, reply_to}
-use Rattle.rh_model.specs.Plain.{empty_plain, step, plain_after_command}
+use Rattle.rh_model.specs.Plain.{PlainObject, empty_plain, step, plain_after_command}
 use Rattle.rh_text.specs.Number.{number_of, integer_of}
 use Rattle.rh_text.specs.Parts.{is_formed, one_part, two_parts, three_parts, six_parts}
 use Rattle.rh_text.specs.Root.{root_of}
@@ -133,7 +132,7 @@ no_answer : FollowsMade (Command 1 (Load (root 1) (root 0) 0)) [] → ⊥
 unfolding step refusal_of fault_in reply_to plain_after_command root made
 no_answer h = later h
 
-objects_of : Answered → List (List Value)
+objects_of : Answered → List PlainObject
 objects_of (told.Dump graph) = graph.objects
 objects_of other = []
 
@@ -141,5 +140,5 @@ objects_of other = []
 other_dump : FollowsMade Dump (told.Dump (record { roots = []; objects = [] }) ∷ []) → ⊥
 unfolding step refusal_of fault_in reply_to plain_after_command root made objects_of
 other_dump h =
-    let same : ◌≡◌ {A = List (List Value)} [] ((values.Nil ∷ []) ∷ []) = ap objects_of (first (later h)) in
+    let same : ◌≡◌ {A = List PlainObject} [] (record { raw = false; fields = values.Nil ∷ [] } ∷ []) = ap objects_of (first (later h)) in
     cc

@@ -6,6 +6,7 @@ use Rattle.std.proofs.lemmas.List.{append-nil, length-append, take-append-drop, 
 use Rattle.std.proofs.lemmas.List.Concat.{flat_map-append}
 use Rattle.rh_text.specs.Output.{AppendsLess}
 use Rattle.rh_text.specs.lemmas.Appends.{Appends-none, Appends-less, less-more}
+use Rattle.rh_dump.specs.declared.reading.due.Version.TheVariants.{Two}
 use Rattle.rh_dump.specs.Dump.{GraphState}
 use Rattle.rh_dump.specs.texts.Line.{header_line, roots_line, objects_line, end_line, root_lines, object_lines, spell_dump_line, dump_text}
 use Rattle.rh_trace.specs.declared.stop.Stop.{Stop}
@@ -24,7 +25,7 @@ nothing_of_line a text = nothing_of a (with_line_end text) (omega (arith, length
 pub nothing_of_dump : (a : Option (List ℕ)) (graph : GraphState) → AppendsLess a a (dump_text graph)
 nothing_of_dump a graph =
     let after = roots_line (length graph.roots) ∷ (root_lines graph.roots ++ (objects_line (length graph.objects) ∷ (object_lines 0 graph.objects ++ (end_line ∷ [])))) in
-    nothing_of a (dump_text graph) (omega (arith, length-append (spell_dump_line header_line) (flat_map spell_dump_line after)))
+    nothing_of a (dump_text graph) (omega (arith, length-append (spell_dump_line (header_line Two)) (flat_map spell_dump_line after)))
 
 -- where a part wasn't written whole, neither was the text
 pub stopped_within : (X Y : Type 0) (stop : Stop) (a b c : Option (List ℕ)) (before text after whole : List ℕ) → whole ≡ before ++ (text ++ after) → Appends a b before → Writes {X = X} text (Err stop) b c → Writes {X = Y} whole (Err stop) a c
