@@ -22,12 +22,12 @@ const SIZES: Config = Config {
 };
 
 /// A heap without objects, and its dump.
-const EMPTY: (&[u8], &[u8]) = (b"heap 64 8 8 2 3\n", b"rheap 1\nroots 0\nobjects 0\nend\n");
+const EMPTY: (&[u8], &[u8]) = (b"heap 64 8 8 2 3\n", b"rheap 2\nroots 0\nobjects 0\nend\n");
 
 /// Two objects, of which the one that was made last is named first.
 const TWO_ROOTS: (&[u8], &[u8]) = (
     b"heap 64 8 8 2 3\n1 alloc 1.1 0\n1 alloc 1.0 1\n",
-    b"rheap 1\nroots 2\n1.0 @0\n1.1 @1\nobjects 2\n@0 1 nil\n@1 0\nend\n",
+    b"rheap 2\nroots 2\n1.0 @0\n1.1 @1\nobjects 2\n@0 1 nil\n@1 0\nend\n",
 );
 
 /// An object that refers to itself, and twice to another, which is met first through a field; and
@@ -35,7 +35,14 @@ const TWO_ROOTS: (&[u8], &[u8]) = (
 const SHARED: (&[u8], &[u8]) = (
     b"heap 64 8 8 2 3\n1 alloc 1.0 3\n1 alloc 1.2 3\n1 alloc 1.1 0\n1 store 1.0 0 1.0\n\
         1 store 1.0 1 1.1\n1 store 1.0 2 1.1\n1 drop 1.1\n1 drop 1.2\n",
-    b"rheap 1\nroots 1\n1.0 @0\nobjects 2\n@0 3 @0 @1 @1\n@1 0\nend\n",
+    b"rheap 2\nroots 1\n1.0 @0\nobjects 2\n@0 3 @0 @1 @1\n@1 0\nend\n",
+);
+
+/// A raw object, and one that isn't, which refers to it; both have the same fields but one.
+const RAW: (&[u8], &[u8]) = (
+    b"heap 64 8 8 2 3\n1 raw 1.1 2\n1 store 1.1 0 -7\n1 alloc 1.0 2\n1 store 1.0 0 -7\n\
+        1 store 1.0 1 1.1\n",
+    b"rheap 2\nroots 2\n1.0 @0\n1.1 @1\nobjects 2\n@0 2 -7 @1\n@1 raw 2 -7 nil\nend\n",
 );
 
 /// Plays the commands of a trace on both heaps, which answer the same.
@@ -70,7 +77,7 @@ fn expect_dumps(rt: &(impl AllocGlobal + Abort), heap: &Heap, plain: &Plain, tex
 
 #[test]
 fn objects_are_numbered_as_they_are_met(rt: HostRuntime) {
-    for &(text, dump) in &[EMPTY, TWO_ROOTS, SHARED] {
+    for &(text, dump) in &[EMPTY, TWO_ROOTS, SHARED, RAW] {
         let mut heap = Heap::new(rt.alloc(), SIZES).expect(&rt, "a heap");
         let mut plain = Plain::new(rt.alloc(), 2, 3).expect(&rt, "a plain heap");
         play(&rt, text, &mut heap, &mut plain);

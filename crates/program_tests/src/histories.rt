@@ -3,7 +3,9 @@
 use crate::devices::SlowWriter;
 use crate::expectations::{expect_equal, expect_refusals};
 use crate::program::driving::{REPLAY, drives_to};
-use crate::texts::{RIGHT, RIGHT_REPORT, WRONG, WRONG_REPORT, repeated};
+use crate::texts::{
+    RAW_HISTORY, RAW_HISTORY_REPORT, RIGHT, RIGHT_REPORT, WRONG, WRONG_REPORT, repeated,
+};
 use refusing::{RefusingAllocator, refused_in_turn};
 use rh_layout::{Command, Refusal, Reply, RootId};
 use rh_replay::{
@@ -23,6 +25,16 @@ const OTHER_NUMBER: &[u8] =
         end 3\n";
 
 const OTHER_NUMBER_REPORT: &[u8] = b"owner 1 calls 3\nwrong 3 expected int 5\n";
+
+/// A history that tells a raw object as one that isn't, and the report on it.
+const OBJECT_FOR_RAW: &[u8] = b"history 2 2\n1 raw 1.0 2 = object 2\nend 1\n";
+
+const OBJECT_FOR_RAW_REPORT: &[u8] = b"owner 1 calls 1\nwrong 1 expected raw 2\n";
+
+/// A history in which a raw object takes a reference, and the report on it.
+const NOT_REFUSED: &[u8] = b"history 2 2\n1 raw 1.0 1 = raw 1\n1 store 1.0 0 1.0 = done\nend 2\n";
+
+const NOT_REFUSED_REPORT: &[u8] = b"owner 1 calls 2\nwrong 2 expected refused RawField\n";
 
 /// A history without a call.
 const EMPTY: &[u8] = b"history 2 2\nend 0\n";
@@ -49,6 +61,23 @@ const HISTORIES: &[(&[u8], Verdict, &[u8])] = &[
             expected: Ok(Reply::Int(5)),
         },
         OTHER_NUMBER_REPORT,
+    ),
+    (RAW_HISTORY, Verdict::Legal(5), RAW_HISTORY_REPORT),
+    (
+        OBJECT_FOR_RAW,
+        Verdict::Wrong {
+            at: 1,
+            expected: Ok(Reply::Raw(2)),
+        },
+        OBJECT_FOR_RAW_REPORT,
+    ),
+    (
+        NOT_REFUSED,
+        Verdict::Wrong {
+            at: 2,
+            expected: Err(Refusal::RawField),
+        },
+        NOT_REFUSED_REPORT,
     ),
     (EMPTY, Verdict::Legal(0), b"legal 0\n"),
 ];

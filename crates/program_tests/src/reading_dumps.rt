@@ -4,7 +4,9 @@ use crate::devices::{SlowReader, SlowWriter};
 use crate::expectations::expect_equal;
 use crate::texts::repeated;
 use refusing::RefusingAllocator;
-use rh_dump::{DumpFault, DumpKind, DumpReadError, read_dump, read_dump_logged, write_dump};
+use rh_dump::{
+    DumpFault, DumpKind, DumpReadError, read_dump, read_dump_logged, same_text, write_dump,
+};
 use rh_text::IoLog;
 use std::io;
 use std::process::Abort;
@@ -13,11 +15,23 @@ use std::test::Fail;
 /// An object that holds each kind of value, itself among them, and twice another, which is met
 /// first through a field; and two roots.
 const EACH_KIND: &[u8] =
+    b"rheap 2\nroots 2\n0.3 @0\n15.9 -2305843009213693952\nobjects 2\n@0 5 nil @0 0 @1 @1\n@1 0\n\
+        end\n";
+
+/// The same graph as a text of the version before.
+const EACH_KIND_BEFORE: &[u8] =
     b"rheap 1\nroots 2\n0.3 @0\n15.9 -2305843009213693952\nobjects 2\n@0 5 nil @0 0 @1 @1\n@1 0\n\
         end\n";
 
+/// Raw objects, which hold each kind of value but references, or nothing.
+const RAW: &[u8] =
+    b"rheap 2\nroots 2\n0.0 @0\n0.1 @1\nobjects 3\n@0 raw 3 2305843009213693951 nil 0\n@1 1 @2\n\
+        @2 raw 0\nend\n";
+
 /// The dump of a heap without objects.
-const EMPTY: &[u8] = b"rheap 1\nroots 0\nobjects 0\nend\n";
+const EMPTY: &[u8] = b"rheap 2\nroots 0\nobjects 0\nend\n";
+
+const EMPTY_BEFORE: &[u8] = b"rheap 1\nroots 0\nobjects 0\nend\n";
 
 /// Checks that a text is read as a graph whose text it is.
 fn expect_dump<R: AllocGlobal + Abort>(rt: &R, reader: &mut impl io::Read, text: &[u8]) {
@@ -32,9 +46,43 @@ fn expect_dump<R: AllocGlobal + Abort>(rt: &R, reader: &mut impl io::Read, text:
 
 #[test]
 fn what_is_read_is_written_again(rt: HostRuntime) {
-    for &text in &[EMPTY, EACH_KIND] {
+    for &text in &[EMPTY, EACH_KIND, RAW] {
         expect_dump(&rt, &mut { text }, text);
     }
+}
+
+#[test]
+fn a_text_of_the_version_before_is_read(rt: HostRuntime) -> Result<(), Fail> {
+    for &(text, dump) in &[(EMPTY_BEFORE, EMPTY), (EACH_KIND_BEFORE, EACH_KIND)] {
+        let graph = read_dump(rt.alloc(), &mut { text }).ok().ok_or("a dump")?;
+        let mut written = Vec::new(rt.alloc());
+        expect_equal(&rt, write_dump(&graph, &mut written), Ok(()));
+        expect_equal(&rt, written.as_slice(), dump);
+        let other = read_dump(rt.alloc(), &mut { dump }).ok().ok_or("a dump")?;
+        assert!(rt; same_text(&graph, &other));
+    }
+    Ok(())
+}
+
+/// Texts that differ in a kind, in a count of fields, in a value or in a root.
+const APART: &[&[u8]] = &[
+    b"rheap 2\nroots 1\n1.0 @0\nobjects 1\n@0 1 5\nend\n",
+    b"rheap 2\nroots 1\n1.0 @0\nobjects 1\n@0 raw 1 5\nend\n",
+    b"rheap 2\nroots 1\n1.0 @0\nobjects 1\n@0 raw 1 nil\nend\n",
+    b"rheap 2\nroots 1\n1.0 @0\nobjects 1\n@0 raw 0\nend\n",
+    b"rheap 2\nroots 1\n1.1 @0\nobjects 1\n@0 raw 0\nend\n",
+];
+
+#[test]
+fn graphs_have_one_text(rt: HostRuntime) -> Result<(), Fail> {
+    for (i, &text) in APART.iter().enumerate() {
+        for (k, &other) in APART.iter().enumerate() {
+            let graph = read_dump(rt.alloc(), &mut { text }).ok().ok_or("a dump")?;
+            let second = read_dump(rt.alloc(), &mut { other }).ok().ok_or("a dump")?;
+            expect_equal(&rt, same_text(&graph, &second), i == k);
+        }
+    }
+    Ok(())
 }
 
 #[test]
@@ -54,7 +102,7 @@ fn a_text_that_is_cut_ends_too_early(rt: HostRuntime) {
 /// The greatest object: more bytes than are asked of a reader at once, given one a time.
 #[test]
 fn a_dump_in_many_reads(rt: HostRuntime) -> Result<(), Fail> {
-    let first = b"rheap 1\nroots 1\n1.0 @0\nobjects 1\n@0 4095".as_slice();
+    let first = b"rheap 2\nroots 1\n1.0 @0\nobjects 1\n@0 4095".as_slice();
     let mut text = repeated(&rt, first, b" -2305843009213693952", 4_095)?;
     text.extend_from_slice(b"\nend\n")?;
     expect_dump(&rt, &mut SlowReader::new(&text, 0), &text);
@@ -63,7 +111,7 @@ fn a_dump_in_many_reads(rt: HostRuntime) -> Result<(), Fail> {
 
 #[test]
 fn the_most_roots(rt: HostRuntime) -> Result<(), Fail> {
-    let mut text = repeated(&rt, b"rheap 1\nroots 4096\n", b"", 0)?;
+    let mut text = repeated(&rt, b"rheap 2\nroots 4096\n", b"", 0)?;
     for owner in 0..16u32 {
         for slot in 0..256u32 {
             let root = format!(in rt.alloc(); "{owner}.{slot} 7\n")?;

@@ -34,7 +34,7 @@ fn the_greatest_history(rt: HostRuntime) -> Result<(), Fail> {
 /// The dump of a chain of 1,100,000 objects, each with ten fields but the last.
 fn chain(rt: &(impl AllocGlobal + Abort)) -> Result<Vec<u8>, Fail> {
     let mut text = Vec::new(rt.alloc());
-    text.extend_from_slice(b"rheap 1\nroots 1\n1.0 @0\nobjects 1100000\n")?;
+    text.extend_from_slice(b"rheap 2\nroots 1\n1.0 @0\nobjects 1100000\n")?;
     for n in 0..1_099_999u32 {
         let next = n + 1;
         let line = format!(in rt.alloc(); "@{n} 10 nil nil nil nil nil 1 2 3 @0 @{next}\n")?;

@@ -33,9 +33,24 @@ pub const DUMPS: &[u8] =
     b"heap 16 8 4 2 2\n1 alloc 1.1 1\ndump\n1 drop 2.0\n1 store 1.1 0 1.1\ndump\n";
 
 pub const DUMPS_ANSWERS: &[u8] =
-    b"object 1\nrheap 1\nroots 1\n1.1 @0\nobjects 1\n@0 1 nil\nend\nrefused NoRoot\ndone\n\
-        rheap 1\nroots 1\n1.1 @0\nobjects 1\n@0 1 @0\nend\n\
+    b"object 1\nrheap 2\nroots 1\n1.1 @0\nobjects 1\n@0 1 nil\nend\nrefused NoRoot\ndone\n\
+        rheap 2\nroots 1\n1.1 @0\nobjects 1\n@0 1 @0\nend\n\
         total commands 3 refused 1 flips 0 rootwords 0\n";
+
+/// A raw object that takes no reference, and is still raw where a flip has moved it.
+pub const RAW_OBJECT: &[u8] =
+    b"heap 64 8 8 2 2\n1 raw 1.0 2\n1 store 1.0 0 1.0\n1 store 1.0 2 1.0\n1 store 1.0 0 5\n\
+        1 store 1.0 1 1.1\n1 store 1.0 0 2305843009213693952\nbegin\n1 alloc 1.1 1\n\
+        1 store 1.1 0 1.0\n1 drop 1.0\nshade 1.1\ndeal copies 9 a\ngive a\ndeal copies 9 b\n\
+        give b\nflip\ndump\n";
+
+pub const RAW_OBJECT_ANSWERS: &[u8] =
+    b"raw 2\nrefused RawField\nrefused NoField\ndone\ndone\nrefused IntRange\ncycle 1\n\
+        object 1\ndone\ndone\nplaced\ndealt 1 passed 0\n\
+        given joined 1 repeated 0 stale 0 placed 1\ndealt 2 passed 0\n\
+        given joined 2 repeated 0 stale 0 placed 0\nflipped roots 1 live 7\nrheap 2\nroots 1\n\
+        1.1 @0\nobjects 2\n@0 1 @1\n@1 raw 2 5 nil\nend\n\
+        total commands 9 refused 3 flips 1 rootwords 1\n";
 
 /// A whole cycle, whose log entry is never dealt.
 pub const WHOLE_CYCLE: &[u8] =
@@ -161,6 +176,13 @@ pub const RIGHT_REPORT: &[u8] = b"owner 1 calls 3\nlegal 3\n";
 pub const WRONG: &[u8] = b"history 2 2\n1 drop 1.0 = done\n1 drop 2.0 = done\nend 2\n";
 
 pub const WRONG_REPORT: &[u8] = b"owner 1 calls 2\nwrong 2 expected refused NoRoot\n";
+
+/// A history of a raw object, and the report on it.
+pub const RAW_HISTORY: &[u8] =
+    b"history 2 2\n1 raw 1.0 2 = raw 2\n1 store 1.0 0 1.0 = refused RawField\n\
+        1 store 1.0 0 5 = done\n1 copy 1.1 1.0 = raw 2\n1 load 1.0 1.1 0 = int 5\nend 5\n";
+
+pub const RAW_HISTORY_REPORT: &[u8] = b"owner 1 calls 5\nlegal 5\n";
 
 /// A text that begins with `first` and goes on with so many times `next`.
 pub fn repeated(

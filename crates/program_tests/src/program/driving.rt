@@ -60,7 +60,7 @@ pub fn drives_to<R: AllocGlobal + Abort + Threads + Wait + Sync>(
 }
 
 /// The dump of an object that refers to itself.
-const ITSELF: &[u8] = b"rheap 1\nroots 1\n1.0 @0\nobjects 1\n@0 1 @0\nend\n";
+const ITSELF: &[u8] = b"rheap 2\nroots 1\n1.0 @0\nobjects 1\n@0 1 @0\nend\n";
 
 /// What is asked, of which text, and the answers.
 const ASKED: &[(Ask<'static>, &[u8], &[u8])] = &[

@@ -77,6 +77,13 @@ const LINES: &[(&[u8], u32, &str)] = &[
     (b"1x alloc 1 x\n", 2, "Number"),
     (b"1x drop\n", 2, "Form"),
     (b"1 alloc 1.0 x\n", 2, "Number"),
+    (b"1 raw 1.0\n", 2, "Form"),
+    (b"1 raw 1.0 2 3\n", 2, "Form"),
+    (b"1 raw 1 x\n", 2, "Root"),
+    (b"1x raw 1 x\n", 2, "Number"),
+    (b"1 raw 1.0 x\n", 2, "Number"),
+    (b"1 Raw 1.0 2\n", 2, "Word"),
+    (b"raw 1.0 2\n", 2, "Word"),
     (b"1 alloc 1.0.0 2\n", 2, "Root"),
     (b"1 alloc 1.00 2\n", 2, "Root"),
     (b"1 load 1.0 1.1\n", 2, "Form"),
@@ -151,6 +158,11 @@ const HISTORIES: &[(&[u8], u32, &str)] = &[
     (b"history 2 2\n1 drop 1.0 = done = done\n", 2, "Answer"),
     (b"history 2 2\n1 drop 1.0 = int +5\n", 2, "Answer"),
     (b"history 2 2\n1 drop 1.0 = refused LogFull\n", 2, "Answer"),
+    (b"history 2 2\n1 raw 1.0 = raw 1\n", 2, "Form"),
+    (b"history 2 2\n1 raw 1.0 1 = raw\n", 2, "Answer"),
+    (b"history 2 2\n1 raw 1.0 1 = raw -1\n", 2, "Answer"),
+    (b"history 2 2\n1 raw 1.0 1 = raw 4294967296\n", 2, "Answer"),
+    (b"history 2 2\n1 raw 1.0 1 = refused Raw\n", 2, "Answer"),
     (b"history 2 2\nend 1\n", 2, "Count"),
     (b"history 2 2\nend 0\n\n", 3, "Trailing"),
     (b"history 2 257\n", 1, "Number"),
@@ -159,34 +171,42 @@ const HISTORIES: &[(&[u8], u32, &str)] = &[
     (b"history 2 2\nend 0\nend 0\n", 3, "Trailing"),
 ];
 
-/// The same of texts that are no dumps.
-const DUMPS: &[(&[u8], u32, &str)] = &[
+/// The same of texts that are no dumps of any version.
+const HEADERS: &[(&[u8], u32, &str)] = &[
     (b"", 1, "End"),
-    (b"rheap 2\n", 1, "Header"),
-    (b"rheap 1\nroots 1\n1.0 @1\n", 3, "Order"),
-    (b"rheap 1\nroots 1\n1.0 @0\nobjects 0\n", 4, "Count"),
-    (
-        b"rheap 1\nroots 1\n1.0 @0\nobjects 1\n@0 1 @1\n",
-        5,
-        "Count",
-    ),
-    (b"rheap 1\nroots 0\nobjects 0\n", 4, "End"),
-    (b"rheap 1\nroots 0\nobjects 0\nend", 4, "End"),
-    (b"rheap 1\nroots 0\nobjects 0\nend\nmore\n", 5, "Trailing"),
-    (b"rheap 1\nroots 0\nobjects 0\nend\nmore", 5, "End"),
-    (b"rheap 1\nroots 4097\n", 2, "Number"),
-    (b"rheap 1\nroots 1\nobjects 0\n", 3, "Number"),
-    (b"rheap 1\nroots 0\n1.0 @0\n", 3, "Form"),
-    (b"rheap 1\nroots 2\n1.0 1\n1.0 +5\n", 4, "Order"),
-    (b"rheap 1\nroots 2\n1.0 1\n1.0 nil\n", 4, "Form"),
-    (b"rheap 1\nroots 1\n1.0 +5\n", 3, "Number"),
-    (b"rheap 1\nroots 1\n1.0  5\n", 3, "Form"),
-    (b"rheap 1\nroots 1\n16.0 5\n", 3, "Number"),
-    (b"rheap 1\nroots 1\n1.0 2305843009213693952\n", 3, "Number"),
-    (b"rheap 1\nroots 1\n1.0 @16777216\n", 3, "Number"),
+    (b"rheap 2", 1, "End"),
+    (b"rheap 1 \n", 1, "Header"),
+    (b"rheap 3\n", 1, "Header"),
+    (b"rheap\nroots 0\n", 1, "Header"),
 ];
 
-/// The same of lines of objects, after one root that refers to object 0.
+/// The same of what follows the first line, in both versions.
+const DUMPS: &[(&[u8], u32, &str)] = &[
+    (b"", 2, "End"),
+    (b"roots 1\n1.0 @1\n", 3, "Order"),
+    (b"roots 1\n1.0 @0\nobjects 0\n", 4, "Count"),
+    (b"roots 0\nobjects 1\n@0 0\nend\n", 4, "Count"),
+    (b"roots 1\n1.0 @0\nobjects 1\n@0 1 @1\n", 5, "Count"),
+    (b"roots 0\nobjects 0\n", 4, "End"),
+    (b"roots 0\nobjects 0\nend", 4, "End"),
+    (b"roots 0\nobjects 0\nend\nmore\n", 5, "Trailing"),
+    (b"roots 0\nobjects 0\nend\nmore", 5, "End"),
+    (b"roots 4097\n", 2, "Number"),
+    (b"roots 1\nobjects 0\n", 3, "Number"),
+    (b"roots 0\n1.0 @0\n", 3, "Form"),
+    (b"roots 2\n1.0 1\n1.0 +5\n", 4, "Order"),
+    (b"roots 2\n1.0 1\n1.0 nil\n", 4, "Form"),
+    (b"roots 1\n1.0 +5\n", 3, "Number"),
+    (b"roots 1\n1.0  5\n", 3, "Form"),
+    (b"roots 1\n16.0 5\n", 3, "Number"),
+    (b"roots 1\n1.0 2305843009213693952\n", 3, "Number"),
+    (b"roots 1\n1.0 @16777216\n", 3, "Number"),
+];
+
+/// What stands between the first line and the objects: one root that refers to object 0.
+const ONE_ROOT: &[u8] = b"roots 1\n1.0 @0\n";
+
+/// The same of lines of objects, after these.
 const OBJECTS: &[(&[u8], u32, &str)] = &[
     (b"objects 16777217\n", 4, "Number"),
     (b"objects 1\nend\n", 5, "Form"),
@@ -199,6 +219,43 @@ const OBJECTS: &[(&[u8], u32, &str)] = &[
     (b"objects 3\n@0 2 @2 @1\n", 5, "Order"),
     (b"objects 2\n@0 0\n@1 0\n", 6, "Count"),
     (b"objects 1\n@0 0\n@1 0\n", 6, "Form"),
+    (b"objects 1\n@0 0 raw\n", 5, "Form"),
+    (b"objects 1\n@0 1 raw\n", 5, "Number"),
+    (b"objects 1\n@0 Raw 0\n", 5, "Number"),
+    (b"objects 1\n@1 raw 0\n", 5, "Order"),
+    (b"objects 1\n@x raw 0\n", 5, "Number"),
+    (b"objects 2\n@0 0\n@1 raw 0\n", 6, "Count"),
+];
+
+/// The same of lines of raw objects, in the version that is written.
+const RAW_OBJECTS: &[(&[u8], u32, &str)] = &[
+    (b"objects 1\n@0 raw\n", 5, "Form"),
+    (b"objects 1\n@x raw\n", 5, "Form"),
+    (b"objects 1\nraw 0\n", 5, "Form"),
+    (b"objects 1\n@0 raw 2 5\n", 5, "Form"),
+    (b"objects 1\n@0 raw 1 5 nil\n", 5, "Form"),
+    (b"objects 1\n@0 raw raw 0\n", 5, "Number"),
+    (b"objects 1\n@0 raw 4096\n", 5, "Number"),
+    (b"objects 1\n@0 raw 1 x\n", 5, "Number"),
+    (b"objects 1\n@0 raw 1 @0\n", 5, "Number"),
+    (b"objects 1\n@0 raw 1 @1\n", 5, "Number"),
+    (b"objects 1\n@0 raw 1 2305843009213693952\n", 5, "Number"),
+    (b"objects 1\n@0 raw 1 5\n", 6, "End"),
+];
+
+/// The same in the version before, in which no object is raw.
+const RAW_BEFORE: &[(&[u8], u32, &str)] = &[
+    (b"objects 1\n@0 raw\n", 5, "Number"),
+    (b"objects 1\n@1 raw\n", 5, "Order"),
+    (b"objects 1\n@0 raw 0\n", 5, "Number"),
+    (b"objects 1\n@0 raw 1 5\n", 5, "Number"),
+    (b"objects 1\n@0 raw 2 5\n", 5, "Number"),
+];
+
+/// The first line of each version, with the faults of its lines of raw objects.
+const VERSIONS: &[(&[u8], &[(&[u8], u32, &str)])] = &[
+    (b"rheap 2\n", RAW_OBJECTS),
+    (b"rheap 1\n", RAW_BEFORE),
 ];
 
 /// Expects each of these texts, after `first`, to be answered with its fault and nothing else.
@@ -220,9 +277,19 @@ fn expect_faults<R: AllocGlobal + Abort + Threads + Wait + Sync>(
 fn first_faults(rt: HostRuntime) -> Result<(), Fail> {
     expect_faults(&rt, &RUN, b"", TRACES)?;
     expect_faults(&rt, &RUN, b"heap 16 8 4 2 2\n", LINES)?;
-    expect_faults(&rt, &REPLAY, b"", HISTORIES)?;
-    expect_faults(&rt, &DUMP, b"", DUMPS)?;
-    expect_faults(&rt, &DUMP, b"rheap 1\nroots 1\n1.0 @0\n", OBJECTS)
+    expect_faults(&rt, &REPLAY, b"", HISTORIES)
+}
+
+#[test]
+fn first_faults_of_dumps(rt: HostRuntime) -> Result<(), Fail> {
+    expect_faults(&rt, &DUMP, b"", HEADERS)?;
+    for &(version, raw) in VERSIONS {
+        expect_faults(&rt, &DUMP, version, DUMPS)?;
+        let first = repeated(&rt, version, ONE_ROOT, 1)?;
+        expect_faults(&rt, &DUMP, &first, OBJECTS)?;
+        expect_faults(&rt, &DUMP, &first, raw)?;
+    }
+    Ok(())
 }
 
 /// First lines of heaps that can't be made, each with why.

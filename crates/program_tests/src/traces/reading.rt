@@ -3,8 +3,8 @@
 use crate::devices::SlowWriter;
 use crate::expectations::expect_equal;
 use crate::texts::{
-    DUMPS, FOUR_CYCLES, JOINED, LARGE_TRAYS, LONG_HEADER, LONG_LINE, TOO_MANY, TWO_EPOCHS,
-    WHOLE_CYCLE, WITHOUT_FIELDS, repeated,
+    DUMPS, FOUR_CYCLES, JOINED, LARGE_TRAYS, LONG_HEADER, LONG_LINE, RAW_OBJECT, TOO_MANY,
+    TWO_EPOCHS, WHOLE_CYCLE, WITHOUT_FIELDS, repeated,
 };
 use refusing::RefusingAllocator;
 use rh_core::Kind as PieceKind;
@@ -19,7 +19,7 @@ use std::test::Fail;
 
 /// A first line, and one line of each keyword.
 const KEYWORDS: &[u8] =
-    b"heap 16 8 4 2 2\n1 alloc 1.0 2\n1 load 1.1 1.0 0\n1 store 1.0 0 5\n1 copy 1.1 0.0\n\
+    b"heap 16 8 4 2 2\n1 alloc 1.0 2\n1 raw 1.1 3\n1 load 1.1 1.0 0\n1 store 1.0 0 5\n1 copy 1.1 0.0\n\
         1 same 1.0 1.1\n1 drop 1.0\nbegin\nshade 1.0\ndeal copies 4294967295 t\n\
         deal entries 0 a_2z9\ngive abcdefghijklmnop\njoin t a_2z9\nflip\nrecall\nabandon\n\
         idle 4294967295\ntrays\nstat\ndump\n";
@@ -51,12 +51,17 @@ const HEADER: Header = Header {
 };
 
 /// A command line of each keyword.
-fn command_lines() -> [Line; 6] {
+fn command_lines() -> [Line; 7] {
     [
         Line::Alloc {
             owner: 1,
             dst: A,
             fields: 2,
+        },
+        Line::Raw {
+            owner: 1,
+            dst: B,
+            fields: 3,
         },
         Line::Load {
             owner: 1,
@@ -137,14 +142,14 @@ fn line_at<A: Allocator>(trace: &Trace<A>, i: usize) -> Option<Line> {
 fn reads_each_keyword(rt: HostRuntime) -> Result<(), Fail> {
     let trace = parse(rt.alloc(), KEYWORDS).ok().ok_or("a trace")?;
     expect_equal(&rt, trace.header(), HEADER);
-    expect_equal(&rt, (trace.len(), trace.is_empty()), (19, false));
-    for (i, line) in (0..6).zip(command_lines().iter()) {
+    expect_equal(&rt, (trace.len(), trace.is_empty()), (20, false));
+    for (i, line) in (0..7).zip(command_lines().iter()) {
         expect_equal(&rt, line_at(&trace, i), Some(*line));
     }
-    for (i, line) in (6..19).zip(other_lines(&rt).iter()) {
+    for (i, line) in (7..20).zip(other_lines(&rt).iter()) {
         expect_equal(&rt, line_at(&trace, i), Some(*line));
     }
-    assert!(rt; trace.len() == 19 && trace.line(18) == Line::Dump);
+    assert!(rt; trace.len() == 20 && trace.line(19) == Line::Dump);
     assert!(rt; size_of::<Line>() <= 40 && size_of::<Request>() <= 40);
     Ok(())
 }
@@ -185,6 +190,7 @@ const PRINTED: &[&[u8]] = &[
     BOUNDARY,
     WITHOUT_FIELDS,
     DUMPS,
+    RAW_OBJECT,
     WHOLE_CYCLE,
     JOINED,
     TOO_MANY,

@@ -35,7 +35,7 @@ const FINISH: &[u8] =
         give x\ndeal copies 9 y\ngive y\nflip\ndump\n";
 
 /// What is answered last, whatever came between: one flip was done, and the graph is the same.
-const LAST: &[u8] = b"\nrheap 1\nroots 2\n1.0 @0\n1.1 @1\nobjects 2\n@0 2 6 @1\n@1 1 @0\nend\n\
+const LAST: &[u8] = b"\nrheap 2\nroots 2\n1.0 @0\n1.1 @1\nobjects 2\n@0 2 6 @1\n@1 1 @0\nend\n\
         total commands 8 refused 0 flips 1 rootwords 2\n";
 
 /// The trace with a line before the one at this position of its cycle, and with an end.

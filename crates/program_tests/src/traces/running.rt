@@ -4,9 +4,9 @@ use crate::devices::{InterruptedWriter, SlowReader, SlowWriter};
 use crate::expectations::{expect_equal, expect_prefix, expect_refusals};
 use crate::texts::{
     DUMPS, DUMPS_ANSWERS, FOUR_CYCLES, FOUR_CYCLES_ANSWERS, JOINED, JOINED_ANSWERS, LARGE_TRAYS,
-    LARGE_TRAYS_ANSWERS, LONG_ANSWER, LONG_HEADER, LONG_LINE, TOO_MANY, TOO_MANY_ANSWERS,
-    TWO_EPOCHS, TWO_EPOCHS_ANSWERS, WHOLE_CYCLE, WHOLE_CYCLE_ANSWERS, WITHOUT_FIELDS,
-    WITHOUT_FIELDS_ANSWERS, add_numbered, repeated,
+    LARGE_TRAYS_ANSWERS, LONG_ANSWER, LONG_HEADER, LONG_LINE, RAW_OBJECT, RAW_OBJECT_ANSWERS,
+    TOO_MANY, TOO_MANY_ANSWERS, TWO_EPOCHS, TWO_EPOCHS_ANSWERS, WHOLE_CYCLE, WHOLE_CYCLE_ANSWERS,
+    WITHOUT_FIELDS, WITHOUT_FIELDS_ANSWERS, add_numbered, repeated,
 };
 use refusing::refused_in_turn;
 use rh_core::ConfigFault;
@@ -59,7 +59,10 @@ fn answers_each_in_one_write(rt: HostRuntime) -> Result<(), Fail> {
         expect_run(&rt, run, 1)?;
     }
     // A dump may come in any number of writes.
-    expect_run(&rt, (DUMPS, DUMPS_ANSWERS), 1000)?;
+    for &run in &[(DUMPS, DUMPS_ANSWERS), (RAW_OBJECT, RAW_OBJECT_ANSWERS)] {
+        expect_run(&rt, run, 1000)?;
+        expect_run(&rt, run, 1)?;
+    }
     Ok(())
 }
 
@@ -272,6 +275,7 @@ fn refused_memory(rt: HostRuntime) -> Result<(), Fail> {
     let seen = writes_before_refusals(&rt, (&text, &answers), 12);
     expect_equal(&rt, seen, 0b1);
     writes_before_refusals(&rt, (DUMPS, DUMPS_ANSWERS), 8);
+    writes_before_refusals(&rt, (RAW_OBJECT, RAW_OBJECT_ANSWERS), 8);
     Ok(())
 }
 
