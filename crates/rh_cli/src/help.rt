@@ -14,9 +14,10 @@ no blank lines. The first line makes a heap; each further line is answered.
 
 Commands of an owner       Answer
   OWNER alloc ROOT FIELDS    object FIELDS
-  OWNER load DST SRC FIELD   nil, int N, object FIELDS: what the field holds
+  OWNER raw ROOT FIELDS      raw FIELDS: a raw object, whose fields hold no reference
+  OWNER load DST SRC FIELD   nil, int N, object FIELDS, raw FIELDS: what the field holds
   OWNER store OBJ FIELD VAL  done
-  OWNER copy DST SRC         nil, int N, object FIELDS: what SRC holds
+  OWNER copy DST SRC         nil, int N, object FIELDS, raw FIELDS: what SRC holds
   OWNER same A B             same yes, same no
   OWNER drop ROOT            done
 
@@ -146,11 +147,13 @@ Faults of a line, of which the first that holds is told, the last three part by 
 right:
   Long      the text passes 268,435,456 bytes in this line
   End       the file ends before this line's line end
-  Header    the first line isn't `rheap 1`
+  Header    the first line is neither `rheap 2` nor `rheap 1`, of the version before, in which no
+            object is raw
   Trailing  the line stands after the line `end`
   Form      a byte isn't printable, a part is empty, a keyword or the number of parts is wrong, or a
-            root is nil; how many values an object has is looked at after its first two parts
-  Number    a part isn't the number, the root or the value that it should be
+            root is nil; how many values an object has is looked at after its number and its fields
+  Number    a part isn't the number, the root or the value that it should be; a raw object has no
+            value that is a reference
   Order     a root isn't above the one before, an object's number isn't the next, or a reference is
             more than one above all before it
   Count     N is below the number of objects that the roots refer to, an object wasn't met before

@@ -1,14 +1,15 @@
 //! Laws of the definitions alone. Each function does nothing: its contract is the law.
 
 ghost use Rattle.std.specs.Prelude.{◌≡◌, ◌≢◌, ◌≤◌, ◌⊎◌, ◌↔◌, ℕ, ◌++◌, List, [], ◌∷◌, length, Option, Some, None, Result, Ok, Err, IsTrue, false, codes, decimal};
-ghost use Rattle.std.specs.List.{flat_map};
+ghost use Rattle.std.specs.List.{AllByRecursion, flat_map};
 ghost use Rattle.std.specs.Io.KnownBytes.{Appends, Keeps};
 ghost use Rattle.clap.specs.Words.{kind_of};
 ghost use Rattle.clap.specs.declared.error.Error.{Error as ClapError};
 ghost use Rattle.clap.specs.declared.error.kind.ErrorKind.TheVariants.{DisplayHelp, DisplayVersion};
 ghost use Rattle.rh_dump.specs.Dump.{GraphState, IsGraph};
+ghost use Rattle.rh_dump.specs.declared.reading.due.Version.TheVariants.{One};
 ghost use Rattle.rh_dump.specs.declared.reading.fault.DumpFault.{DumpFault as DumpFaultOf};
-ghost use Rattle.rh_dump.specs.texts.Line.{dump_text};
+ghost use Rattle.rh_dump.specs.texts.Line.{dump_text, text_in};
 ghost use Rattle.rh_dump.specs.texts.Reading.{graph_of_text};
 ghost use Rattle.rh_layout.specs.declared.command.Reply.{Reply};
 ghost use Rattle.rh_layout.specs.declared.refusal.Refusal.{Refusal};
@@ -237,12 +238,18 @@ pub fn a_history_of_threads_is_never_found_wrong()
         → Concludes SubcommandOf.Replay text status old new → status ≢ 4 }
 {}
 
-/// What is counted of the text of a graph is how many roots and how many objects the graph has, and
-/// the line says them in this order.
+/// What is counted of the text of a graph, of either version, is how many roots and how many
+/// objects the graph has, and the line says them in this order.
 pub fn the_counts_are_those_of_the_graph()
     ensures counted { (g : GraphState) (old new : Option (List ℕ)) → IsGraph g
         → length (dump_text g) ≤ MAX_DUMP_BYTES
         → Concludes SubcommandOf.Dump (dump_text g) 0 old new
+        → Appends old new (codes "roots " ++ (decimal (length g.roots)
+        ++ (codes " objects " ++ (decimal (length g.objects) ++ 10 ∷ [])))) }
+    ensures version_1 { (g : GraphState) (old new : Option (List ℕ)) → IsGraph g
+        → AllByRecursion (λ object. object.raw ≡ false) g.objects
+        → length (text_in One g) ≤ MAX_DUMP_BYTES
+        → Concludes SubcommandOf.Dump (text_in One g) 0 old new
         → Appends old new (codes "roots " ++ (decimal (length g.roots)
         ++ (codes " objects " ++ (decimal (length g.objects) ++ 10 ∷ [])))) }
     ensures one { (g : GraphState) → length g.roots ≡ 1 → length g.objects ≡ 1
@@ -252,6 +259,11 @@ pub fn the_counts_are_those_of_the_graph()
         (flat_map (λ line. line ++ 10 ∷ []) (codes "rheap 1" ∷ codes "roots 2" ∷ codes "1.0 @0"
         ∷ codes "1.1 @0" ∷ codes "objects 1" ∷ codes "@0 0" ∷ codes "end" ∷ [])) 0 old new
         → Appends old new (codes "roots 2 objects 1" ++ 10 ∷ []) }
+    // A dump in which an object refers to a raw one.
+    ensures raw { (old new : Option (List ℕ)) → Concludes SubcommandOf.Dump
+        (flat_map (λ line. line ++ 10 ∷ []) (codes "rheap 2" ∷ codes "roots 1" ∷ codes "1.0 @0"
+        ∷ codes "objects 2" ∷ codes "@0 1 @1" ∷ codes "@1 raw 1 5" ∷ codes "end" ∷ [])) 0 old new
+        → Appends old new (codes "roots 1 objects 2" ++ 10 ∷ []) }
 {
     what_is_spelled_is_read();
 }
