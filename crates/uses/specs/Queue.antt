@@ -17,6 +17,7 @@ lacks_room (problems.Recorder error) = false
 lacks_room (problems.TraceFull error) = false
 lacks_room (problems.OutOfMemory error) = false
 lacks_room (problems.Write error) = false
+lacks_room (problems.Dump error) = false
 lacks_room problems.Answer = false
 
 -- A heap has room for these calls, up to the first that a limit refuses, and there are more epochs

@@ -10,6 +10,7 @@ mod queue;
 mod recorded;
 
 use problem::Problem;
+use std::io;
 use std::process::ExitCode;
 
 /// Each program, and what it came to.
@@ -23,7 +24,7 @@ fn run(rt: &(impl Print + AllocGlobal)) -> Result<(), Problem> {
     println!(rt; "full live {live}")?;
     let cycles = queue::run(alloc, 10_000)?;
     println!(rt; "queue cycles {cycles}")?;
-    let (calls, objects) = recorded::run(alloc)?;
+    let (calls, objects) = recorded::run(alloc, &mut io::writer(rt))?;
     println!(rt; "recorded calls {calls} objects {objects}")?;
     Ok(())
 }

@@ -34,6 +34,9 @@ pub enum Problem {
     /// A write failed.
     #[error("write failed")]
     Write(#[from] io::Error),
+    /// A dump wasn't written whole.
+    #[error("{0}")]
+    Dump(#[from] rh_text::Write),
     /// An answer isn't what the program knows it to be.
     #[error("an answer is wrong")]
     Answer,

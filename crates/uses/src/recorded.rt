@@ -1,12 +1,14 @@
 //! What was done is kept: each call is noted in a history, which a checker that knows no moving
-//! heap then judges, and the graph that the roots reach is counted.
+//! heap then judges, and the graph that the roots reach is written as a dump.
 
 use crate::problem::Problem;
+use rh_dump::write_dump;
 use rh_layout::{Command, Operand, RootId};
 use rh_pace::{Pace, PacedHeap};
 use rh_replay::{Recorder, Verdict, check};
 use rh_trace::graph;
 use std::alloc::Allocator;
+use std::io;
 
 const WORDS: u32 = 256;
 
@@ -18,9 +20,13 @@ const FIRST: RootId = RootId { owner: 1, slot: 0 };
 
 const SECOND: RootId = RootId { owner: 1, slot: 1 };
 
-/// Makes pairs, the new one always referring to the one before, each call noted. Answers how many
-/// calls the checker found right, and how many objects the roots reach.
-pub fn run<A: Allocator + Copy>(alloc: A) -> Result<(u32, u64), Problem> {
+/// Makes pairs, the new one always referring to the one before, each call noted, and writes the
+/// dump of what the roots reach. Answers how many calls the checker found right, and how many
+/// objects the dump has.
+pub fn run<A: Allocator + Copy, W: io::Write>(
+    alloc: A,
+    writer: &mut W,
+) -> Result<(u32, u64), Problem> {
     let pace = Pace::filling(WORDS, OBJECT_WORDS, RATIO)?;
     let mut heap = PacedHeap::new(alloc, pace.config(WORDS, RATIO, 2, 2), pace)?;
     let mut recorder = Recorder::new(alloc, 2, 2, 64)?;
@@ -37,12 +43,13 @@ pub fn run<A: Allocator + Copy>(alloc: A) -> Result<(u32, u64), Problem> {
         dst: FIRST,
         src: SECOND,
     };
-    for _ in 0..16 {
+    for _ in 0..4 {
         for command in [&pair, &link, &keep] {
             noted(&mut heap, &mut recorder, command)?;
         }
     }
     let graph = graph(alloc, heap.heap())?;
+    write_dump(&graph, writer)?;
     match check(alloc, recorder.history())? {
         Verdict::Legal(calls) => Ok((calls, graph.objects())),
         Verdict::Wrong { .. } => Err(Problem::Answer),
