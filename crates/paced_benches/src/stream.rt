@@ -63,7 +63,7 @@ fn code_of(reply: Reply) -> u64 {
     match reply {
         Reply::Done | Reply::Nil => 0,
         Reply::Int(number) => u64::try_from(number.wrapping_add(512)).unwrap_or(0),
-        Reply::Object(fields) => fields.into(),
+        Reply::Object(fields) | Reply::Raw(fields) => fields.into(),
         Reply::Same(is_same) => 1024 + u64::from(is_same),
     }
 }
