@@ -1,0 +1,7 @@
+use Rattle.std.proofs.Common.{rules}
+use Rattle.rh_dump.specs.texts.Reading.{version_or_fault}
+use Rattle.rh_dump.proofs.reading.line_reading.version_or_fault.Goals as goal
+
+pub returns-then-eq : goal.returns-then-eq
+unfolding version_or_fault
+returns-then-eq c = search rules
