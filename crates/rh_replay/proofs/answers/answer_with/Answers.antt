@@ -1,0 +1,7 @@
+use Rattle.std.proofs.Common.{rules}
+use Rattle.rh_replay.specs.Reading.{answer_with}
+use Rattle.rh_replay.proofs.answers.answer_with.Goals as goal
+
+pub returns-then-eq-3 : goal.returns-then-eq-3
+unfolding answer_with
+returns-then-eq-3 c = search rules
