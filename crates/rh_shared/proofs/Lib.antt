@@ -6,3 +6,4 @@ pub mod NewLinks
 pub mod GrownShares
 pub mod CallPairs
 pub mod OneReason
+pub mod Partings

@@ -110,6 +110,25 @@ WhyNotClosed owners ms calls close_errors.SharesMissing = ¬ IsOneEach owners ms
 WhyNotClosed owners ms calls (close_errors.HistoryDiffers owner at) =
     IsOneEach owners ms × HistoryDiffersAt ms calls owner at
 
+-- Words of laws.
+
+-- two lists don't begin alike: one alone has ended, or their first calls are two
+abbrev pub BeginApart : List Call → List Call → Type 0
+BeginApart [] [] = ⊥
+BeginApart [] (call ∷ calls) = Unit {0}
+BeginApart (call ∷ calls) [] = Unit {0}
+BeginApart (call ∷ calls) (other ∷ others) = call ≢ other
+
+-- two lists have a beginning in common, and part at this place, which is the next one after it
+pub record PartAt (xs ys : List Call) (at : ℕ) : Type 0 where
+  pub common : List Call
+  pub of_xs : List Call
+  pub of_ys : List Call
+  pub xs_go : xs ≡ common ++ of_xs
+  pub ys_go : ys ≡ common ++ of_ys
+  pub next : length common + 1 ≡ at
+  pub apart : BeginApart of_xs of_ys
+
 -- Words of the comparison alone.
 
 -- whether each mutator is for one of so many owners

@@ -8,9 +8,10 @@ ghost use Rattle.rh_layout.specs.declared.refusal.Refusal.{Refusal};
 ghost use Rattle.rh_core.specs.Commands.{heap_step};
 ghost use Rattle.rh_replay.specs.declared.call.Call.{Call};
 ghost use Rattle.rh_shared.specs.declared.closing.CloseError.{CloseError as CloseErrorOf};
+ghost use Rattle.rh_shared.specs.declared.closing.CloseError.TheVariants as close_errors;
 ghost use Rattle.rh_shared.specs.declared.kept.CallError.TheVariants as call_errors;
 ghost use Rattle.rh_shared.specs.Kept.{CallMeets, KeptState, kept_call, kept_increment, with_noted};
-ghost use Rattle.rh_shared.specs.Shares.{HasShares, IsOneEach, MutatorState, WhyNotClosed, first_mutators, with_answer};
+ghost use Rattle.rh_shared.specs.Shares.{HasShares, IsOneEach, MutatorState, PartAt, WhyNotClosed, calls_of, first_mutators, share_of, with_answer};
 ghost use Rattle.rh_increment.specs.Collector.{with_heap};
 ghost use Rattle.rh_increment.specs.Increment.{increment, Meets, Met};
 
@@ -93,4 +94,13 @@ pub fn one_reason_at_most_keeps_a_heap_open()
     ensures none { (owners : ℕ) (mutators : List MutatorState) (calls : List Call)
         (why : CloseErrorOf) → IsOneEach owners mutators → HasShares mutators calls
         → ¬ WhyNotClosed owners mutators calls why }
+{}
+
+/// The place that `HistoryDiffers` tells is counted from 1: as many calls as it tells, less one, are
+/// the same in the owner's share and among its calls in the history, and at the place itself the two
+/// have different calls, or one of them has ended. So it is 1 where the first calls differ already.
+pub fn a_difference_is_told_by_its_place_from_1()
+    ensures { (owners owner at : ℕ) (mutators : List MutatorState) (calls : List Call)
+        → WhyNotClosed owners mutators calls (close_errors.HistoryDiffers owner at)
+        → PartAt (share_of owner mutators) (calls_of owner calls) at }
 {}
