@@ -14,12 +14,13 @@ use Rattle.rh_core.specs.Commands.{heap_step}
 use Rattle.rh_replay.specs.declared.call.Call.{Call}
 use Rattle.rh_replay.specs.History.{HistoryState, RecorderState, empty_history, with_call}
 use Rattle.rh_replay.specs.Legal.{IsLegal, replay}
+use Rattle.rh_shared.specs.declared.kept.CallError.{CallError}
 use Rattle.rh_shared.specs.declared.kept.CallError.TheVariants as call_errors
 use Rattle.rh_increment.specs.declared.did.Did.{Did}
 use Rattle.rh_increment.specs.Collector.{CollectorState, with_heap}
 use Rattle.rh_increment.specs.Collected.{IsCollected, most_units}
 use Rattle.rh_increment.specs.Increment.{increment, Meets, Met}
-use Rattle.rh_shared.specs.Kept.{CallMeets, IsKept, KeptState, full_refusal, kept_call, kept_increment, refused_where, with_command, with_noted}
+use Rattle.rh_shared.specs.Kept.{CallMeets, IsKept, KeptState, full_refusal, kept_call, kept_increment, noted_unless, refused_where, with_command, with_noted}
 
 -- What the law of legal histories says.
 pub record HistoryLaws : Type 0 where
@@ -54,6 +55,21 @@ IsKept-limited h before after owner command answer was limited stands = record {
   legal = was.legal;
   stands = subst (λ b. StandsFor after.mutators (plain_unless b (replay h) owner command)) limited stands;
 }
+
+-- Whether it is noted or not.
+pub IsKept-noted_unless : (laws : HistoryLaws) (h : HistoryState) (before after : HeapState) (owner : ℕ) (command : Command) (answer : Result Reply Refusal)
+    → IsKept h before
+    → AnswersAs answer (step (replay h) owner command).1
+    → StandsFor after.mutators (plain_unless (is_limit_answer answer) (replay h) owner command)
+    → IsKept (noted_unless (is_limit_answer answer) h (record { owner = owner; command = command; answer = answer })) after
+IsKept-noted_unless laws h before after owner command answer was answered stands = by_test (is_limit_answer answer) refl
+  where
+    call : Call
+    call = record { owner = owner; command = command; answer = answer }
+
+    by_test : (b : Bool) → is_limit_answer answer ≡ b → IsKept (noted_unless b h call) after
+    by_test true limited = IsKept-limited h before after owner command answer was limited stands
+    by_test false kept = IsKept-noted laws h before after owner command answer was kept answered stands
 
 -- An increment.
 
@@ -146,6 +162,25 @@ call-limited met k owner command refusal one room answer state limited =
     let which : refused_where (is_limit refusal) (with_command k owner command) owner command refusal ≡ with_command k owner command =
     ap (λ b. refused_where b (with_command k owner command) owner command refusal) limited in
     cc
+
+-- a refused call, whether it is noted or not
+pub call-unless : {A : Type 0} (met : Met) (k : KeptState A) (owner : ℕ) (command : Command) (refusal : Refusal) (one : CollectorState A) (noted : RecorderState)
+    → length k.recorder.history.calls < k.recorder.limit → Err refusal ≡ (heap_step k.collector.heap owner command).1
+    → one ≡ with_heap k.collector (heap_step k.collector.heap owner command).0
+    → noted.history ≡ noted_unless (is_limit refusal) k.recorder.history (record { owner = owner; command = command; answer = Err refusal }) → noted.limit ≡ k.recorder.limit
+    → (record { collector = one; recorder = noted; last = k.last }, Err (call_errors.Heap refusal)) ≡ kept_call met k owner command
+call-unless {A} met k owner command refusal one noted room answer state history limit = by_test (is_limit refusal) refl history
+  where
+    call : Call
+    call = record { owner = owner; command = command; answer = Err refusal }
+
+    with_recorder : RecorderState → KeptState A × Result Reply CallError
+    with_recorder r = (record { collector = one; recorder = r; last = k.last }, Err (call_errors.Heap refusal))
+
+    by_test : (b : Bool) → is_limit refusal ≡ b → noted.history ≡ noted_unless b k.recorder.history call → with_recorder noted ≡ kept_call met k owner command
+    by_test true limited same =
+        ap with_recorder (recorder_is noted k.recorder.history k.recorder.limit same limit) ∙ call-limited met k owner command refusal one room answer state limited
+    by_test false kept grown = call-refused met k owner command refusal one noted room answer state kept grown limit
 
 -- What an accepted call's increment folds, and where there is none.
 

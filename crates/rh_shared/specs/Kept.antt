@@ -8,6 +8,7 @@ use Rattle.rh_layout.specs.declared.refusal.Refusal.{Refusal}
 use Rattle.rh_mutator.specs.Mutator.{StandsFor}
 use Rattle.rh_core.specs.Heap.{HeapState}
 use Rattle.rh_core.specs.Commands.{heap_step}
+use Rattle.rh_replay.specs.declared.call.Call.{Call}
 use Rattle.rh_replay.specs.History.{HistoryState, RecorderState, with_call}
 use Rattle.rh_replay.specs.Legal.{IsLegal, replay}
 use Rattle.rh_increment.specs.declared.did.Did.{Did}
@@ -24,6 +25,11 @@ pub record KeptState (A : Type 0) : Type 0 where
   pub collector : CollectorState A
   pub recorder : RecorderState
   pub last : Did
+
+-- a call is added to a history unless it was refused for a limit
+abbrev pub noted_unless : Bool → HistoryState → Call → HistoryState
+noted_unless true history call = history
+noted_unless false history call = with_call history call
 
 -- The recorded history is legal, and the heap stands for its replay.
 pub record IsKept (history : HistoryState) (h : HeapState) : Type 0 where

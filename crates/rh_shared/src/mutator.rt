@@ -80,9 +80,7 @@ impl<A: Allocator + Copy> Mutator<A> {
             Ok(reply) => note(&mut self.share, self.owner, command, Ok(reply)),
             Err(CallError::TraceFull) => {}
             Err(CallError::Heap(refusal)) => {
-                if !refusal.is_limit() {
-                    note(&mut self.share, self.owner, command, Err(refusal));
-                }
+                note(&mut self.share, self.owner, command, Err(refusal));
             }
         }
     }
