@@ -129,6 +129,15 @@ differs-at_end found share all few goes =
 pub same-at_end : (found : ℕ) (share all : List Call) → length share ≤ found → Goes found share [] all → share ≡ all
 same-at_end found share all few goes = sym (take-whole found share few) ∙ sym (append-nothing (take found share)) ∙ goes
 
+-- one owner more
+pub shares-through : (n : ℕ) (ms : List MutatorState) (calls : List Call) → ((o : ℕ) → o < n → share_of o ms ≡ calls_of o calls) → share_of n ms ≡ calls_of n calls
+    → (o : ℕ) → o < n + 1 → share_of o ms ≡ calls_of o calls
+shares-through n ms calls below here o less = by_test (nat_lt o n) refl
+  where
+    by_test : (b : Bool) → nat_lt o n ≡ b → share_of o ms ≡ calls_of o calls
+    by_test true e = below o (ltb-true o n e)
+    by_test false e = let same : n ≡ o = omega (arith, ltb-false o n e, less) in subst (λ p. share_of p ms ≡ calls_of p calls) same here
+
 -- Mutators of an owner.
 
 pub next-share-own : (owner i : ℕ) (ms : List MutatorState) (m : MutatorState) → i < length ms → m ≡ get_or ms i m → (m.owner == owner) ≡ true

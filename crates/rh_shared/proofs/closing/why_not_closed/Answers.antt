@@ -4,7 +4,7 @@ use Rattle.rh_core.specs.Heap.{HeapState}
 use Rattle.rh_replay.specs.declared.call.Call.{Call}
 use Rattle.rh_replay.specs.History.{HistoryState}
 use Rattle.rh_shared.specs.Shares.{HasShares, HistoryDiffersAt, IsOneEach}
-use Rattle.rh_shared.proofs.Differences.{stranger-differs, stranger-none}
+use Rattle.rh_shared.proofs.Differences.{shares-through, stranger-differs, stranger-none}
 use Rattle.rh_shared.proofs.closing.why_not_closed.Goals as goal
 
 -- the owners and the calls that were compared are those of what the lock held
@@ -53,3 +53,6 @@ returns-in-Some-clause-why g c =
       subst (λ n. IsOneEach n ms) owners_are each,
       subst (λ (cs : List Call). HistoryDiffersAt ms cs c.loop-owner.owner c.in-Some.at) calls_are differs,
     )
+
+pub loop-owner-preserved : goal.loop-owner-preserved
+loop-owner-preserved g c = shares-through c.loop-owner.owner c.args.mutators.now c.calls-calls.result.now c.loop-owner.invariant c.in_default.ensures.same
