@@ -3,7 +3,6 @@
 mod cycle;
 mod giving;
 mod heap;
-mod random_events;
 mod raw_objects;
 mod runs;
 mod schedules;

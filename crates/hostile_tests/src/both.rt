@@ -1,0 +1,332 @@
+//! A heap, the heap that never moves beside it, and an account of its cycle.
+
+use crate::account::{Account, Answer};
+use crate::expectations::{expect_equal, expect_same_dump};
+use crate::numbers::Numbers;
+use rh_core::{Config, GiveError, Heap, Kind, Shaded, Stat};
+use rh_layout::{Item, RootId, Value};
+use rh_model::{CommandError, Plain};
+use rh_partial::{PartialReplica, Piece, fold};
+use std::alloc::Allocator;
+use std::process::Abort;
+
+/// The words of a space.
+const WORDS: u32 = 128;
+
+/// The sizes of a heap of two owners and the shared slots: the ends of its words, its log and its
+/// credit are met often, and those of its numbers and epochs aren't.
+pub const TIGHT: Config = Config {
+    words: WORDS,
+    ratio: 48,
+    owners: 3,
+    slots: 4,
+    log_limit: 8,
+    last_number: 1 << 62,
+    last_epoch: 1 << 62,
+};
+
+/// How often something came about.
+#[derive(Drop)]
+pub struct Counts {
+    /// Gives by their answers, in the order of the refusals, those that were accepted last.
+    pub gives: [u64; 8],
+    /// Answers that weren't limits'.
+    pub commands: u64,
+    /// Recalls that were accepted.
+    pub recalls: u64,
+    /// Cycles that were abandoned and had placed something.
+    pub abandons: u64,
+    /// Idle words that were accepted.
+    pub idles: u64,
+    /// Pieces that were lost.
+    pub lost: u64,
+}
+
+/// The place of an answer among the counts of gives.
+fn place_of(answer: Answer) -> usize {
+    match answer {
+        Err(GiveError::NoCycle) => 0,
+        Err(GiveError::StaleEpoch { .. }) => 1,
+        Err(GiveError::TooMany) => 2,
+        Err(GiveError::CreditShort { .. }) => 3,
+        Err(GiveError::Stranger { .. }) => 4,
+        Err(GiveError::FromFuture { .. }) => 5,
+        Err(GiveError::Forged { .. }) => 6,
+        Ok(_) => 7,
+    }
+}
+
+/// One more.
+fn count(number: &mut u64) {
+    *number = number.saturating_add(1);
+}
+
+/// Gives a replica. The answer is the one that the account of the cycle expects, and a refused one
+/// changes what was spent alone.
+fn give<A: Allocator + Copy>(
+    rt: &impl Abort,
+    heap: &mut Heap<A>,
+    account: &mut Account<A>,
+    replica: &PartialReplica<A>,
+) -> Answer {
+    let before = heap.stat();
+    let (answer, units) = account.give(rt, heap, replica);
+    expect_equal(rt, heap.give(replica), answer);
+    let after = heap.stat();
+    expect_equal(rt, after.spent, before.spent.saturating_add(units));
+    if answer.is_err() {
+        let spent = before.spent;
+        expect_equal(rt, Stat { spent, ..after }, before);
+    }
+    answer
+}
+
+/// A heap, the plain heap beside it, and an account of its cycle.
+#[derive(Drop)]
+pub struct Both<A: Allocator + Copy> {
+    memory: A,
+    pub heap: Heap<A>,
+    plain: Plain<A>,
+    account: Account<A>,
+    /// What was dealt: given in any order, late and again.
+    replicas: Vec<PartialReplica<A>, A>,
+    pub counts: Counts,
+}
+
+impl<A: Allocator + Copy> Both<A> {
+    /// New heaps.
+    pub fn new(rt: &impl Abort, memory: A) -> Both<A> {
+        Both {
+            memory,
+            heap: Heap::new(memory, TIGHT).ok().expect(rt, "a heap"),
+            plain: Plain::new(memory, TIGHT.owners, TIGHT.slots)
+                .ok()
+                .expect(rt, "a plain heap"),
+            account: Account::new(memory),
+            replicas: Vec::new(memory),
+            counts: Counts {
+                gives: [0; 8],
+                commands: 0,
+                recalls: 0,
+                abandons: 0,
+                idles: 0,
+                lost: 0,
+            },
+        }
+    }
+
+    /// An owner's command, whose answer is the plain heap's unless it is a limit's.
+    fn command(&mut self, rt: &impl Abort, numbers: &mut Numbers) {
+        let owner = 1 + numbers.below(2);
+        let command = numbers.command(owner);
+        let answer = self.heap.command(owner, &command);
+        if !matches!(answer, Err(refusal) if refusal.is_limit()) {
+            let plain = self.plain.command(owner, &command);
+            expect_equal(rt, plain, answer.map_err(CommandError::Refused));
+            count(&mut self.counts.commands);
+        }
+    }
+
+    /// A root is shaded.
+    fn shade(&mut self, rt: &impl Abort, root: RootId) {
+        if self.heap.shade(root) == Ok(Shaded::Placed) {
+            self.account.note_placed(rt, self.heap.root(root));
+        }
+    }
+
+    /// A piece is dealt and taken into a replica of its own. Of six replicas all are given for the
+    /// last time, or lost: what was dealt isn't dealt again but after a recall.
+    fn deal(&mut self, rt: &impl Abort, kind: Kind, most: u32, loses: bool) {
+        let Ok(dealt) = self.heap.deal(kind, most) else {
+            return;
+        };
+        if self.replicas.len() == 6 {
+            if loses {
+                count(&mut self.counts.lost);
+            } else {
+                for i in 0..6 {
+                    self.give(rt, i);
+                }
+            }
+            self.replicas.clear();
+        }
+        let empty = PartialReplica::empty(self.memory, dealt.piece.epoch());
+        let replica = empty.take(&dealt.piece).ok().expect(rt, "memory is ample");
+        self.replicas
+            .push(replica)
+            .ok()
+            .expect(rt, "memory is ample");
+    }
+
+    /// A replica that was dealt is given.
+    fn give(&mut self, rt: &impl Abort, chosen: usize) {
+        if let Some(replica) = self.replicas.get(chosen) {
+            let _ = give(rt, &mut self.heap, &mut self.account, replica);
+        }
+    }
+
+    /// The cycle ends, where it can, and the graph is that of the plain heap.
+    fn flip(&mut self, rt: &impl Abort) {
+        let missing = self.account.missing(&self.heap);
+        if self.heap.flip().is_ok() {
+            expect_equal(rt, missing, 0);
+            self.account.clear();
+            expect_same_dump(rt, self.memory, &self.heap, &self.plain);
+        }
+    }
+
+    /// All that was dealt is undealt; the replicas are of an earlier epoch then.
+    fn recall(&mut self) {
+        if self.heap.recall().is_ok() {
+            count(&mut self.counts.recalls);
+        }
+    }
+
+    /// The cycle ends without a flip.
+    fn abandon(&mut self, rt: &impl Abort) {
+        let placed = self.account.placed.len() as u64;
+        if let Ok(forgotten) = self.heap.abandon() {
+            expect_equal(rt, u64::from(forgotten), placed);
+            self.account.clear();
+            if placed > 0 {
+                count(&mut self.counts.abandons);
+            }
+        }
+    }
+
+    /// The collector has some idle words.
+    fn idle(&mut self, words: u32) {
+        if self.heap.idle(words.into()).is_ok() {
+            count(&mut self.counts.idles);
+        }
+    }
+
+    /// What the roots refer to is placed, all is dealt and given, and the cycle ends.
+    fn end(&mut self, rt: &impl Abort) {
+        for owner in 0..TIGHT.owners {
+            for slot in 0..TIGHT.slots {
+                self.shade(rt, RootId { owner, slot });
+            }
+        }
+        for _ in 0..20u32 {
+            for kind in [Kind::Copies, Kind::Entries] {
+                self.deal(rt, kind, 64, false);
+                let last = self.replicas.len().saturating_sub(1);
+                self.give(rt, last);
+            }
+        }
+        self.flip(rt);
+    }
+
+    /// An event that isn't a command, or all that a cycle's end takes.
+    fn collect(&mut self, rt: &impl Abort, numbers: &mut Numbers) {
+        match numbers.below(16) {
+            0 | 1 | 2 => {
+                let _ = self.heap.begin();
+            }
+            3 => self.shade(rt, numbers.root(1)),
+            4 | 5 | 6 => {
+                let kind = numbers.kind();
+                self.deal(rt, kind, numbers.below(8), numbers.has(3));
+            }
+            7 | 8 => self.give(rt, numbers.below(6) as usize),
+            9 => self.flip(rt),
+            10 => self.recall(),
+            11 => self.abandon(rt),
+            12 => self.idle(numbers.below(50)),
+            _ => self.end(rt),
+        }
+    }
+
+    /// An object that is placed, where one is.
+    fn placed(&self, numbers: &mut Numbers) -> Option<u32> {
+        let count = u32::try_from(self.account.placed.len()).unwrap_or(0);
+        if count == 0 {
+            return None;
+        }
+        self.account
+            .placed
+            .get(numbers.below(count) as usize)
+            .copied()
+    }
+
+    /// An entry as it stands at a placed object, or one of which a part is made up: with so many
+    /// chances to none, one for each part. Of this field, where one is asked for.
+    fn entry(&self, numbers: &mut Numbers, chances: u32, at: Option<u32>) -> Item {
+        let part = numbers.below(4 + chances);
+        let mut object = numbers.address(WORDS);
+        if part != 0 {
+            object = self.placed(numbers).unwrap_or(object);
+        }
+        let fields = self.heap.fields(object).unwrap_or(0);
+        let field = match at {
+            Some(field) => field,
+            None if fields == 0 || part == 1 => numbers.address(4),
+            None => numbers.below(fields),
+        };
+        let current = self.heap.field(object, field);
+        let (mut number, mut value) = current.unwrap_or((1, Value::Nil));
+        if part == 2 {
+            number = numbers.other_number(number);
+        }
+        if part == 3 {
+            value = numbers.value(WORDS);
+        }
+        Item {
+            object,
+            field,
+            number,
+            value,
+        }
+    }
+
+    /// A replica that nobody dealt: of the heap's epoch or one beside it, with no entry, a few, or
+    /// some 64.
+    fn invented(&self, rt: &impl Abort, numbers: &mut Numbers) -> PartialReplica<A> {
+        let is = self.heap.epoch();
+        let epoch = match numbers.below(12) {
+            0 => is.saturating_sub(1),
+            1 => is.saturating_add(1),
+            _ => is,
+        };
+        let (crowd, chances) = (numbers.has(1), numbers.below(3) * 16);
+        let entries = if crowd {
+            62 + numbers.below(4)
+        } else {
+            numbers.below(6)
+        };
+        let mut first = Piece::new(epoch);
+        let mut second = Piece::new(epoch);
+        for i in 0..entries {
+            let at = if crowd { Some(i) } else { None };
+            let entry = self.entry(numbers, chances, at);
+            if first.push(entry).is_err() {
+                let _ = second.push(entry);
+            }
+        }
+        fold(self.memory, epoch, &[first, second])
+            .ok()
+            .expect(rt, "memory is ample")
+    }
+
+    /// An invented replica is given.
+    fn invent(&mut self, rt: &impl Abort, numbers: &mut Numbers) {
+        let replica = self.invented(rt, numbers);
+        let answer = give(rt, &mut self.heap, &mut self.account, &replica);
+        if let Some(number) = self.counts.gives.get_mut(place_of(answer)) {
+            count(number);
+        }
+    }
+
+    /// One event of any kind. What is missing and what is placed are as the account has them.
+    pub fn live(&mut self, rt: &impl Abort, numbers: &mut Numbers) {
+        match numbers.below(4) {
+            0 | 1 => self.command(rt, numbers),
+            2 => self.collect(rt, numbers),
+            _ => self.invent(rt, numbers),
+        }
+        let stat = self.heap.stat();
+        expect_equal(rt, stat.missing, self.account.missing(&self.heap));
+        expect_equal(rt, stat.placed, self.account.placed.len() as u64);
+    }
+}

@@ -1,0 +1,40 @@
+//! What a test expects.
+
+use rh_core::Heap;
+use rh_dump::limits::MAX_OBJECTS;
+use rh_dump::{plain_graph, same_text};
+use rh_model::Plain;
+use rh_trace::graph;
+use std::alloc::Allocator;
+use std::fmt::Debug;
+use std::process::Abort;
+
+/// Ends the test unless the two are equal, and shows both then.
+pub fn expect_equal<T: PartialEq + Debug + Drop>(rt: &impl Abort, left: T, right: T) {
+    assert_eq!(rt; left, right);
+}
+
+/// Ends the test unless each of these was counted so often or more.
+pub fn expect_each(rt: &impl Abort, counts: &[u64], least: u64) {
+    assert!(rt; counts.iter().all(|count| *count >= least), "{counts:?}");
+}
+
+/// Ends the test unless so many allocations or more were refused in turn.
+pub fn expect_refusals(rt: &impl Abort, refused: Result<u64, u64>, least: u64) {
+    assert!(rt; refused.is_ok_and(|n| n >= least), "{refused:?}");
+}
+
+/// Ends the test unless a heap and a plain heap have the same dump.
+pub fn expect_same_dump<A: Allocator + Copy>(
+    rt: &impl Abort,
+    memory: A,
+    heap: &Heap<A>,
+    plain: &Plain<A>,
+) {
+    if plain.objects() <= MAX_OBJECTS as usize {
+        let moving = graph(memory, heap).ok().expect(rt, "memory is ample");
+        let still = plain_graph(memory, plain);
+        let still = still.ok().expect(rt, "memory is ample");
+        assert!(rt; same_text(&moving, &still));
+    }
+}

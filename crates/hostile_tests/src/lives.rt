@@ -1,0 +1,132 @@
+//! Heaps that live long in a small space.
+
+use crate::both::Both;
+use crate::expectations::{expect_each, expect_equal, expect_same_dump};
+use crate::numbers::Numbers;
+use rh_core::Config;
+use rh_layout::{Command, Refusal, Reply};
+use rh_model::{CommandError, Plain};
+use rh_pace::{Pace, PacedHeap};
+use std::alloc::{Allocator, Global};
+use std::process::Abort;
+
+/// More events than a thousand cycles take.
+const MANY: u32 = 400_000;
+
+/// A heap whose collector does anything at any moment, gives what nobody dealt, loses pieces, recalls
+/// and abandons: each answer is that of the heap that never moves, or the definition's.
+#[test]
+fn a_heap_through_a_thousand_cycles(rt: HostRuntime) {
+    let mut both = Both::new(&rt, rt.alloc());
+    let mut numbers = Numbers { state: 1 };
+    for _ in 0..MANY {
+        if both.heap.stat().flips < 1000 {
+            both.live(&rt, &mut numbers);
+        }
+    }
+    expect_equal(&rt, both.heap.stat().flips, 1000);
+    let counts = &both.counts;
+    expect_each(&rt, &counts.gives, 50);
+    expect_each(&rt, &[counts.commands], 10_000);
+    let collected = [counts.recalls, counts.abandons, counts.idles, counts.lost];
+    expect_each(&rt, &collected, 100);
+}
+
+/// The sizes of a heap whose limits are met now and then.
+const SMALL: Config = Config {
+    words: 64,
+    ratio: 8,
+    owners: 3,
+    slots: 4,
+    log_limit: 8,
+    last_number: 1 << 62,
+    last_epoch: 1 << 62,
+};
+
+/// A cycle begins where fewer than half of the words are free.
+const PACE: Pace = Pace {
+    mark: 40,
+    store_units: 8,
+    log_limit: 8,
+};
+
+/// A paced heap, the heap that never moves beside it, and what was counted.
+#[derive(Drop)]
+struct Paced {
+    paced: PacedHeap<Global>,
+    plain: Plain<Global>,
+    /// Answers that weren't limits', and those that were.
+    answers: u64,
+    limits: u64,
+    /// Flips by `collect`.
+    collected: u64,
+}
+
+impl Paced {
+    /// A command, or one that is insisted on, which is never told that the log is full.
+    fn ask(&mut self, owner: u32, command: &Command, insists: bool) -> Result<Reply, Refusal> {
+        if insists {
+            self.paced.insist(owner, command)
+        } else {
+            self.paced.command(owner, command)
+        }
+    }
+
+    /// A command, whose answer is the plain heap's unless it is a limit's.
+    fn command(&mut self, rt: &impl Abort, numbers: &mut Numbers) {
+        let owner = 1 + numbers.below(2);
+        let command = numbers.command(owner);
+        let insists = numbers.has(1);
+        let answer = self.ask(owner, &command, insists);
+        if matches!(answer, Err(refusal) if refusal.is_limit()) {
+            assert!(rt; !insists || answer != Err(Refusal::LogFull));
+            self.limits = self.limits.saturating_add(1);
+            return;
+        }
+        let plain = self.plain.command(owner, &command);
+        expect_equal(rt, plain, answer.map_err(CommandError::Refused));
+        self.answers = self.answers.saturating_add(1);
+    }
+
+    /// An increment beside a command, or a collection on demand, now and then.
+    fn collect<R: AllocGlobal + Abort>(&mut self, rt: &R, numbers: &mut Numbers) {
+        match numbers.below(500) {
+            0 => {
+                let _ = self.paced.increment();
+            }
+            1 => {
+                assert!(rt; self.paced.collect().is_ok());
+                self.collected = self.collected.saturating_add(1);
+                expect_same_dump(rt, rt.alloc(), self.paced.heap(), &self.plain);
+            }
+            _ => {}
+        }
+    }
+}
+
+#[test]
+fn a_paced_heap_through_a_thousand_cycles(rt: HostRuntime) {
+    let mut paced = Paced {
+        paced: PacedHeap::new(rt.alloc(), SMALL, PACE)
+            .ok()
+            .expect(&rt, "a heap"),
+        plain: Plain::new(rt.alloc(), SMALL.owners, SMALL.slots)
+            .ok()
+            .expect(&rt, "a plain heap"),
+        answers: 0,
+        limits: 0,
+        collected: 0,
+    };
+    let mut numbers = Numbers { state: 2 };
+    for _ in 0..MANY {
+        if paced.paced.stat().flips < 1000 {
+            paced.command(&rt, &mut numbers);
+            paced.collect(&rt, &mut numbers);
+        }
+    }
+    expect_equal(&rt, paced.paced.stat().flips, 1000);
+    expect_each(&rt, &[paced.answers], 10_000);
+    expect_each(&rt, &[paced.limits, paced.collected], 10);
+    assert!(rt; paced.collected < 300, "{}", paced.collected);
+    expect_same_dump(&rt, rt.alloc(), paced.paced.heap(), &paced.plain);
+}

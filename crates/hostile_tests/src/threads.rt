@@ -1,0 +1,60 @@
+//! Four mutators and four replicators, in a small space with small rings.
+
+use crate::expectations::{expect_each, expect_equal};
+use crate::numbers::Numbers;
+use rh_replay::{Verdict, check, read_history};
+use rh_shared_trace::{RunOptions, run_shared};
+use rh_trace::write_command;
+use std::process::Abort;
+use std::sync::Wait;
+use std::test::Fail;
+use std::thread::Threads;
+
+/// A trace of 2,000 commands of four owners.
+fn trace<R: AllocGlobal + Abort>(rt: &R, numbers: &mut Numbers) -> Result<Vec<u8>, Fail> {
+    let mut text = Vec::new(rt.alloc());
+    text.extend_from_slice(b"heap 192 32 16 5 4\n")?;
+    for _ in 0..2000u32 {
+        let owner = 1 + numbers.below(4);
+        let command = numbers.command(owner);
+        assert!(rt; write_command(owner, &command, &mut text).is_ok());
+        text.push(b'\n')?;
+    }
+    Ok(text)
+}
+
+/// Plays a trace in threads: the heap closes with the calls of all, and the history that it printed
+/// is legal. Answers how many calls that has.
+fn play<R: AllocGlobal + Abort + Threads + Wait + Sync>(
+    rt: &R,
+    text: &[u8],
+    idle: u32,
+) -> Result<u64, Fail> {
+    let options = RunOptions {
+        replicators: 4,
+        idle,
+    };
+    let mut written = Vec::new(rt.alloc());
+    let ended = run_shared(rt, rt.alloc(), &mut { text }, &mut written, options);
+    expect_equal(rt, ended, Ok(()));
+    let history = read_history(rt.alloc(), &written).ok().ok_or("a history")?;
+    let Some(Verdict::Legal(calls)) = check(rt.alloc(), &history).ok() else {
+        return Err(Fail::from("the history isn't legal"));
+    };
+    expect_equal(rt, calls as usize, history.calls().len());
+    Ok(calls.into())
+}
+
+#[test]
+fn four_mutators_and_four_replicators(rt: HostRuntime) -> Result<(), Fail> {
+    let mut numbers = Numbers { state: 3 };
+    let mut runs: u64 = 0;
+    for _ in 0..10u32 {
+        let text = trace(&rt, &mut numbers)?;
+        let calls = play(&rt, &text, numbers.below(4))?;
+        expect_each(&rt, &[calls], 1000);
+        runs = runs.saturating_add(1);
+    }
+    expect_equal(&rt, runs, 10);
+    Ok(())
+}
