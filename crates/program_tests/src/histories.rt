@@ -2,7 +2,6 @@
 
 use crate::devices::SlowWriter;
 use crate::expectations::{expect_equal, expect_refusals};
-use crate::program::driving::{REPLAY, drives_to};
 use crate::texts::{
     RAW_HISTORY, RAW_HISTORY_REPORT, RIGHT, RIGHT_REPORT, WRONG, WRONG_REPORT, repeated,
 };
@@ -15,9 +14,7 @@ use rh_replay::{
 use rh_trace::{Kind, Write, command_of, write_answer, write_command};
 use std::alloc::Allocator;
 use std::process::Abort;
-use std::sync::Wait;
 use std::test::Fail;
-use std::thread::Threads;
 
 /// A history whose third answer is another number, and the report on it.
 const OTHER_NUMBER: &[u8] =
@@ -161,28 +158,6 @@ fn is_refused_a_recorder<A: Allocator + Copy>(rt: &impl Abort, memory: A) -> boo
 fn refused_memory_of_recorders(rt: HostRuntime) {
     let refused = refused_in_turn(rt.alloc(), |memory| is_refused_a_recorder(&rt, memory));
     expect_refusals(&rt, refused, 1);
-}
-
-/// What is told of a history that was cut after so many bytes.
-fn expect_cut<R: AllocGlobal + Abort + Threads + Wait + Sync>(rt: &R, text: &[u8]) {
-    let ends = text.iter().filter(|byte| **byte == b'\n').count();
-    let kind = if text.is_empty() {
-        "Empty"
-    } else if text.ends_with(b"\n") {
-        "End"
-    } else {
-        "Cut"
-    };
-    let told = format!(in rt.alloc(); "rheap: line {}: {kind}\n", (ends as u64).saturating_add(1));
-    let told = told.expect(rt, "memory is ample");
-    drives_to(rt, &REPLAY, text, 1, b"", told.as_bytes());
-}
-
-#[test]
-fn a_history_cut_after_each_byte(rt: HostRuntime) {
-    for count in 0..RIGHT.len() {
-        expect_cut(&rt, &RIGHT[..count]);
-    }
 }
 
 /// How many calls a history of this text has, or the fault of the text and its line.

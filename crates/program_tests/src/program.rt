@@ -2,6 +2,7 @@
 
 mod command_line;
 pub mod driving;
+mod failing;
 mod faults;
 mod paced;
 mod terminal;

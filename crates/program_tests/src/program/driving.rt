@@ -1,12 +1,11 @@
 //! The program's commands, over a text and two writers.
 
 use crate::devices::{Broken, InterruptedReader, Unflushed};
-use crate::expectations::{expect_equal, expect_refusals};
+use crate::expectations::expect_equal;
 use crate::texts::{
     RIGHT, RIGHT_REPORT, STORED, STORED_HISTORY, TWO_FLIPS, TWO_FLIPS_ANSWERS, WITHOUT_FIELDS,
     WITHOUT_FIELDS_ANSWERS, WRONG, WRONG_REPORT,
 };
-use refusing::refused_in_turn;
 use rh_cli::{Ask, Subcommand, drive};
 use std::alloc::Allocator;
 use std::process::Abort;
@@ -18,12 +17,12 @@ pub const RUN: Ask<'static> = Ask {
     file: "-",
 };
 
-const PACED: Ask<'static> = Ask {
+pub const PACED: Ask<'static> = Ask {
     subcommand: Subcommand::RunPaced { mark: None },
     file: "-",
 };
 
-const THREADS: Ask<'static> = Ask {
+pub const THREADS: Ask<'static> = Ask {
     subcommand: Subcommand::Threads {
         replicators: 2,
         idle: 0,
@@ -144,7 +143,7 @@ fn reads_of_dumps_end(rt: HostRuntime) {
 
 /// Does what is asked. Answers whether memory was refused: then standard error says so, and to
 /// standard output a prefix of the answers is written, without their last line.
-fn is_refused<R: AllocGlobal + Abort + Threads + Wait + Sync, A: Allocator + Copy + Send>(
+pub fn is_refused<R: AllocGlobal + Abort + Threads + Wait + Sync, A: Allocator + Copy + Send>(
     rt: &R,
     memory: A,
     &(ask, text, answers): &(Ask<'static>, &[u8], &[u8]),
@@ -160,12 +159,4 @@ fn is_refused<R: AllocGlobal + Abort + Threads + Wait + Sync, A: Allocator + Cop
     assert!(rt; answers.starts_with(out.as_slice()) && out.len() < answers.len());
     expect_equal(rt, err.as_slice(), b"rheap: out of memory\n".as_slice());
     true
-}
-
-#[test]
-fn refused_memory(rt: HostRuntime) {
-    for asked in ASKED {
-        let refused = refused_in_turn(rt.alloc(), |memory| is_refused(&rt, memory, asked));
-        expect_refusals(&rt, refused, 3);
-    }
 }

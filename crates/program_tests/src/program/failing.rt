@@ -1,0 +1,321 @@
+//! Each command of the program over texts that are cut, devices that fail, and memory that is
+//! refused, at each place in turn.
+
+use crate::devices::{SlowReader, SlowWriter};
+use crate::expectations::{expect_equal, expect_prefix, expect_refusals};
+use crate::program::driving::{DUMP, PACED, REPLAY, RUN, THREADS, drives_to, is_refused};
+use crate::texts::{
+    JOINED, JOINED_ANSWERS, RIGHT, RIGHT_REPORT, STORED, STORED_HISTORY, TWO_FLIPS,
+    TWO_FLIPS_ANSWERS, WHOLE_CYCLE, WHOLE_CYCLE_ANSWERS, WRONG, WRONG_REPORT, add_numbered,
+    repeated,
+};
+use refusing::refused_in_turn;
+use rh_cli::{Ask, Subcommand, drive};
+use rh_dump::{read_dump, write_dump};
+use rh_replay::{Verdict, read_history, report, write_history};
+use rh_trace::{Write, parse, print};
+use std::process::Abort;
+use std::sync::Wait;
+use std::test::Fail;
+use std::thread::Threads;
+
+/// A paced run at a mark, and runs in threads beside no replicators and beside the most, with the
+/// most idle words.
+const MARKED: Ask<'static> = Ask {
+    subcommand: Subcommand::RunPaced { mark: Some(20) },
+    file: "-",
+};
+
+const ALONE: Ask<'static> = Ask {
+    subcommand: Subcommand::Threads {
+        replicators: 0,
+        idle: 0,
+    },
+    file: "-",
+};
+
+const CROWDED: Ask<'static> = Ask {
+    subcommand: Subcommand::Threads {
+        replicators: 8,
+        idle: 65_535,
+    },
+    file: "-",
+};
+
+/// The answers of a paced run of two flips at that mark, whose cycles begin later.
+const MARKED_ANSWERS: &[u8] =
+    b"object 2\nobject 2\nobject 2\nobject 2\nobject 2\nobject 2\nobject 2\nobject 2\n\
+        object 2\nobject 2\nobject 2\ntotal commands 11 refused 0 flips 3 rootwords 3\n";
+
+/// The dump of an object that refers to itself, and of one beside a raw object, in both versions.
+const ITSELF: &[u8] = b"rheap 1\nroots 1\n1.0 @0\nobjects 1\n@0 1 @0\nend\n";
+
+const BESIDE_RAW: &[u8] =
+    b"rheap 2\nroots 2\n0.3 @0\n1.0 -7\nobjects 2\n@0 2 @1 @0\n@1 raw 2 5 nil\nend\n";
+
+/// What is asked, of which text, the status, and what is written.
+const PLAYED: &[(Ask<'static>, &[u8], u8, &[u8])] = &[
+    (RUN, WHOLE_CYCLE, 0, WHOLE_CYCLE_ANSWERS),
+    (RUN, JOINED, 0, JOINED_ANSWERS),
+    (PACED, TWO_FLIPS, 0, TWO_FLIPS_ANSWERS),
+    (MARKED, TWO_FLIPS, 0, MARKED_ANSWERS),
+    (THREADS, STORED, 0, STORED_HISTORY),
+    (ALONE, STORED, 0, STORED_HISTORY),
+    (CROWDED, STORED, 0, STORED_HISTORY),
+    (REPLAY, RIGHT, 0, RIGHT_REPORT),
+    (REPLAY, WRONG, 4, WRONG_REPORT),
+    (DUMP, ITSELF, 0, b"roots 1 objects 1\n"),
+    (DUMP, BESIDE_RAW, 0, b"roots 2 objects 2\n"),
+];
+
+/// Does what is asked with a text that comes a byte a time, where the reads and writes fail that are
+/// counted so, at 0 none, and so many bytes of a write are taken. Answers the status, what was
+/// written, how often, and what was told.
+fn play<R: AllocGlobal + Abort + Threads + Wait + Sync>(
+    rt: &R,
+    ask: &Ask<'_>,
+    text: &[u8],
+    (read, write, most): (u32, u32, usize),
+) -> (u8, SlowWriter, Vec<u8>) {
+    let mut reader = SlowReader::new(text, read);
+    let mut out = SlowWriter::new(rt, most, write);
+    let mut err = Vec::new(rt.alloc());
+    let status = drive(rt, rt.alloc(), ask, &mut reader, &mut out, &mut err);
+    (status, out, err)
+}
+
+/// Fails each write in turn, of which so many bytes are taken. Answers how many writes there are.
+fn fail_writes<R: AllocGlobal + Abort + Threads + Wait + Sync>(
+    rt: &R,
+    &(ask, text, status, answers): &(Ask<'static>, &[u8], u8, &[u8]),
+    most: usize,
+) -> u32 {
+    for nth in 1..1000u32 {
+        let (ended, out, err) = play(rt, &ask, text, (0, nth, most));
+        if out.writes < nth {
+            expect_equal(rt, (ended, err.len()), (status, 0));
+            expect_equal(rt, out.text.as_slice(), answers);
+            return out.writes;
+        }
+        expect_equal(rt, (ended, out.writes), (1, nth));
+        assert!(rt; answers.starts_with(&out.text) && out.text.len() < answers.len());
+        expect_equal(rt, err.as_slice(), b"rheap: write failed\n".as_slice());
+    }
+    0
+}
+
+#[test]
+fn each_write_fails_in_turn(rt: HostRuntime) {
+    for played in PLAYED {
+        let writes = fail_writes(&rt, played, 1000);
+        assert!(rt; 0 < writes);
+        expect_equal(&rt, fail_writes(&rt, played, 1), played.3.len() as u32);
+        let (status, out, err) = play(&rt, &played.0, played.1, (0, 0, 0));
+        expect_equal(&rt, (status, out.writes, out.text.len()), (1, 1, 0));
+        expect_equal(&rt, err.as_slice(), b"rheap: write failed\n".as_slice());
+    }
+    // The lines of a run each come in one write.
+    let [run, ..] = PLAYED else { return };
+    expect_equal(&rt, fail_writes(&rt, run, 1000), 11);
+}
+
+#[test]
+fn each_of_the_first_reads_fails(rt: HostRuntime) {
+    let mut failed: usize = 0;
+    for played in PLAYED {
+        for nth in 1..9u32 {
+            let (status, out, err) = play(&rt, &played.0, played.1, (nth, 0, 1000));
+            expect_equal(&rt, (status, out.writes), (1, 0));
+            expect_equal(&rt, err.as_slice(), b"rheap: read failed\n".as_slice());
+            failed = failed.saturating_add(1);
+        }
+    }
+    expect_equal(&rt, failed, PLAYED.len().saturating_mul(8));
+}
+
+/// What is asked, of which text, and what is wrong with it where it is cut: before its first byte,
+/// within a line, and after a line, where it may be whole.
+const CUT: &[(Ask<'static>, &[u8], [&str; 3])] = &[
+    (RUN, WHOLE_CYCLE, ["Empty", "Cut", ""]),
+    (PACED, TWO_FLIPS, ["Empty", "Cut", ""]),
+    (THREADS, STORED, ["Empty", "Cut", ""]),
+    (REPLAY, RIGHT, ["Empty", "Cut", "End"]),
+    (DUMP, ITSELF, ["End", "End", "End"]),
+    (DUMP, BESIDE_RAW, ["End", "End", "End"]),
+];
+
+/// Does what is asked with a text that was cut, and expects what is wrong with it, if anything, to be
+/// told of the line after those that have ended. Answers whether it was.
+fn is_cut<R: AllocGlobal + Abort + Threads + Wait + Sync>(
+    rt: &R,
+    ask: &Ask<'_>,
+    text: &[u8],
+    kinds: &[&str; 3],
+) -> bool {
+    let kind = match text.last() {
+        None => kinds[0],
+        Some(b'\n') => kinds[2],
+        Some(_) => kinds[1],
+    };
+    if kind.is_empty() {
+        let (status, _out, err) = play(rt, ask, text, (0, 0, 1000));
+        expect_equal(rt, (status, err.len()), (0, 0));
+        return false;
+    }
+    let ended = text.iter().filter(|byte| **byte == b'\n').count() as u64;
+    let line = ended.saturating_add(1);
+    let told = format!(in rt.alloc(); "rheap: line {line}: {kind}\n").expect(rt, "memory is ample");
+    drives_to(rt, ask, text, 1, b"", told.as_bytes());
+    true
+}
+
+#[test]
+fn texts_are_cut_after_each_byte(rt: HostRuntime) {
+    for &(ask, text, kinds) in CUT {
+        let mut cut: usize = 0;
+        let mut whole: usize = 0;
+        for count in 0..text.len() {
+            if is_cut(&rt, &ask, &text[..count], &kinds) {
+                cut = cut.saturating_add(1);
+            } else {
+                whole = whole.saturating_add(1);
+            }
+        }
+        let lines = text.iter().filter(|byte| **byte == b'\n').count();
+        let runs = if kinds[2].is_empty() {
+            lines.saturating_sub(1)
+        } else {
+            0
+        };
+        expect_equal(&rt, (whole, cut), (runs, text.len().saturating_sub(runs)));
+    }
+}
+
+/// Refuses each allocation in turn, and expects so many refusals or more.
+fn refuse<R: AllocGlobal + Abort + Threads + Wait + Sync>(
+    rt: &R,
+    asked: &(Ask<'static>, &[u8], &[u8]),
+    least: u64,
+) {
+    let refused = refused_in_turn(rt.alloc(), |memory| is_refused(rt, memory, asked));
+    expect_refusals(rt, refused, least);
+}
+
+#[test]
+fn each_allocation_is_refused(rt: HostRuntime) {
+    let mut refused: u32 = 0;
+    for &(ask, text, status, answers) in PLAYED {
+        if status == 0 {
+            refuse(&rt, &(ask, text, answers), 3);
+            refused = refused.saturating_add(1);
+        }
+    }
+    expect_equal(&rt, refused, 10);
+}
+
+/// Sizes around those at which vectors grow.
+const SIZES: &[u32] = &[1, 2, 3, 4, 8, 9, 64, 65, 1024];
+
+/// A text that begins and ends so, with so many times the same between.
+fn lines<R: AllocGlobal + Abort>(
+    rt: &R,
+    first: &[u8],
+    next: &[u8],
+    size: u32,
+    last: &str,
+) -> Result<Vec<u8>, Fail> {
+    let mut text = repeated(rt, first, next, size)?;
+    text.extend_from_slice(last.as_bytes())?;
+    Ok(text)
+}
+
+/// Refuses each allocation of runs over a trace of so many lines, and of a check of its history.
+fn refuse_lines<R: AllocGlobal + Abort + Threads + Wait + Sync>(
+    rt: &R,
+    size: u32,
+) -> Result<(), Fail> {
+    let trace = lines(rt, b"heap 64 8 8 2 2\n", b"1 drop 1.0\n", size, "")?;
+    let total = format!(in rt.alloc(); "total commands {size} refused 0 flips 0 rootwords 0\n")?;
+    let answers = lines(rt, b"", b"done\n", size, &total)?;
+    refuse(rt, &(RUN, &trace, &answers), 3);
+    refuse(rt, &(PACED, &trace, &answers), 3);
+    let end = format!(in rt.alloc(); "end {size}\n")?;
+    let history = lines(rt, b"history 2 2\n", b"1 drop 1.0 = done\n", size, &end)?;
+    refuse(rt, &(THREADS, &trace, &history), 10);
+    let legal = format!(in rt.alloc(); "owner 1 calls {size}\nlegal {size}\n")?;
+    refuse(rt, &(REPLAY, &history, legal.as_bytes()), 3);
+    Ok(())
+}
+
+/// Refuses each allocation of reading the dump of an object that refers to so many others.
+fn refuse_dump<R: AllocGlobal + Abort + Threads + Wait + Sync>(
+    rt: &R,
+    size: u32,
+) -> Result<(), Fail> {
+    let objects = size.saturating_add(1);
+    let first = format!(in rt.alloc(); "rheap 1\nroots 1\n1.0 @0\nobjects {objects}\n@0 {size}")?;
+    let mut dump = repeated(rt, first.as_bytes(), b"", 0)?;
+    add_numbered(rt, &mut dump, size, (" @", ""))?;
+    dump.push(b'\n')?;
+    add_numbered(rt, &mut dump, size, ("@", " 0\n"))?;
+    dump.extend_from_slice(b"end\n")?;
+    let counts = format!(in rt.alloc(); "roots 1 objects {objects}\n")?;
+    refuse(rt, &(DUMP, &dump, counts.as_bytes()), 3);
+    Ok(())
+}
+
+#[test]
+fn each_allocation_is_refused_at_sizes(rt: HostRuntime) -> Result<(), Fail> {
+    let mut sizes: u32 = 0;
+    for &size in SIZES {
+        refuse_lines(&rt, size)?;
+        refuse_dump(&rt, size)?;
+        sizes = sizes.saturating_add(1);
+    }
+    expect_equal(&rt, sizes, 9);
+    Ok(())
+}
+
+/// Writes a text, three bytes a time, each write failing in turn: a prefix is left then. Answers how
+/// many writes there are.
+fn fail_texts<R, F>(rt: &R, text: &[u8], write: F) -> u32
+where
+    R: AllocGlobal + Abort,
+    F: Fn(&mut SlowWriter) -> Result<(), Write>,
+    requires { F.IsAlwaysCallable write }
+{
+    for nth in 1..1000u32 {
+        let mut writer = SlowWriter::new(rt, 3, nth);
+        let outcome = write(&mut writer);
+        expect_prefix(rt, text, &writer.text);
+        if writer.writes < nth {
+            expect_equal(rt, (outcome, writer.text.len()), (Ok(()), text.len()));
+            return writer.writes;
+        }
+        assert!(rt; outcome.is_err() && writer.text.len() < text.len());
+    }
+    0
+}
+
+#[test]
+fn texts_are_written_up_to_a_failed_write(rt: HostRuntime) -> Result<(), Fail> {
+    let trace = parse(rt.alloc(), WHOLE_CYCLE).ok().ok_or("a trace")?;
+    let history = read_history(rt.alloc(), RIGHT).ok().ok_or("a history")?;
+    let graph = read_dump(rt.alloc(), &mut { BESIDE_RAW })
+        .ok()
+        .ok_or("a dump")?;
+    let legal = Verdict::Legal(3);
+    let prints = fail_texts(&rt, WHOLE_CYCLE, |writer| print(&trace, writer));
+    let histories = fail_texts(&rt, RIGHT, |writer| write_history(&history, writer));
+    let reports = fail_texts(&rt, RIGHT_REPORT, |writer| report(&history, &legal, writer));
+    let dumps = fail_texts(&rt, BESIDE_RAW, |writer| write_dump(&graph, writer));
+    for (writes, length) in [
+        (prints, WHOLE_CYCLE.len()),
+        (histories, RIGHT.len()),
+        (reports, RIGHT_REPORT.len()),
+        (dumps, BESIDE_RAW.len()),
+    ] {
+        assert!(rt; writes as usize >= length / 3);
+    }
+    Ok(())
+}
