@@ -109,7 +109,7 @@ fn each_write_fails_in_turn(rt: HostRuntime) {
     for played in PLAYED {
         let writes = fail_writes(&rt, played, 1000);
         assert!(rt; 0 < writes);
-        expect_equal(&rt, fail_writes(&rt, played, 1), played.3.len() as u32);
+        expect_equal(&rt, fail_writes(&rt, played, 1) as usize, played.3.len());
         let (status, out, err) = play(&rt, &played.0, played.1, (0, 0, 0));
         expect_equal(&rt, (status, out.writes, out.text.len()), (1, 1, 0));
         expect_equal(&rt, err.as_slice(), b"rheap: write failed\n".as_slice());
