@@ -1,5 +1,5 @@
 -- What a run in threads prints is never found wrong.
-use Rattle.std.proofs.Common.{◌≡◌, ◌≢◌, ◌⊎◌, inl, inr, ℕ, List, [], ◌++◌, Option, Some, Result, Ok, Err, refl, sym, ap, subst, ◌∙◌, arith}
+use Rattle.std.proofs.Common.{◌≡◌, ◌≢◌, ◌⊎◌, inl, inr, ℕ, List, [], Option, Some, Result, Ok, sym, ap, subst, ◌∙◌, arith}
 use Rattle.std.specs.Io.KnownBytes.{Appends, Keeps}
 use Rattle.rh_layout.specs.declared.command.Reply.{Reply}
 use Rattle.rh_layout.specs.declared.refusal.Refusal.{Refusal}
@@ -12,11 +12,9 @@ use Rattle.rh_replay.specs.Legal.{IsFirstWrong, IsLegal}
 use Rattle.rh_replay.specs.Reading.{history_of}
 use Rattle.rh_replay.specs.Report.{report_text}
 use Rattle.rh_replay.specs.Spelling.{IsReadable, spelling}
-use Rattle.rh_shared_trace.specs.declared.options.RunOptions.{RunOptions}
-use Rattle.rh_shared_trace.specs.Run.{IsHistoryOf, IsSharedRun}
+use Rattle.rh_shared_trace.specs.Run.{IsHistoryOf}
 use Rattle.rh_cli.specs.Drive.{Concludes}
 use Rattle.rh_cli.specs.Replay.{IsJudged}
-use Rattle.rh_cli.specs.declared.ask.Subcommand.{Subcommand}
 use Rattle.rh_cli.specs.declared.ask.Subcommand.TheVariants.{Replay, Threads}
 use Rattle.rh_cli.proofs.SharedStatuses.{concludes_shared_0}
 use Rattle.rh_cli.proofs.StatusLaws.{concludes_4}
