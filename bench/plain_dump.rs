@@ -52,7 +52,7 @@ fn read(input: &[u8]) -> Option<(Vec<Root>, Vec<u32>, Vec<Value>)> {
 
 fn write(roots: &[Root], counts: &[u32], values: &[Value]) -> std::io::Result<Vec<u8>> {
     let mut text = Vec::new();
-    write!(text, "rheap 1\nroots {}\n", roots.len())?;
+    write!(text, "rheap 2\nroots {}\n", roots.len())?;
     for (owner, slot, value) in roots {
         write!(text, "{owner}.{slot} ")?;
         put(&mut text, value)?;
