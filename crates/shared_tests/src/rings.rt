@@ -191,7 +191,9 @@ fn what_was_handed_back_is_settled(rt: HostRuntime) {
     for _ in 0..2000u32 {
         for command in ROUND {
             taken = taken.saturating_add(taken_by(&mut beside, *command));
-            state = state.wrapping_mul(6_364_136_223_846_793_005).wrapping_add(1);
+            state = state
+                .wrapping_mul(6_364_136_223_846_793_005)
+                .wrapping_add(1);
             if state >> 62 == 0 {
                 first = first.saturating_add(handed_back(beside.step_first()));
             }
@@ -205,7 +207,10 @@ fn what_was_handed_back_is_settled(rt: HostRuntime) {
     let (one, two) = beside.settle().expect(&rt, "both finish");
     expect_equal(&rt, one.received.saturating_add(one.left), first);
     expect_equal(&rt, two.received.saturating_add(two.left), second);
-    let waiting = one.received.saturating_add(two.received).saturating_sub(taken);
+    let waiting = one
+        .received
+        .saturating_add(two.received)
+        .saturating_sub(taken);
     assert!(rt; first >= 100 && second >= 100 && waiting <= 2, "{waiting}");
 }
 
