@@ -28,8 +28,8 @@ fn a_heap_through_a_thousand_cycles(rt: HostRuntime) {
     let counts = &both.counts;
     expect_each(&rt, &counts.gives, 50);
     expect_each(&rt, &[counts.commands], 10_000);
-    let collected = [counts.recalls, counts.abandons, counts.idles, counts.lost];
-    expect_each(&rt, &collected, 100);
+    expect_each(&rt, &[counts.recalls, counts.abandons, counts.idles], 50);
+    expect_each(&rt, &[counts.lost], 5);
 }
 
 /// The sizes of a heap whose limits are met now and then.
