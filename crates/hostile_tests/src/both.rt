@@ -1,5 +1,7 @@
 //! A heap, the heap that never moves beside it, and an account of its cycle.
 
+ghost use Rattle.std.specs.Prelude.{◌≤◌};
+
 use crate::account::{Account, Answer};
 use crate::expectations::{expect_equal, expect_same_dump};
 use crate::numbers::Numbers;
@@ -252,7 +254,9 @@ impl<A: Allocator + Copy> Both<A> {
 
     /// An entry as it stands at a placed object, or one of which a part is made up: with so many
     /// chances to none, one for each part. Of this field, where one is asked for.
-    fn entry(&self, numbers: &mut Numbers, chances: u32, at: Option<u32>) -> Item {
+    fn entry(&self, numbers: &mut Numbers, chances: u32, at: Option<u32>) -> Item
+        requires { chances ≤ 32 }
+    {
         let part = numbers.below(4 + chances);
         let mut object = numbers.address(WORDS);
         if part != 0 {
