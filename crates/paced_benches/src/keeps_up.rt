@@ -1,7 +1,7 @@
 //! Plays programs in exactly the space that the rule of paces gives them, and fails where a command
 //! is refused: what `bench/keeps_up` runs.
 
-use crate::mutators::{Mutator, OWNER, big_objects, list, queue, stores_alone};
+use crate::mutators::{Mutator, OWNER, big_objects, buffers, list, queue, stores_alone};
 use rh_layout::Command;
 use rh_pace::{Pace, PaceError, PacedHeap};
 use std::alloc::Global;
@@ -36,6 +36,8 @@ fn mutator(memory: Global, name: &str, cells: u32) -> Option<Mutator> {
         "queue" => queue(memory, cells),
         "big-objects" => big_objects(memory),
         "stores" => stores_alone(memory),
+        "raw-buffers" => buffers(memory, true),
+        "buffers" => buffers(memory, false),
         _ => None,
     }
 }

@@ -20,7 +20,15 @@ use std::time::CpuClock;
 fn run_each(rt: &(impl Print + Input + Clock + CpuClock + AllocGlobal)) -> Option<()> {
     binary_trees::run(rt, 8, 8192)?;
     gc_bench::run(rt, gc_bench::Depths::LITTLE, 32_768)?;
-    for name in ["list", "queue", "big-objects", "stores"] {
+    let names = [
+        "list",
+        "queue",
+        "big-objects",
+        "stores",
+        "raw-buffers",
+        "buffers",
+    ];
+    for name in names {
         keeps_up::run(rt, name, keeps_up::Asked::LITTLE)?;
     }
     Some(())

@@ -14,6 +14,11 @@ const BIG_WORDS: u32 = 258;
 
 const BIG_FIELDS: u32 = BIG_WORDS - 2;
 
+/// The words of an object that names a big one, and its fields.
+const NAMING_WORDS: u32 = 28;
+
+const NAMING_FIELDS: u32 = NAMING_WORDS - 2;
+
 /// The fields of a table, and what is reached beside it.
 const TABLE_FIELDS: u32 = 998;
 
@@ -41,6 +46,14 @@ fn root(slot: u32) -> RootId {
 /// A new object of so many fields.
 fn alloc(slot: u32, fields: u32) -> Command {
     Command::Alloc {
+        dst: root(slot),
+        fields,
+    }
+}
+
+/// A new raw object of so many fields.
+fn alloc_raw(slot: u32, fields: u32) -> Command {
+    Command::Raw {
         dst: root(slot),
         fields,
     }
@@ -128,6 +141,31 @@ pub fn big_objects(memory: Global) -> Option<Mutator> {
     add(&mut round, &both)?;
     Some(Mutator {
         live: 3 * BIG_WORDS,
+        biggest: BIG_WORDS,
+        first: Vec::new(memory),
+        outside: round,
+        inside: Vec::new(memory),
+    })
+}
+
+/// Buffers, which are raw or aren't, each named by a small object: nine tenths of the words are
+/// theirs. Two live of each.
+pub fn buffers(memory: Global, raw: bool) -> Option<Mutator> {
+    let buffer = if raw {
+        alloc_raw(0, BIG_FIELDS)
+    } else {
+        alloc(0, BIG_FIELDS)
+    };
+    let mut round = Vec::new(memory);
+    let named = [
+        buffer,
+        store(0, 0, Operand::Int(3)),
+        alloc(1, NAMING_FIELDS),
+        store(1, 0, Operand::Root(root(0))),
+    ];
+    add(&mut round, &named)?;
+    Some(Mutator {
+        live: 2 * (BIG_WORDS + NAMING_WORDS),
         biggest: BIG_WORDS,
         first: Vec::new(memory),
         outside: round,
