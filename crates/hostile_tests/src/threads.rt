@@ -49,12 +49,12 @@ fn play<R: AllocGlobal + Abort + Threads + Wait + Sync>(
 fn four_mutators_and_four_replicators(rt: HostRuntime) -> Result<(), Fail> {
     let mut numbers = Numbers { state: 3 };
     let mut runs: u64 = 0;
-    for _ in 0..3u32 {
+    for _ in 0..25u32 {
         let text = trace(&rt, &mut numbers)?;
         let calls = play(&rt, &text, numbers.below(4))?;
         expect_each(&rt, &[calls], 1000);
         runs = runs.saturating_add(1);
     }
-    expect_equal(&rt, runs, 3);
+    expect_equal(&rt, runs, 25);
     Ok(())
 }
