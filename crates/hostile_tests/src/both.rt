@@ -3,9 +3,9 @@
 ghost use Rattle.std.specs.Prelude.{◌≤◌};
 
 use crate::account::{Account, Answer};
-use crate::expectations::{expect_equal, expect_same_dump};
+use crate::expectations::{expect_equal, expect_limit, expect_same_dump};
 use crate::numbers::Numbers;
-use rh_core::{Config, GiveError, Heap, Kind, Shaded, Stat};
+use rh_core::{Config, FlipError, GiveError, Heap, Kind, Shaded, Stat};
 use rh_layout::{Item, RootId, Value};
 use rh_model::{CommandError, Plain};
 use rh_partial::{PartialReplica, Piece, fold};
@@ -32,8 +32,12 @@ pub const TIGHT: Config = Config {
 pub struct Counts {
     /// Gives by their answers, in the order of the refusals, those that were accepted last.
     pub gives: [u64; 8],
-    /// Answers that weren't limits'.
+    /// Entries of replicas that nobody dealt which were joined, and objects placed for them.
+    pub joined: u64,
+    pub placed: u64,
+    /// Answers that weren't limits', and those that were.
     pub commands: u64,
+    pub limits: u64,
     /// Recalls that were accepted.
     pub recalls: u64,
     /// Cycles that were abandoned and had placed something.
@@ -72,6 +76,8 @@ fn give<A: Allocator + Copy>(
     replica: &PartialReplica<A>,
 ) -> Answer {
     let before = heap.stat();
+    let copies = heap.undealt(Kind::Copies);
+    let entries = heap.undealt(Kind::Entries);
     let (answer, units) = account.give(rt, heap, replica);
     expect_equal(rt, heap.give(replica), answer);
     let after = heap.stat();
@@ -79,6 +85,8 @@ fn give<A: Allocator + Copy>(
     if answer.is_err() {
         let spent = before.spent;
         expect_equal(rt, Stat { spent, ..after }, before);
+        expect_equal(rt, heap.undealt(Kind::Copies), copies);
+        expect_equal(rt, heap.undealt(Kind::Entries), entries);
     }
     answer
 }
@@ -108,7 +116,10 @@ impl<A: Allocator + Copy> Both<A> {
             replicas: Vec::new(memory),
             counts: Counts {
                 gives: [0; 8],
+                joined: 0,
+                placed: 0,
                 commands: 0,
+                limits: 0,
                 recalls: 0,
                 abandons: 0,
                 idles: 0,
@@ -121,11 +132,19 @@ impl<A: Allocator + Copy> Both<A> {
     fn command(&mut self, rt: &impl Abort, numbers: &mut Numbers) {
         let owner = 1 + numbers.below(2);
         let command = numbers.command(owner);
+        let before = self.heap.stat();
         let answer = self.heap.command(owner, &command);
-        if !matches!(answer, Err(refusal) if refusal.is_limit()) {
-            let plain = self.plain.command(owner, &command);
-            expect_equal(rt, plain, answer.map_err(CommandError::Refused));
-            count(&mut self.counts.commands);
+        match answer {
+            Err(refusal) if refusal.is_limit() => {
+                expect_limit(rt, refusal, &before, TIGHT.log_limit);
+                expect_equal(rt, self.heap.stat(), before);
+                count(&mut self.counts.limits);
+            }
+            _ => {
+                let plain = self.plain.command(owner, &command);
+                expect_equal(rt, plain, answer.map_err(CommandError::Refused));
+                count(&mut self.counts.commands);
+            }
         }
     }
 
@@ -170,16 +189,26 @@ impl<A: Allocator + Copy> Both<A> {
     /// The cycle ends, where it can, and the graph is that of the plain heap.
     fn flip(&mut self, rt: &impl Abort) {
         let missing = self.account.missing(&self.heap);
-        if self.heap.flip().is_ok() {
-            expect_equal(rt, missing, 0);
-            self.account.clear();
-            expect_same_dump(rt, self.memory, &self.heap, &self.plain);
+        match self.heap.flip() {
+            Ok(_) => {
+                expect_equal(rt, missing, 0);
+                self.account.clear();
+                expect_same_dump(rt, self.memory, &self.heap, &self.plain);
+            }
+            Err(FlipError::Missing(fields)) => expect_equal(rt, fields, missing),
+            Err(_) => {}
         }
     }
 
     /// All that was dealt is undealt; the replicas are of an earlier epoch then.
-    fn recall(&mut self) {
-        if self.heap.recall().is_ok() {
+    fn recall(&mut self, rt: &impl Abort) {
+        let before = self.heap.epoch();
+        if let Ok(epoch) = self.heap.recall() {
+            expect_equal(rt, epoch, before.saturating_add(1));
+            expect_equal(rt, self.heap.epoch(), epoch);
+            let fields = self.account.fields(&self.heap);
+            expect_equal(rt, self.heap.undealt(Kind::Copies), fields);
+            expect_equal(rt, self.heap.undealt(Kind::Entries), 0);
             count(&mut self.counts.recalls);
         }
     }
@@ -233,7 +262,7 @@ impl<A: Allocator + Copy> Both<A> {
             }
             7 | 8 => self.give(rt, numbers.below(6) as usize),
             9 => self.flip(rt),
-            10 => self.recall(),
+            10 => self.recall(rt),
             11 => self.abandon(rt),
             12 => self.idle(numbers.below(50)),
             _ => self.end(rt),
@@ -296,6 +325,8 @@ impl<A: Allocator + Copy> Both<A> {
         let (crowd, chances) = (numbers.has(1), numbers.below(3) * 16);
         let entries = if crowd {
             62 + numbers.below(4)
+        } else if numbers.has(3) {
+            6 + numbers.below(40)
         } else {
             numbers.below(6)
         };
@@ -319,6 +350,11 @@ impl<A: Allocator + Copy> Both<A> {
         let answer = give(rt, &mut self.heap, &mut self.account, &replica);
         if let Some(number) = self.counts.gives.get_mut(place_of(answer)) {
             count(number);
+        }
+        if let Ok(given) = answer {
+            let counts = &mut self.counts;
+            counts.joined = counts.joined.saturating_add(given.joined.into());
+            counts.placed = counts.placed.saturating_add(given.placed.into());
         }
     }
 

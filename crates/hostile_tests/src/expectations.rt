@@ -1,8 +1,9 @@
 //! What a test expects.
 
-use rh_core::Heap;
+use rh_core::{Heap, Stat};
 use rh_dump::limits::MAX_OBJECTS;
 use rh_dump::{plain_graph, same_text};
+use rh_layout::Refusal;
 use rh_model::Plain;
 use rh_trace::graph;
 use std::alloc::Allocator;
@@ -17,6 +18,17 @@ pub fn expect_equal<T: PartialEq + Debug + Drop>(rt: &impl Abort, left: T, right
 /// Ends the test unless each of these was counted so often or more.
 pub fn expect_each(rt: &impl Abort, counts: &[u64], least: u64) {
     assert!(rt; counts.iter().all(|count| *count >= least), "{counts:?}");
+}
+
+/// Ends the test unless the limit that is told of stood in the way of the heap that had these
+/// numbers.
+pub fn expect_limit(rt: &impl Abort, refusal: Refusal, before: &Stat, log_limit: u32) {
+    let stands = match refusal {
+        Refusal::SpaceFull { need, free } => free == before.free && need > free,
+        Refusal::LogFull => before.cycle && before.log == u64::from(log_limit),
+        _ => false,
+    };
+    assert!(rt; stands, "{refusal:?} {before:?}");
 }
 
 /// Ends the test unless so many allocations or more were refused in turn.

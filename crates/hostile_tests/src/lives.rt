@@ -1,7 +1,7 @@
 //! Heaps that live long in a small space.
 
 use crate::both::Both;
-use crate::expectations::{expect_each, expect_equal, expect_same_dump};
+use crate::expectations::{expect_each, expect_equal, expect_limit, expect_same_dump};
 use crate::numbers::Numbers;
 use rh_core::Config;
 use rh_layout::{Command, Refusal, Reply};
@@ -27,6 +27,13 @@ fn a_heap_through_a_thousand_cycles(rt: HostRuntime) {
     expect_equal(&rt, both.heap.stat().flips, 1000);
     let counts = &both.counts;
     expect_each(&rt, &counts.gives, 50);
+    let mut gives: u64 = 0;
+    for count in counts.gives {
+        gives = gives.saturating_add(count);
+    }
+    expect_each(&rt, &[gives], 1000);
+    expect_each(&rt, &[counts.joined], 50);
+    expect_each(&rt, &[counts.placed, counts.limits], 1);
     expect_each(&rt, &[counts.commands], 10_000);
     expect_each(&rt, &[counts.recalls, counts.abandons, counts.idles], 50);
     expect_each(&rt, &[counts.lost], 5);
@@ -43,7 +50,7 @@ const SMALL: Config = Config {
     last_epoch: 1 << 62,
 };
 
-/// A cycle begins where fewer than half of the words are free.
+/// A cycle begins where fewer than 40 of the 64 words are free.
 const PACE: Pace = Pace {
     mark: 40,
     store_units: 8,
@@ -77,9 +84,17 @@ impl Paced {
         let owner = 1 + numbers.below(2);
         let command = numbers.command(owner);
         let insists = numbers.has(1);
+        let before = self.paced.stat();
         let answer = self.ask(owner, &command, insists);
-        if matches!(answer, Err(refusal) if refusal.is_limit()) {
-            assert!(rt; !insists || answer != Err(Refusal::LogFull));
+        if let Err(refusal) = answer
+            && refusal.is_limit()
+        {
+            if insists {
+                assert!(rt; refusal != Refusal::LogFull);
+            } else {
+                expect_limit(rt, refusal, &before, SMALL.log_limit);
+                expect_equal(rt, self.paced.stat(), before);
+            }
             self.limits = self.limits.saturating_add(1);
             return;
         }

@@ -24,7 +24,7 @@ fn trace<R: AllocGlobal + Abort>(rt: &R, numbers: &mut Numbers) -> Result<Vec<u8
 }
 
 /// Plays a trace in threads: the heap closes with the calls of all, and the history that it printed
-/// is legal. Answers how many calls that has.
+/// is legal. Answers how many words the objects take that were made in it.
 fn play<R: AllocGlobal + Abort + Threads + Wait + Sync>(
     rt: &R,
     text: &[u8],
@@ -42,19 +42,26 @@ fn play<R: AllocGlobal + Abort + Threads + Wait + Sync>(
         return Err(Fail::from("the history isn't legal"));
     };
     expect_equal(rt, calls as usize, history.calls().len());
-    Ok(calls.into())
+    let mut words: u64 = 0;
+    for call in history.calls() {
+        if let (Some((_, shape)), Ok(_)) = (call.command.made(), call.answer) {
+            words = words.saturating_add(2).saturating_add(shape.fields.into());
+        }
+    }
+    Ok(words)
 }
 
 #[test]
 fn four_mutators_and_four_replicators(rt: HostRuntime) -> Result<(), Fail> {
     let mut numbers = Numbers { state: 3 };
-    let mut runs: u64 = 0;
+    let (mut runs, mut words): (u64, u64) = (0, 0);
     for _ in 0..25u32 {
         let text = trace(&rt, &mut numbers)?;
-        let calls = play(&rt, &text, numbers.below(4))?;
-        expect_each(&rt, &[calls], 1000);
+        words = words.saturating_add(play(&rt, &text, numbers.below(4))?);
         runs = runs.saturating_add(1);
     }
     expect_equal(&rt, runs, 25);
+    // More than all the spaces have together: what isn't reached was collected.
+    expect_each(&rt, &[words], 25 * 192);
     Ok(())
 }
