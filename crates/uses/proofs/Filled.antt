@@ -1,17 +1,20 @@
--- A new heap at a pace that keeps up has room for the calls of the queue.
-use Rattle.std.proofs.Common.{◌≡◌, ℕ, zero, suc, ◌+◌, ◌*◌, ◌^◌, ◌<◌, ◌≤◌, List, ◌++◌, length, Option, None, Some, refl, arith}
+-- The heap of the queue has room for its calls.
+use Rattle.std.proofs.Common.{◌≡◌, ℕ, zero, suc, ◌+◌, ◌-◌, ◌*◌, ◌^◌, ◌<◌, ◌≤◌, List, ◌++◌, length, Option, None, Some, refl, sym, ap, subst, ◌∙◌, arith}
+use Rattle.std.specs.Prelude.{min}
 use Rattle.std.proofs.lemmas.List.{length-append}
 use Rattle.rh_layout.specs.declared.command.Command.{Command}
 use Rattle.rh_model.specs.Plain.{empty_plain}
 use Rattle.rh_mutator.specs.Config.{fault_of}
 use Rattle.rh_mutator.specs.declared.config.Config.{Config}
+use Rattle.rh_mutator.specs.declared.config.ConfigFault.{ConfigFault}
 use Rattle.rh_core.specs.Heap.{new_heap}
 use Rattle.rh_pace.specs.declared.pace.Pace.{Pace}
-use Rattle.rh_pace.specs.Pace.{KeepsUp, lag_of}
-use Rattle.rh_pace.specs.Paced.{paced_heap}
+use Rattle.rh_pace.specs.Pace.{IsLowest, KeepsUp, lag_of, paced_by}
+use Rattle.rh_pace.specs.InTime.{paced_after}
+use Rattle.rh_pace.specs.Paced.{PacedState, paced_heap}
 use Rattle.rh_pace.specs.PlainBounds.{AreBounded, HaveRoomToLimit}
 use Rattle.rh_pace.specs.Worked.{one_joins, one_leaves, queue_calls, times}
-use Rattle.uses.specs.Queue.{WillHaveRoom}
+use Rattle.uses.specs.Queue.{LeadTo, queue_config, queue_heap}
 
 -- 4 calls for each that joins
 length-joins : (n : ℕ) → length (times n one_joins) ≡ 4 * n
@@ -38,21 +41,23 @@ few-calls more rounds joins turns =
     let all : length (queue_calls more rounds) ≡ suc (suc (length (times more one_joins ++ times rounds (one_joins ++ one_leaves)))) = refl in
     omega (arith, filled, turned, both, all, joins, turns)
 
-pub none-of : {F : Type 0} (o : Option F) → ((f : F) → o ≡ Some f → ⊥) → o ≡ None
+none-of : {F : Type 0} (o : Option F) → ((f : F) → o ≡ Some f → ⊥) → o ≡ None
 none-of None refuted = refl
 none-of (Some f) refuted = absurd (refuted f refl)
 
--- what the heap is made with
-abbrev pub queue_config : Pace → Config
-queue_config pace = record {
-  words = 2218;
-  ratio = 8;
-  owners = 2;
-  slots = 3;
-  log_limit = pace.log_limit;
-  last_number = 4611686018427387904;
-  last_epoch = 4611686018427387904;
-}
+-- what the heap is made with at a pace
+abbrev pub config_at : Pace → Config
+config_at pace = record queue_config { log_limit = pace.log_limit }
+
+-- the pace of the queue: of the lowest mark, since its own keeps up
+pace-queue : (pace : Pace) → KeepsUp 2218 1000 4 8 pace → IsLowest 2218 1000 4 8 pace → KeepsUp 2218 1000 4 8 (paced_by 601 4 8) → pace ≡ paced_by 601 4 8
+pace-queue pace up lowest own =
+    let most : pace.mark ≤ 609 = lowest (paced_by 601 4 8) own in
+    let enough = up.enough in
+    let room = up.room in
+    let mark : pace.mark ≡ 609 = omega (arith, most, enough, room) in
+    let log : pace.log_limit ≡ 603 = up.log_limit ∙ ap (λ (m : ℕ). min (m - 8 + 2) 1048576) mark in
+    λ k. record { mark = mark k; store_units = up.store_units k; log_limit = log k }
 
 abbrev pub HasRoomByBounds : Type 0
 HasRoomByBounds = (live biggest : ℕ) (c : Config) → fault_of c ≡ None → (pace : Pace) → KeepsUp c.words live biggest c.ratio pace → lag_of pace biggest < c.log_limit → (calls : List (ℕ × Command)) → AreBounded live biggest (empty_plain c.owners c.slots) calls → HaveRoomToLimit (paced_heap (new_heap c) pace) calls
@@ -63,11 +68,25 @@ IsBoundedQueue = (more rounds live : ℕ) → 4 * (more + 2) ≤ live → AreBou
 abbrev pub HoldsLag : Type 0
 HoldsLag = (words live biggest ratio : ℕ) (pace : Pace) → KeepsUp words live biggest ratio pace → lag_of pace biggest < 1048576 → lag_of pace biggest < pace.log_limit
 
-pub queue-room : (law : HasRoomByBounds) (bounded : IsBoundedQueue) (holds : HoldsLag) (pace : Pace) → KeepsUp 2218 1000 4 8 pace → fault_of (queue_config pace) ≡ None → (more rounds : ℕ) → more ≤ 248 → rounds < 2 ^ 32 → WillHaveRoom (paced_heap (new_heap (queue_config pace)) pace) (queue_calls more rounds)
-queue-room law bounded holds pace up sound more rounds joins turns =
-    let fits = up.fits in
-    let low : lag_of pace 4 < 1048576 = omega (arith, fits) in
-    let log : lag_of pace 4 < pace.log_limit = holds 2218 1000 4 8 pace up low in
-    let fill : 4 * (more + 2) ≤ 1000 = omega (arith, joins) in
-    let room = law 1000 4 (queue_config pace) sound pace up log (queue_calls more rounds) (bounded more rounds 1000 fill) in
-    (room, few-calls more rounds joins turns)
+-- So a heap that is made so has room for the calls of the queue, whatever pace that is.
+module _ (law : HasRoomByBounds) (bounded : IsBoundedQueue) (holds : HoldsLag) (own : KeepsUp 2218 1000 4 8 (paced_by 601 4 8)) (rounds : ℕ) where
+  -- the state after these calls
+  abbrev pub queue_last : PacedState
+  queue_last = paced_after queue_heap (queue_calls 248 rounds)
+
+  queue-leads : fault_of queue_config ≡ None → rounds < 2 ^ 32 → LeadTo queue_heap (queue_calls 248 rounds) queue_last
+  queue-leads sound turns =
+      let low : lag_of (paced_by 601 4 8) 4 < 1048576 = omega arith in
+      let log : lag_of (paced_by 601 4 8) 4 < 603 = holds 2218 1000 4 8 (paced_by 601 4 8) own low in
+      let fill : 4 * (248 + 2) ≤ 1000 = omega arith in
+      let room = law 1000 4 queue_config sound (paced_by 601 4 8) own log (queue_calls 248 rounds) (bounded 248 rounds 1000 fill) in
+      (room, few-calls 248 rounds (omega arith) turns, refl)
+
+  pub made-leads : (pace : Pace) → KeepsUp 2218 1000 4 8 pace → IsLowest 2218 1000 4 8 pace → (c : Config) → c ≡ config_at pace → ((f : ConfigFault) → fault_of c ≡ Some f → ⊥)
+      → (s : PacedState) → s ≡ paced_heap (new_heap c) pace → rounds < 2 ^ 32 → LeadTo s (queue_calls 248 rounds) queue_last
+  made-leads pace up lowest c is sound s made turns =
+      let same = pace-queue pace up lowest own in
+      let config : c ≡ queue_config = is ∙ ap config_at same in
+      let sound_config = none-of (fault_of queue_config) (λ f faulty. sound f (ap fault_of config ∙ faulty)) in
+      let made_so : s ≡ queue_heap = made ∙ (λ k. paced_heap (new_heap (config k)) (same k)) in
+      subst (λ (t : PacedState). LeadTo t (queue_calls 248 rounds) queue_last) (sym made_so) (queue-leads sound_config turns)

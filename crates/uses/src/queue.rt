@@ -1,10 +1,12 @@
 //! A queue that lives in 45 % of its space: cells join behind the last one and leave from the
 //! front, and no call is ever refused for want of room.
 
-ghost use Rattle.std.specs.Prelude.{◌≡◌, ◌++◌, ℕ, false, List, [], IfErr};
+ghost use Rattle.std.specs.Prelude.{◌≡◌, ◌++◌, ℕ, false, List, IfErr, IfOk};
 ghost use Rattle.rh_layout.specs.declared.command.Command.{Command};
+ghost use Rattle.rh_pace.specs.InTime.{paced_after};
+ghost use Rattle.rh_pace.specs.Paced.{PacedState};
 ghost use Rattle.rh_pace.specs.Worked.{first_cell, one_joins, one_leaves, queue_calls, times};
-ghost use Rattle.uses.specs.Queue.{IsServed, WillHaveRoom, lacks_room};
+ghost use Rattle.uses.specs.Queue.{IsServed, LeadTo, lacks_room, queue_heap};
 
 use crate::problem::Problem;
 use rh_layout::{Operand, Refusal, RootId};
@@ -36,9 +38,11 @@ const LAST: RootId = RootId { owner: 1, slot: 1 };
 const NEW: RootId = RootId { owner: 1, slot: 2 };
 
 /// Fills the queue, and lets one cell join and one leave so many times. Answers how many cycles
-/// there were.
+/// these calls take; no call is refused for want of room.
 pub fn run<A: Allocator + Copy>(alloc: A, rounds: u32) -> Result<u64, Problem>
-    ensures { IfErr result (λ problem. lacks_room problem ≡ false) }
+    ensures cycles { IfOk result (λ cycles.
+        cycles ≡ (paced_after queue_heap (queue_calls 248 rounds)).heap.flips) }
+    ensures room { IfErr result (λ problem. lacks_room problem ≡ false) }
 {
     // Only for the proof: the queue stays within the bounds of its pace, and the log holds its lag.
     a_queue_in_45_percent_of_the_space_has_room::<A>();
@@ -52,8 +56,8 @@ pub fn run<A: Allocator + Copy>(alloc: A, rounds: u32) -> Result<u64, Problem>
 
 /// The queue is filled, and then one joins and one leaves so many times.
 fn play<A: Allocator + Copy>(heap: &mut PacedHeap<A>, rounds: u32) -> Result<(), Refusal>
-    ensures { WillHaveRoom heap.old (queue_calls 248 rounds)
-        → IsServed result (WillHaveRoom heap.new []) }
+    ensures { (last : PacedState) → LeadTo heap.old (queue_calls 248 rounds) last
+        → IsServed result (heap.new ≡ last) }
 {
     start(heap)?;
     fill(heap)?;
@@ -63,9 +67,9 @@ fn play<A: Allocator + Copy>(heap: &mut PacedHeap<A>, rounds: u32) -> Result<(),
 
 /// The cells beside the first one join.
 fn fill<A: Allocator + Copy>(heap: &mut PacedHeap<A>) -> Result<(), Refusal>
-    ensures { (rest : List (ℕ × Command))
-        → WillHaveRoom heap.old (times 248 one_joins ++ rest)
-        → IsServed result (WillHaveRoom heap.new rest) }
+    ensures { (rest : List (ℕ × Command)) (last : PacedState)
+        → LeadTo heap.old (times 248 one_joins ++ rest) last
+        → IsServed result (LeadTo heap.new rest last) }
 {
     for _ in 0..CELLS {
         join(heap)?;
@@ -75,9 +79,9 @@ fn fill<A: Allocator + Copy>(heap: &mut PacedHeap<A>) -> Result<(), Refusal>
 
 /// One joins and one leaves, so many times.
 fn turn<A: Allocator + Copy>(heap: &mut PacedHeap<A>, rounds: u32) -> Result<(), Refusal>
-    ensures { (rest : List (ℕ × Command))
-        → WillHaveRoom heap.old (times rounds (one_joins ++ one_leaves) ++ rest)
-        → IsServed result (WillHaveRoom heap.new rest) }
+    ensures { (rest : List (ℕ × Command)) (last : PacedState)
+        → LeadTo heap.old (times rounds (one_joins ++ one_leaves) ++ rest) last
+        → IsServed result (LeadTo heap.new rest last) }
 {
     for _ in 0..rounds {
         join(heap)?;
@@ -88,8 +92,9 @@ fn turn<A: Allocator + Copy>(heap: &mut PacedHeap<A>, rounds: u32) -> Result<(),
 
 /// The first cell is made.
 fn start<A: Allocator + Copy>(heap: &mut PacedHeap<A>) -> Result<(), Refusal>
-    ensures { (rest : List (ℕ × Command)) → WillHaveRoom heap.old (first_cell ++ rest)
-        → IsServed result (WillHaveRoom heap.new rest) }
+    ensures { (rest : List (ℕ × Command)) (last : PacedState)
+        → LeadTo heap.old (first_cell ++ rest) last
+        → IsServed result (LeadTo heap.new rest last) }
 {
     a_command_moves_the_epoch_by_one_at_most();
     heap.alloc(OWNER, FIRST, CELL_WORDS - 2)?;
@@ -99,8 +104,9 @@ fn start<A: Allocator + Copy>(heap: &mut PacedHeap<A>) -> Result<(), Refusal>
 
 /// A new cell joins behind the last one.
 fn join<A: Allocator + Copy>(heap: &mut PacedHeap<A>) -> Result<(), Refusal>
-    ensures { (rest : List (ℕ × Command)) → WillHaveRoom heap.old (one_joins ++ rest)
-        → IsServed result (WillHaveRoom heap.new rest) }
+    ensures { (rest : List (ℕ × Command)) (last : PacedState)
+        → LeadTo heap.old (one_joins ++ rest) last
+        → IsServed result (LeadTo heap.new rest last) }
 {
     a_command_moves_the_epoch_by_one_at_most();
     heap.alloc(OWNER, NEW, CELL_WORDS - 2)?;
@@ -112,8 +118,9 @@ fn join<A: Allocator + Copy>(heap: &mut PacedHeap<A>) -> Result<(), Refusal>
 
 /// The first one leaves.
 fn leave<A: Allocator + Copy>(heap: &mut PacedHeap<A>) -> Result<(), Refusal>
-    ensures { (rest : List (ℕ × Command)) → WillHaveRoom heap.old (one_leaves ++ rest)
-        → IsServed result (WillHaveRoom heap.new rest) }
+    ensures { (rest : List (ℕ × Command)) (last : PacedState)
+        → LeadTo heap.old (one_leaves ++ rest) last
+        → IsServed result (LeadTo heap.new rest last) }
 {
     a_command_moves_the_epoch_by_one_at_most();
     heap.load(OWNER, FIRST, FIRST, 1)?;

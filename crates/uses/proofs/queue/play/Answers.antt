@@ -2,35 +2,35 @@ use Rattle.std.proofs.Common.{◌++◌, ℕ, List, [], append-nil, subst, sym}
 use Rattle.std.proofs.lemmas.Result.{err_from_is_err_and}
 use Rattle.rh_layout.specs.declared.command.Command.{Command}
 use Rattle.rh_pace.specs.Worked.{one_joins, one_leaves, times}
-use Rattle.uses.specs.Queue.{WillHaveRoom}
+use Rattle.uses.specs.Queue.{LeadTo}
 use Rattle.uses.proofs.queue.play.Goals as goal
 
 pub returns-in_err-start : goal.returns-in_err-start
-returns-in_err-start g c = λ room.
+returns-in_err-start g c = λ last room.
     let p = err_from_is_err_and c.from_residual.result c.from_residual.ensures.1 in
     let turns = times c.args.rounds (one_joins ++ one_leaves) in
-    rw (p.1, p.2) (c.in_err-start.ensures (times 248 one_joins ++ turns) room)
+    rw (p.1, p.2) (c.in_err-start.ensures (times 248 one_joins ++ turns) last room)
 
 pub returns-in_err-fill : goal.returns-in_err-fill
-returns-in_err-fill g c = λ room.
+returns-in_err-fill g c = λ last room.
     let p = err_from_is_err_and c.from_residual-in_err-fill.result c.from_residual-in_err-fill.ensures.1 in
     let turns = times c.args.rounds (one_joins ++ one_leaves) in
-    let started = c.in_ok-start.ensures (times 248 one_joins ++ turns) room in
-    rw (p.1, p.2) (c.in_err-fill.ensures turns started)
+    let started = c.in_ok-start.ensures (times 248 one_joins ++ turns) last room in
+    rw (p.1, p.2) (c.in_err-fill.ensures turns last started)
 
 pub returns-in_err-turn : goal.returns-in_err-turn
-returns-in_err-turn g c = λ room.
+returns-in_err-turn g c = λ last room.
     let p = err_from_is_err_and c.from_residual-in_err-turn.result c.from_residual-in_err-turn.ensures.1 in
     let turns = times c.args.rounds (one_joins ++ one_leaves) in
-    let started = c.in_ok-start.ensures (times 248 one_joins ++ turns) room in
-    let filled = c.in_ok-fill.ensures turns started in
-    let all = subst (λ (calls : List (ℕ × Command)). WillHaveRoom c.fill.new.heap calls) (sym (append-nil turns)) filled in
-    rw (p.1, p.2) (c.in_err-turn.ensures [] all)
+    let started = c.in_ok-start.ensures (times 248 one_joins ++ turns) last room in
+    let filled = c.in_ok-fill.ensures turns last started in
+    let all = subst (λ (calls : List (ℕ × Command)). LeadTo c.fill.new.heap calls last) (sym (append-nil turns)) filled in
+    rw (p.1, p.2) (c.in_err-turn.ensures [] last all)
 
 pub returns : goal.returns
-returns g c = λ room.
+returns g c = λ last room.
     let turns = times c.args.rounds (one_joins ++ one_leaves) in
-    let started = c.in_ok-start.ensures (times 248 one_joins ++ turns) room in
-    let filled = c.in_ok-fill.ensures turns started in
-    let all = subst (λ (calls : List (ℕ × Command)). WillHaveRoom c.fill.new.heap calls) (sym (append-nil turns)) filled in
-    c.in_ok-turn.ensures [] all
+    let started = c.in_ok-start.ensures (times 248 one_joins ++ turns) last room in
+    let filled = c.in_ok-fill.ensures turns last started in
+    let all = subst (λ (calls : List (ℕ × Command)). LeadTo c.fill.new.heap calls last) (sym (append-nil turns)) filled in
+    (c.in_ok-turn.ensures [] last all).2
