@@ -83,8 +83,8 @@ fn graph_in_text<A: Allocator + Copy>(alloc: A, text: &[u8]) -> Result<Graph<A>,
     }
 }
 
-/// Reads a dump of version 1 or 2 whole and gives its graph. It takes at most twice the text beside what the graph
-/// keeps.
+/// Reads a dump of version 1 or 2 whole and gives its graph. It takes at most twice the text beside
+/// what the graph keeps.
 ///
 /// # Errors
 ///

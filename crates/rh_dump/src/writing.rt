@@ -138,8 +138,8 @@ fn write_flat<W: io::Write>(
     send(writer, writes, b"end\n")
 }
 
-/// Writes the dump text of a graph, in version 2, a line or a part of a line in each write that the writer takes
-/// whole. It takes no memory.
+/// Writes the dump text of a graph, in version 2, a line or a part of a line in each write that the
+/// writer takes whole. It takes no memory.
 ///
 /// # Errors
 ///
