@@ -77,15 +77,16 @@ pub fn equal_dump_texts_are_same_graphs()
 {}
 
 /// Each graph is read from its text of version 2, and from its text of version 1 where it has no
-/// raw object, if the text has at most 268,435,456 bytes; and nothing else is read as it.
+/// raw object, if the text has at most 268,435,456 bytes. It is read exactly from what is a text of
+/// it, within that limit.
 pub fn what_is_spelled_is_read()
     ensures spelled { (g : GraphState) → IsGraph g → length (dump_text g) ≤ MAX_DUMP_BYTES
         → graph_of_text (dump_text g) ≡ Ok g }
     ensures version_1 { (g : GraphState) → IsGraph g
         → AllByRecursion (λ object. object.raw ≡ false) g.objects
         → length (text_in One g) ≤ MAX_DUMP_BYTES → graph_of_text (text_in One g) ≡ Ok g }
-    ensures read { (text : List ℕ) (g : GraphState) → graph_of_text text ≡ Ok g
-        → IsGraph g × IsTextOf text g × (length text ≤ MAX_DUMP_BYTES) }
+    ensures read { (text : List ℕ) (g : GraphState) → (graph_of_text text ≡ Ok g)
+        ↔ (IsGraph g × IsTextOf text g × (length text ≤ MAX_DUMP_BYTES)) }
 {}
 
 /// Graphs with equal texts are equal, however long these are, and of one version.

@@ -32,7 +32,7 @@ use Rattle.rh_dump.specs.declared.reading.fault.DumpKind.TheVariants.{Long, Form
 use Rattle.rh_dump.specs.declared.reading.fault.DumpFault.{DumpFault}
 use Rattle.rh_model.specs.Plain.{PlainObject}
 use Rattle.rh_dump.specs.Dump.{GraphState, root_values, met_with, met_after, IsNumberedAfter, AreNumbered, AreMetBefore, IsTold, IsRootTold, IsRootBefore, IsRootAfter, RootsRise, IsUnreferring, IsObjectTold, IsGraph}
-use Rattle.rh_dump.specs.texts.Line.{DumpLine, header_line, roots_line, root_line, objects_line, object_line, end_line, value_text, dump_line_parts, spell_dump_line, root_lines, object_lines, lines_in, dump_text, text_in, kind_parts, HasKind, CanSay, root_due, object_due, due_after}
+use Rattle.rh_dump.specs.texts.Line.{DumpLine, header_line, roots_line, root_line, objects_line, object_line, end_line, value_text, dump_line_parts, spell_dump_line, root_lines, object_lines, lines_in, dump_text, text_in, IsTextOf, kind_parts, HasKind, CanSay, root_due, object_due, due_after}
 use Rattle.rh_dump.specs.texts.Part.{number_up_to, whole_of, small_root_of, after_at, kind_and_rest, object_head}
 use Rattle.rh_dump.proofs.numbers.ObjectsIn.{joined}
 use Rattle.rh_dump.specs.texts.Reading.{formed_parts, part_after, number_or_fault, roots_of_parts, objects_of_parts, reference_or_fault, whole_or_fault, value_or_fault, plain_or_fault, field_or_fault, values_or_fault, is_root_before, is_root_after, root_or_fault, root_of_parts, own_number, fields_or_fault, object_of_parts, version_or_fault, line_due, line_or_kind, fault_at, lines_from, with_line, graph_of, graph_within}
@@ -426,6 +426,11 @@ unfolding graph_within
 graph_within-text limit version g is says few =
     ap (λ (r : Result (List DumpLine) DumpFault). r >>= λ lines. Ok (graph_of lines)) (lines_read limit version g is says few)
     ∙ ap ok_graph (graph_of-lines_in version g)
+
+-- a text of a graph, of whatever version, is read as the graph
+pub graph_within-IsTextOf : (limit : ℕ) (text : List ℕ) (g : GraphState) → IsGraph g × IsTextOf text g × (length text ≤ limit) → graph_within limit text ≡ Ok g
+graph_within-IsTextOf limit text g is =
+    subst (λ t. length t ≤ limit → graph_within limit t ≡ Ok g) (sym is.1.2) (graph_within-text limit is.1.0 g is.0 is.1.1) is.2
 
 -- version 2 can say each object
 pub says_all : (objects : List PlainObject) → AllByRecursion (CanSay Two) objects
