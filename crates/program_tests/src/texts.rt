@@ -184,6 +184,17 @@ pub const RAW_HISTORY: &[u8] =
 
 pub const RAW_HISTORY_REPORT: &[u8] = b"owner 1 calls 5\nlegal 5\n";
 
+/// A text without its last line.
+pub fn without_last_line(text: &[u8]) -> &[u8] {
+    let Some((_, before)) = text.split_last() else {
+        return text;
+    };
+    match before.iter().rposition(|byte| *byte == b'\n') {
+        Some(at) => before.split_at(at.saturating_add(1).min(before.len())).0,
+        None => b"",
+    }
+}
+
 /// A text that begins with `first` and goes on with so many times `next`.
 pub fn repeated(
     rt: &impl AllocGlobal,

@@ -1,10 +1,10 @@
 //! The program's commands, over a text and two writers.
 
 use crate::devices::{Broken, InterruptedReader, Unflushed};
-use crate::expectations::expect_equal;
+use crate::expectations::{expect_equal, expect_prefix};
 use crate::texts::{
     RIGHT, RIGHT_REPORT, STORED, STORED_HISTORY, TWO_FLIPS, TWO_FLIPS_ANSWERS, WITHOUT_FIELDS,
-    WITHOUT_FIELDS_ANSWERS, WRONG, WRONG_REPORT,
+    WITHOUT_FIELDS_ANSWERS, WRONG, WRONG_REPORT, without_last_line,
 };
 use rh_cli::{Ask, Subcommand, drive};
 use std::alloc::Allocator;
@@ -141,8 +141,9 @@ fn reads_of_dumps_end(rt: HostRuntime) {
     expect_reads(&rt, &DUMP, 536_870_912, b"rheap: line 1: End\n");
 }
 
-/// Does what is asked. Answers whether memory was refused: then standard error says so, and to
-/// standard output a prefix of the answers is written, without their last line.
+/// Does what is asked. Answers whether memory was refused: then standard error says so, and nothing
+/// is written to standard output, but of a run without a pace a prefix of the answers before their
+/// total line.
 pub fn is_refused<R: AllocGlobal + Abort + Threads + Wait + Sync, A: Allocator + Copy + Send>(
     rt: &R,
     memory: A,
@@ -156,7 +157,11 @@ pub fn is_refused<R: AllocGlobal + Abort + Threads + Wait + Sync, A: Allocator +
         return false;
     }
     expect_equal(rt, status, 3);
-    assert!(rt; answers.starts_with(out.as_slice()) && out.len() < answers.len());
     expect_equal(rt, err.as_slice(), b"rheap: out of memory\n".as_slice());
+    let written: &[u8] = match ask.subcommand {
+        Subcommand::Run => without_last_line(answers),
+        _ => b"",
+    };
+    expect_prefix(rt, written, &out);
     true
 }
