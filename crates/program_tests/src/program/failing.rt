@@ -119,18 +119,25 @@ fn each_write_fails_in_turn(rt: HostRuntime) {
     expect_equal(&rt, fail_writes(&rt, run, 1000), 11);
 }
 
+/// The first eight reads of a text that comes a byte a time, and the two after its last byte.
+fn some_reads(text: &[u8]) -> [u32; 10] {
+    let last = u32::try_from(text.len()).unwrap_or(0).saturating_mul(2);
+    let (next, end) = (last.saturating_add(1), last.saturating_add(2));
+    [1, 2, 3, 4, 5, 6, 7, 8, next, end]
+}
+
 #[test]
-fn each_of_the_first_reads_fails(rt: HostRuntime) {
+fn first_and_last_reads_fail(rt: HostRuntime) {
     let mut failed: usize = 0;
     for played in PLAYED {
-        for nth in 1..9u32 {
+        for nth in some_reads(played.1) {
             let (status, out, err) = play(&rt, &played.0, played.1, (nth, 0, 1000));
             expect_equal(&rt, (status, out.writes), (1, 0));
             expect_equal(&rt, err.as_slice(), b"rheap: read failed\n".as_slice());
             failed = failed.saturating_add(1);
         }
     }
-    expect_equal(&rt, failed, PLAYED.len().saturating_mul(8));
+    expect_equal(&rt, failed, PLAYED.len().saturating_mul(10));
 }
 
 /// What is asked, of which text, and what is wrong with it where it is cut: before its first byte,
