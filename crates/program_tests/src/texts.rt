@@ -184,6 +184,11 @@ pub const RAW_HISTORY: &[u8] =
 
 pub const RAW_HISTORY_REPORT: &[u8] = b"owner 1 calls 5\nlegal 5\n";
 
+/// How many lines of a text have ended.
+pub fn ended_lines(text: &[u8]) -> usize {
+    text.iter().filter(|byte| **byte == b'\n').count()
+}
+
 /// A text without its last line.
 pub fn without_last_line(text: &[u8]) -> &[u8] {
     let Some((_, before)) = text.split_last() else {

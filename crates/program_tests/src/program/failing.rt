@@ -7,7 +7,7 @@ use crate::program::driving::{DUMP, PACED, REPLAY, RUN, THREADS, drives_to, is_r
 use crate::texts::{
     JOINED, JOINED_ANSWERS, RIGHT, RIGHT_REPORT, STORED, STORED_HISTORY, TWO_FLIPS,
     TWO_FLIPS_ANSWERS, WHOLE_CYCLE, WHOLE_CYCLE_ANSWERS, WRONG, WRONG_REPORT, add_numbered,
-    repeated,
+    ended_lines, repeated, without_last_line,
 };
 use refusing::refused_in_turn;
 use rh_cli::{Ask, Subcommand, drive};
@@ -140,57 +140,61 @@ fn first_and_last_reads_fail(rt: HostRuntime) {
     expect_equal(&rt, failed, PLAYED.len().saturating_mul(10));
 }
 
-/// What is asked, of which text, and what is wrong with it where it is cut: before its first byte,
-/// within a line, and after a line, where it may be whole.
-const CUT: &[(Ask<'static>, &[u8], [&str; 3])] = &[
-    (RUN, WHOLE_CYCLE, ["Empty", "Cut", ""]),
-    (PACED, TWO_FLIPS, ["Empty", "Cut", ""]),
-    (THREADS, STORED, ["Empty", "Cut", ""]),
-    (REPLAY, RIGHT, ["Empty", "Cut", "End"]),
-    (DUMP, ITSELF, ["End", "End", "End"]),
-    (DUMP, BESIDE_RAW, ["End", "End", "End"]),
+/// What is asked, of which text, what is wrong with it where it is cut: before its first byte, within
+/// a line, and after a line, where it may be whole; and then the answers to the whole text.
+const CUT: &[(Ask<'static>, &[u8], [&str; 3], &[u8])] = &[
+    (RUN, WHOLE_CYCLE, ["Empty", "Cut", ""], WHOLE_CYCLE_ANSWERS),
+    (PACED, TWO_FLIPS, ["Empty", "Cut", ""], TWO_FLIPS_ANSWERS),
+    (THREADS, STORED, ["Empty", "Cut", ""], STORED_HISTORY),
+    (REPLAY, RIGHT, ["Empty", "Cut", "End"], b""),
+    (DUMP, ITSELF, ["End", "End", "End"], b""),
+    (DUMP, BESIDE_RAW, ["End", "End", "End"], b""),
 ];
 
 /// Does what is asked with a text that was cut, and expects what is wrong with it, if anything, to be
-/// told of the line after those that have ended. Answers whether it was.
+/// told of the line after those that have ended. Else each line that is left out has one answer less,
+/// and the others, but for the last line, stay. Answers whether something was wrong.
 fn is_cut<R: AllocGlobal + Abort + Threads + Wait + Sync>(
     rt: &R,
-    ask: &Ask<'_>,
+    &(ask, whole, kinds, answers): &(Ask<'static>, &[u8], [&str; 3], &[u8]),
     text: &[u8],
-    kinds: &[&str; 3],
 ) -> bool {
     let kind = match text.last() {
         None => kinds[0],
         Some(b'\n') => kinds[2],
         Some(_) => kinds[1],
     };
+    let ended = ended_lines(text);
     if kind.is_empty() {
-        let (status, _out, err) = play(rt, ask, text, (0, 0, 1000));
+        let (status, out, err) = play(rt, &ask, text, (0, 0, 1000));
         expect_equal(rt, (status, err.len()), (0, 0));
+        expect_prefix(rt, answers, without_last_line(&out.text));
+        let left_out = ended_lines(whole).saturating_sub(ended);
+        let answered = ended_lines(answers).saturating_sub(left_out);
+        expect_equal(rt, ended_lines(&out.text), answered);
         return false;
     }
-    let ended = text.iter().filter(|byte| **byte == b'\n').count() as u64;
     let line = ended.saturating_add(1);
     let told = format!(in rt.alloc(); "rheap: line {line}: {kind}\n").expect(rt, "memory is ample");
-    drives_to(rt, ask, text, 1, b"", told.as_bytes());
+    drives_to(rt, &ask, text, 1, b"", told.as_bytes());
     true
 }
 
 #[test]
 fn texts_are_cut_after_each_byte(rt: HostRuntime) {
-    for &(ask, text, kinds) in CUT {
+    for asked in CUT {
+        let text = asked.1;
         let mut cut: usize = 0;
         let mut whole: usize = 0;
         for count in 0..text.len() {
-            if is_cut(&rt, &ask, &text[..count], &kinds) {
+            if is_cut(&rt, asked, &text[..count]) {
                 cut = cut.saturating_add(1);
             } else {
                 whole = whole.saturating_add(1);
             }
         }
-        let lines = text.iter().filter(|byte| **byte == b'\n').count();
-        let runs = if kinds[2].is_empty() {
-            lines.saturating_sub(1)
+        let runs = if asked.2[2].is_empty() {
+            ended_lines(text).saturating_sub(1)
         } else {
             0
         };
