@@ -141,22 +141,24 @@ fn reads_of_dumps_end(rt: HostRuntime) {
     expect_reads(&rt, &DUMP, 536_870_912, b"rheap: line 1: End\n");
 }
 
-/// Does what is asked. Answers whether memory was refused: then standard error says so, and nothing
-/// is written to standard output, but of a run without a pace a prefix of the answers before their
-/// total line.
+/// Does what is asked, and expects this status, these answers and what is told, or that memory was
+/// refused. Answers whether it was: then standard error says so, and nothing is written to standard
+/// output, but of a run without a pace a prefix of the answers before their total line.
 pub fn is_refused<R: AllocGlobal + Abort + Threads + Wait + Sync, A: Allocator + Copy + Send>(
     rt: &R,
     memory: A,
-    &(ask, text, answers): &(Ask<'static>, &[u8], &[u8]),
+    &(ask, text, status, answers): &(Ask<'static>, &[u8], u8, &[u8]),
+    told: &[u8],
 ) -> bool {
     let mut out = Vec::new(rt.alloc());
     let mut err = Vec::new(rt.alloc());
-    let status = drive(rt, memory, &ask, &mut { text }, &mut out, &mut err);
-    if status == 0 {
+    let ended = drive(rt, memory, &ask, &mut { text }, &mut out, &mut err);
+    if ended != 3 {
+        expect_equal(rt, ended, status);
         expect_equal(rt, out.as_slice(), answers);
+        expect_equal(rt, err.as_slice(), told);
         return false;
     }
-    expect_equal(rt, status, 3);
     expect_equal(rt, err.as_slice(), b"rheap: out of memory\n".as_slice());
     let written: &[u8] = match ask.subcommand {
         Subcommand::Run => without_last_line(answers),

@@ -202,26 +202,69 @@ fn texts_are_cut_after_each_byte(rt: HostRuntime) {
     }
 }
 
-/// Refuses each allocation in turn, and expects so many refusals or more.
+/// Refuses each allocation in turn, and expects so many refusals or more, and this to be told where
+/// there is none.
 fn refuse<R: AllocGlobal + Abort + Threads + Wait + Sync>(
     rt: &R,
-    asked: &(Ask<'static>, &[u8], &[u8]),
+    asked: &(Ask<'static>, &[u8], u8, &[u8]),
+    told: &[u8],
     least: u64,
 ) {
-    let refused = refused_in_turn(rt.alloc(), |memory| is_refused(rt, memory, asked));
+    let refused = refused_in_turn(rt.alloc(), |memory| is_refused(rt, memory, asked, told));
     expect_refusals(rt, refused, least);
 }
+
+/// What is asked, of which faulty text, and what is told.
+const FAULTY: &[(Ask<'static>, &[u8], &[u8])] = &[
+    (
+        RUN,
+        b"heap 16 8 4 2 2\n1 drop 1.0\n1 grow 1.0\n",
+        b"rheap: line 3: Word\n",
+    ),
+    (
+        RUN,
+        b"heap 7 8 8 2 2\n1 drop 1.0\n",
+        b"rheap: heap: BadSpace\n",
+    ),
+    (
+        PACED,
+        b"heap 29 8 8 2 2\n1 drop 1.0\nstat\n",
+        b"rheap: line 3: Word\n",
+    ),
+    (
+        PACED,
+        b"heap 28 8 8 2 2\n1 alloc 1.0 2\n",
+        b"rheap: pace: TooSmall need 29\n",
+    ),
+    (
+        THREADS,
+        b"heap 64 8 8 2 2\n1 drop 1.0\n2 drop 1.0\n",
+        b"rheap: line 3: Root\n",
+    ),
+    (
+        REPLAY,
+        b"history 2 2\n1 drop 1.0 = done\n",
+        b"rheap: line 3: End\n",
+    ),
+    (
+        DUMP,
+        b"rheap 2\nroots 1\n1.0 @0\nobjects 1\n@0 1 @0\n",
+        b"rheap: line 6: End\n",
+    ),
+];
 
 #[test]
 fn each_allocation_is_refused(rt: HostRuntime) {
     let mut refused: u32 = 0;
-    for &(ask, text, status, answers) in PLAYED {
-        if status == 0 {
-            refuse(&rt, &(ask, text, answers), 3);
-            refused = refused.saturating_add(1);
-        }
+    for played in PLAYED {
+        refuse(&rt, played, b"", 3);
+        refused = refused.saturating_add(1);
     }
-    expect_equal(&rt, refused, 10);
+    for &(ask, text, told) in FAULTY {
+        refuse(&rt, &(ask, text, 1, b""), told, 1);
+        refused = refused.saturating_add(1);
+    }
+    expect_equal(&rt, refused, 18);
 }
 
 /// Sizes around those at which vectors grow.
@@ -248,13 +291,13 @@ fn refuse_lines<R: AllocGlobal + Abort + Threads + Wait + Sync>(
     let trace = lines(rt, b"heap 64 8 8 2 2\n", b"1 drop 1.0\n", size, "")?;
     let total = format!(in rt.alloc(); "total commands {size} refused 0 flips 0 rootwords 0\n")?;
     let answers = lines(rt, b"", b"done\n", size, &total)?;
-    refuse(rt, &(RUN, &trace, &answers), 3);
-    refuse(rt, &(PACED, &trace, &answers), 3);
+    refuse(rt, &(RUN, &trace, 0, &answers), b"", 3);
+    refuse(rt, &(PACED, &trace, 0, &answers), b"", 3);
     let end = format!(in rt.alloc(); "end {size}\n")?;
     let history = lines(rt, b"history 2 2\n", b"1 drop 1.0 = done\n", size, &end)?;
-    refuse(rt, &(THREADS, &trace, &history), 10);
+    refuse(rt, &(THREADS, &trace, 0, &history), b"", 10);
     let legal = format!(in rt.alloc(); "owner 1 calls {size}\nlegal {size}\n")?;
-    refuse(rt, &(REPLAY, &history, legal.as_bytes()), 3);
+    refuse(rt, &(REPLAY, &history, 0, legal.as_bytes()), b"", 3);
     Ok(())
 }
 
@@ -271,7 +314,7 @@ fn refuse_dump<R: AllocGlobal + Abort + Threads + Wait + Sync>(
     add_numbered(rt, &mut dump, size, ("@", " 0\n"))?;
     dump.extend_from_slice(b"end\n")?;
     let counts = format!(in rt.alloc(); "roots 1 objects {objects}\n")?;
-    refuse(rt, &(DUMP, &dump, counts.as_bytes()), 3);
+    refuse(rt, &(DUMP, &dump, 0, counts.as_bytes()), b"", 3);
     Ok(())
 }
 
