@@ -42,7 +42,8 @@ const CROWDED: Ask<'static> = Ask {
     file: "-",
 };
 
-/// The answers of a paced run of two flips at that mark, whose cycles begin later.
+/// The answers of a paced run of the two flips' trace at that mark, where cycles begin earlier, so
+/// that there are three.
 const MARKED_ANSWERS: &[u8] =
     b"object 2\nobject 2\nobject 2\nobject 2\nobject 2\nobject 2\nobject 2\nobject 2\n\
         object 2\nobject 2\nobject 2\ntotal commands 11 refused 0 flips 3 rootwords 3\n";
