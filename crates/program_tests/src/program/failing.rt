@@ -85,7 +85,9 @@ fn play<R: AllocGlobal + Abort + Threads + Wait + Sync>(
     (status, out, err)
 }
 
-/// Fails each write in turn, of which so many bytes are taken. Answers how many writes there are.
+/// Fails each write in turn, of which so many bytes are taken: one, or more than any write has. Then
+/// a run without a pace has written the lines before the failed one. Answers how many writes there
+/// are.
 fn fail_writes<R: AllocGlobal + Abort + Threads + Wait + Sync>(
     rt: &R,
     &(ask, text, status, answers): &(Ask<'static>, &[u8], u8, &[u8]),
@@ -101,8 +103,17 @@ fn fail_writes<R: AllocGlobal + Abort + Threads + Wait + Sync>(
         expect_equal(rt, (ended, out.writes), (1, nth));
         assert!(rt; answers.starts_with(&out.text) && out.text.len() < answers.len());
         expect_equal(rt, err.as_slice(), b"rheap: write failed\n".as_slice());
+        if ask.subcommand == Subcommand::Run && most > 1 {
+            expect_lines_before(rt, &out.text, nth);
+        }
     }
     0
+}
+
+/// Expects the whole lines that come before this one, counted from 1.
+fn expect_lines_before(rt: &impl Abort, text: &[u8], line: u32) {
+    expect_equal(rt, ended_lines(text).saturating_add(1), line as usize);
+    assert!(rt; text.is_empty() || text.ends_with(b"\n"));
 }
 
 #[test]
