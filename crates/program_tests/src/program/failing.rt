@@ -12,8 +12,9 @@ use crate::texts::{
 use refusing::refused_in_turn;
 use rh_cli::{Ask, Subcommand, drive};
 use rh_dump::{read_dump, write_dump};
+use rh_layout::{Command, Operand, Refusal, Reply, RootId};
 use rh_replay::{Verdict, read_history, report, write_history};
-use rh_trace::{Write, parse, print};
+use rh_trace::{Write, parse, print, write_answer, write_command};
 use std::process::Abort;
 use std::sync::Wait;
 use std::test::Fail;
@@ -363,6 +364,19 @@ where
     0
 }
 
+/// A command and an answer, with their texts.
+const COMMAND: Command = Command::Store {
+    obj: RootId { owner: 1, slot: 0 },
+    field: 0,
+    operand: Operand::Int(-5),
+};
+
+const COMMAND_TEXT: &[u8] = b"1 store 1.0 0 -5";
+
+const ANSWER: Result<Reply, Refusal> = Err(Refusal::IntRange);
+
+const ANSWER_TEXT: &[u8] = b"refused IntRange";
+
 #[test]
 fn texts_are_written_up_to_a_failed_write(rt: HostRuntime) -> Result<(), Fail> {
     let trace = parse(rt.alloc(), WHOLE_CYCLE).ok().ok_or("a trace")?;
@@ -375,11 +389,17 @@ fn texts_are_written_up_to_a_failed_write(rt: HostRuntime) -> Result<(), Fail> {
     let histories = fail_texts(&rt, RIGHT, |writer| write_history(&history, writer));
     let reports = fail_texts(&rt, RIGHT_REPORT, |writer| report(&history, &legal, writer));
     let dumps = fail_texts(&rt, BESIDE_RAW, |writer| write_dump(&graph, writer));
+    let commands = fail_texts(&rt, COMMAND_TEXT, |writer| {
+        write_command(1, &COMMAND, writer)
+    });
+    let answers = fail_texts(&rt, ANSWER_TEXT, |writer| write_answer(&ANSWER, writer));
     for (writes, length) in [
         (prints, WHOLE_CYCLE.len()),
         (histories, RIGHT.len()),
         (reports, RIGHT_REPORT.len()),
         (dumps, BESIDE_RAW.len()),
+        (commands, COMMAND_TEXT.len()),
+        (answers, ANSWER_TEXT.len()),
     ] {
         assert!(rt; writes as usize >= length / 3);
     }
