@@ -63,9 +63,22 @@ fn begin<A: Allocator + Copy>(rt: &impl Abort, engine: &mut Engine<A>) {
     expect_equal(rt, engine.shade(FIRST), Ok(Shaded::Placed));
 }
 
-/// Deals into a new tray. Answers whether memory was refused.
+/// How many trays there are, and the items of the two of these names, where they are there.
+fn sizes<A: Allocator + Copy>(
+    rt: &impl Abort,
+    engine: &Engine<A>,
+) -> (usize, Option<usize>, Option<usize>) {
+    let trays = engine.trays();
+    let first = trays.get(name(rt, b"a")).map(|replica| replica.len());
+    let second = trays.get(name(rt, b"b")).map(|replica| replica.len());
+    (trays.len(), first, second)
+}
+
+/// Deals into a new tray. Answers whether memory was refused: then the trays are as they were.
 fn is_refused_a_deal<A: Allocator + Copy>(rt: &impl Abort, engine: &mut Engine<A>) -> bool {
+    let before = sizes(rt, engine);
     let Ok(dealt) = engine.deal(Kind::Copies, 1, name(rt, b"a")) else {
+        expect_equal(rt, sizes(rt, engine), before);
         return true;
     };
     let (items, passed) = (1, 0);
@@ -73,9 +86,11 @@ fn is_refused_a_deal<A: Allocator + Copy>(rt: &impl Abort, engine: &mut Engine<A
     false
 }
 
-/// Joins the tray into another. Answers whether memory was refused.
+/// Joins the tray into another. Answers whether memory was refused: then the trays are as they were.
 fn is_refused_a_join<A: Allocator + Copy>(rt: &impl Abort, engine: &mut Engine<A>) -> bool {
+    let before = sizes(rt, engine);
     let Ok(joined) = engine.join(name(rt, b"b"), name(rt, b"a")) else {
+        expect_equal(rt, sizes(rt, engine), before);
         return true;
     };
     expect_equal(rt, joined, Ok(1));
