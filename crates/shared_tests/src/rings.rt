@@ -207,10 +207,9 @@ fn what_was_handed_back_is_settled(rt: HostRuntime) {
     let (one, two) = beside.settle().expect(&rt, "both finish");
     expect_equal(&rt, one.received.saturating_add(one.left), first);
     expect_equal(&rt, two.received.saturating_add(two.left), second);
-    let waiting = one
-        .received
-        .saturating_add(two.received)
-        .saturating_sub(taken);
+    let received = one.received.saturating_add(two.received);
+    assert!(rt; received >= taken, "{received}");
+    let waiting = received.saturating_sub(taken);
     assert!(rt; first >= 100 && second >= 100 && waiting <= 2, "{waiting}");
 }
 
