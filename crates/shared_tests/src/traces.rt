@@ -1,7 +1,7 @@
 //! Traces that are played on a shared heap, with mutators and replicators in threads.
 
 use crate::expectations::{expect_equal, expect_refusals, expect_texts, play_again};
-use refusing::refused_in_turn;
+use refusing::{RefusingAllocator, refused_in_turn};
 use rh_core::ConfigFault;
 use rh_replay::{Verdict, check, read_history};
 use rh_shared::SharedFault;
@@ -135,6 +135,13 @@ fn faults_of_traces(rt: HostRuntime) {
 
 /// Ends the test unless the history of two owners is read, is legal and has all their calls: none
 /// meets a limit.
+fn expect_legal<R: AllocGlobal + Abort>(rt: &R, written: &[u8]) {
+    let history = read_history(rt.alloc(), written).expect(rt, "a history");
+    let verdict = check(rt.alloc(), &history).ok();
+    expect_equal(rt, verdict, Some(Verdict::Legal(20)));
+}
+
+/// Ends the test unless the trace of two owners is played to its end.
 fn plays_legally<R: AllocGlobal + Abort + Threads + Wait + Sync>(
     rt: &R,
     options: RunOptions,
@@ -143,9 +150,7 @@ fn plays_legally<R: AllocGlobal + Abort + Threads + Wait + Sync>(
     let mut written = Vec::new(rt.alloc());
     let outcome = run_shared(rt, rt.alloc(), &mut reader, &mut written, options);
     expect_equal(rt, outcome, Ok(()));
-    let history = read_history(rt.alloc(), &written).expect(rt, "a history");
-    let verdict = check(rt.alloc(), &history).ok();
-    expect_equal(rt, verdict, Some(Verdict::Legal(20)));
+    expect_legal(rt, &written);
     Ok(())
 }
 
@@ -160,8 +165,8 @@ fn histories_of_two_owners(rt: HostRuntime) -> Result<(), Fail> {
     play_again(&rt, || plays_legally(&rt, idle))
 }
 
-/// Whether memory was refused to a run. Ends the test where anything else came of it but the whole
-/// history.
+/// Whether memory was refused to a run, so that nothing is written. Ends the test where anything else
+/// came of it but the whole history.
 fn is_refused<R, A>(rt: &R, memory: A) -> bool
 where
     R: AllocGlobal + Abort + Threads + Wait + Sync,
@@ -176,6 +181,7 @@ where
         }
         Err(fault) => {
             expect_equal(rt, fault, SharedRunFault::OutOfMemory);
+            expect_equal(rt, written.len(), 0);
             true
         }
     }
@@ -185,4 +191,33 @@ where
 fn refused_memory_of_runs(rt: HostRuntime) {
     let refused = refused_in_turn(rt.alloc(), |memory| is_refused(&rt, memory));
     expect_refusals(&rt, refused, 10);
+}
+
+/// Refuses the nth allocation of a run of two owners, whose cycle begins where the fifth of their
+/// objects leaves less than half of the words. Answers whether the run was refused memory: then
+/// nothing is written. Else the history is legal, be it that a replicator was refused it and asked
+/// again.
+fn is_refused_in_threads<R: AllocGlobal + Abort + Threads + Wait + Sync>(rt: &R, nth: u64) -> bool {
+    let memory = RefusingAllocator::new(rt.alloc(), nth);
+    let mut reader = SHARED;
+    let mut written = Vec::new(rt.alloc());
+    let outcome = run_shared(rt, &memory, &mut reader, &mut written, TWO);
+    if outcome.is_ok() {
+        expect_legal(rt, &written);
+        return false;
+    }
+    expect_equal(rt, outcome, Err(SharedRunFault::OutOfMemory));
+    expect_equal(rt, written.len(), 0);
+    true
+}
+
+#[test]
+fn refused_memory_in_a_cycle(rt: HostRuntime) {
+    let mut refused: u32 = 0;
+    for nth in 1..=60u64 {
+        if is_refused_in_threads(&rt, nth) {
+            refused = refused.saturating_add(1);
+        }
+    }
+    assert!(rt; refused >= 30, "{refused}");
 }
