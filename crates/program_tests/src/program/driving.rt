@@ -106,39 +106,57 @@ fn devices_that_fail(rt: HostRuntime) {
     }
 }
 
-/// Does what is asked where each read is interrupted but the last one, which comes to the end, or
-/// where that would be one read more, and expects so many reads, and what is told of an empty text,
-/// or of a failed read.
+/// Does what is asked where the read of this number, counted from 1, comes to the end, and each other
+/// is interrupted. Expects so many reads, and what is told.
 fn expect_reads<R: AllocGlobal + Abort + Threads + Wait + Sync>(
     rt: &R,
     ask: &Ask<'_>,
+    ends_at: u32,
     reads: u32,
     told: &[u8],
 ) {
-    for &(more, text) in &[(0, told), (1, b"rheap: read failed\n".as_slice())] {
-        let ends_at = reads.saturating_add(more);
-        let mut reader = InterruptedReader { reads: 0, ends_at };
-        let mut out = Vec::new(rt.alloc());
-        let mut err = Vec::new(rt.alloc());
-        let status = drive(rt, rt.alloc(), ask, &mut reader, &mut out, &mut err);
-        expect_equal(rt, (status, reader.reads, out.len()), (1, reads, 0));
-        expect_equal(rt, err.as_slice(), text);
-    }
+    let mut reader = InterruptedReader { reads: 0, ends_at };
+    let mut out = Vec::new(rt.alloc());
+    let mut err = Vec::new(rt.alloc());
+    let status = drive(rt, rt.alloc(), ask, &mut reader, &mut out, &mut err);
+    expect_equal(rt, (status, reader.reads, out.len()), (1, reads, 0));
+    expect_equal(rt, err.as_slice(), told);
 }
 
 #[test]
 fn reads_of_traces_end(rt: HostRuntime) {
-    expect_reads(&rt, &RUN, 33_554_432, b"rheap: line 1: Empty\n");
+    expect_reads(&rt, &RUN, 33_554_432, 33_554_432, b"rheap: line 1: Empty\n");
+    expect_reads(&rt, &RUN, 33_554_433, 33_554_432, b"rheap: read failed\n");
 }
 
 #[test]
 fn reads_of_histories_end(rt: HostRuntime) {
-    expect_reads(&rt, &REPLAY, 33_554_432, b"rheap: line 1: Empty\n");
+    expect_reads(
+        &rt,
+        &REPLAY,
+        33_554_432,
+        33_554_432,
+        b"rheap: line 1: Empty\n",
+    );
+    expect_reads(
+        &rt,
+        &REPLAY,
+        33_554_433,
+        33_554_432,
+        b"rheap: read failed\n",
+    );
 }
 
+/// So many reads take their time, so that only the one too many is tried, and not the last.
 #[test]
 fn reads_of_dumps_end(rt: HostRuntime) {
-    expect_reads(&rt, &DUMP, 536_870_912, b"rheap: line 1: End\n");
+    expect_reads(
+        &rt,
+        &DUMP,
+        536_870_913,
+        536_870_912,
+        b"rheap: read failed\n",
+    );
 }
 
 /// Does what is asked, and expects this status, these answers and what is told, or that memory was
