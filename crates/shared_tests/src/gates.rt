@@ -2,6 +2,7 @@
 
 use rh_replicator::{Gate, Stepped};
 use std::sync::atomic::{AtomicBool, Ordering};
+use std::thread;
 
 /// More looks than any wait takes.
 pub const LOOKS: u32 = 100_000_000;
@@ -28,8 +29,8 @@ impl Signs {
     }
 }
 
-/// Looks until the sign is set. Answers whether it was, within so many looks; where it wasn't, all
-/// others look no longer.
+/// Looks until the sign is set, and lets other threads run after each look in vain. Answers whether
+/// it was, within so many looks; where it wasn't, all others look no longer.
 pub fn is_seen(sign: &AtomicBool, missed: &AtomicBool) -> bool {
     for _ in 0..LOOKS {
         if sign.load(Ordering::SeqCst) {
@@ -38,6 +39,7 @@ pub fn is_seen(sign: &AtomicBool, missed: &AtomicBool) -> bool {
         if missed.load(Ordering::SeqCst) {
             return false;
         }
+        thread::yield_now();
     }
     missed.store(true, Ordering::SeqCst);
     false
@@ -67,6 +69,8 @@ impl<'f> Gate for Watched<'f> {
     fn did(&mut self, stepped: &Stepped) {
         if *stepped == Stepped::Folded(1) {
             self.own.folded.store(true, Ordering::SeqCst);
+        } else {
+            thread::yield_now();
         }
     }
 }
