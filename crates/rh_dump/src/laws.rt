@@ -1,7 +1,8 @@
 //! Laws of the definitions alone. Each function does nothing: its contract is the law.
 
-ghost use Rattle.std.specs.Prelude.{◌≡◌, ◌↔◌, ◌≤◌, ℕ, false, List, Some, Ok, Err, length, slice_get};
-ghost use Rattle.std.specs.List.{AllByRecursion};
+ghost use Rattle.std.specs.Prelude.{◌≡◌, ◌↔◌, ◌≤◌, ◌++◌, ◌∷◌, [], ℕ, pos, true, false, List, Some, Ok, Err, codes, length, slice_get};
+ghost use Rattle.std.specs.List.{AllByRecursion, flat_map};
+ghost use Rattle.rh_layout.specs.declared.value.Value.TheVariants.{Nil, Int, Ref};
 ghost use Rattle.rh_text.specs.RawLine.{lines_of};
 ghost use Rattle.rh_text.specs.Stages.{IsFaultless, IsFirst};
 ghost use Rattle.rh_model.specs.Graph.{Graph};
@@ -19,6 +20,7 @@ ghost use Rattle.rh_dump.specs.declared.reading.due.Version.TheVariants.{One};
 ghost use Rattle.rh_dump.specs.texts.Line.{CanSay, IsTextOf, dump_text, text_in};
 ghost use Rattle.rh_dump.specs.texts.Reading.{graph_of_text};
 ghost use Rattle.rh_dump.specs.declared.reading.fault.DumpFault.{DumpFault as FaultOf};
+ghost use Rattle.rh_dump.specs.declared.reading.fault.DumpKind.TheVariants.{Number};
 
 use crate::limits::{LAST_OBJECT, MAX_DUMP_BYTES, MAX_DUMP_READS, MAX_OBJECTS, MAX_ROOTS};
 
@@ -76,17 +78,38 @@ pub fn equal_dump_texts_are_same_graphs()
         ↔ SameGraph (plain.graph_of p) (plain.graph_of q) }
 {}
 
-/// Each graph is read from its text of version 2, and from its text of version 1 where it has no
-/// raw object, if the text has at most 268,435,456 bytes. It is read exactly from what is a text of
-/// it, within that limit.
+/// Each graph is read from its text of version 2, and from its text of version 1 exactly where it
+/// has no raw object, if the text has at most 268,435,456 bytes. It is read exactly from what is a
+/// text of it, within that limit.
 pub fn what_is_spelled_is_read()
     ensures spelled { (g : GraphState) → IsGraph g → length (dump_text g) ≤ MAX_DUMP_BYTES
         → graph_of_text (dump_text g) ≡ Ok g }
-    ensures version_1 { (g : GraphState) → IsGraph g
-        → AllByRecursion (λ object. object.raw ≡ false) g.objects
-        → length (text_in One g) ≤ MAX_DUMP_BYTES → graph_of_text (text_in One g) ≡ Ok g }
+    ensures version_1 { (g : GraphState) → IsGraph g → length (text_in One g) ≤ MAX_DUMP_BYTES
+        → (graph_of_text (text_in One g) ≡ Ok g)
+        ↔ AllByRecursion (λ object. object.raw ≡ false) g.objects }
     ensures read { (text : List ℕ) (g : GraphState) → (graph_of_text text ≡ Ok g)
         ↔ (IsGraph g × IsTextOf text g × (length text ≤ MAX_DUMP_BYTES)) }
+{}
+
+/// Three texts word for word: what one of version 2 with a raw object and one of version 1 are read
+/// as, and that a raw object in version 1 is a number that is none.
+pub fn worked_texts_are_read()
+    ensures raw { graph_of_text (flat_map (λ line. line ++ 10 ∷ []) (codes "rheap 2"
+        ∷ codes "roots 1" ∷ codes "1.0 @0" ∷ codes "objects 2" ∷ codes "@0 2 @1 nil"
+        ∷ codes "@1 raw 2 5 nil" ∷ codes "end" ∷ [])) ≡ Ok (record {
+          roots = (record { owner = 1; slot = 0 }, Ref 0) ∷ [];
+          objects = record { raw = false; fields = Ref 1 ∷ Nil ∷ [] }
+              ∷ record { raw = true; fields = Int (pos 5) ∷ Nil ∷ [] } ∷ [];
+        }) }
+    ensures before { graph_of_text (flat_map (λ line. line ++ 10 ∷ []) (codes "rheap 1"
+        ∷ codes "roots 1" ∷ codes "1.0 @0" ∷ codes "objects 1" ∷ codes "@0 1 5"
+        ∷ codes "end" ∷ [])) ≡ Ok (record {
+          roots = (record { owner = 1; slot = 0 }, Ref 0) ∷ [];
+          objects = record { raw = false; fields = Int (pos 5) ∷ [] } ∷ [];
+        }) }
+    ensures none { graph_of_text (flat_map (λ line. line ++ 10 ∷ []) (codes "rheap 1"
+        ∷ codes "roots 1" ∷ codes "1.0 @0" ∷ codes "objects 1" ∷ codes "@0 raw 1 5"
+        ∷ codes "end" ∷ [])) ≡ Err (record { line = 5; kind = Number }) }
 {}
 
 /// Graphs with equal texts are equal, however long these are, and of one version.

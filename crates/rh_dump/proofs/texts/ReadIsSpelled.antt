@@ -1,6 +1,6 @@
 -- What is read is spelled so, and is a graph.
-use Rattle.std.proofs.Common.{◌≡◌, ℕ, ℤ, suc, zero, ◌+◌, ◌<◌, ◌≤◌, Bool, true, false, cond, ltb, eqb, not, ◌&&◌, ◌||◌, List, [], ◌∷◌, ◌++◌, length, Option, Some, None, Result, Ok, Err, refl, sym, ap, subst, ◌∙◌, arith, inl, inr}
-use Rattle.std.specs.Prelude.{codes, decimal, map, ⊤}
+use Rattle.std.proofs.Common.{◌≡◌, ℕ, ℤ, suc, zero, ◌+◌, ◌<◌, ◌≤◌, slice_index_or, Bool, true, false, cond, ltb, eqb, not, ◌&&◌, ◌||◌, List, [], ◌∷◌, ◌++◌, length, Option, Some, None, Result, Ok, Err, refl, sym, ap, subst, ◌∙◌, arith, inl, inr}
+use Rattle.std.specs.Prelude.{◌↔◌, codes, decimal, map, ⊤}
 use Rattle.std.specs.List.{flat_map, join_with_byte, AllByRecursion}
 use Rattle.std.specs.Str.{bytes_eq}
 use Rattle.std.proofs.lemmas.Bool.{false≢true, and_parts, ltb-true, ltb-false, eqb-true, not-false, le-ltb, lt-ltb}
@@ -32,7 +32,7 @@ use Rattle.rh_dump.specs.texts.Putting.{IsDue}
 use Rattle.rh_dump.proofs.numbers.ObjectsIn.{joined}
 use Rattle.rh_dump.proofs.texts.PartMeans.{number_up_to-means, whole_of-means, small_root_of-means, after_at-means, object_head-means}
 use Rattle.rh_dump.proofs.numbers.MetValues.{met_after-append, AreNumbered-append}
-use Rattle.rh_dump.proofs.texts.SpelledIsRead.{met_after_grows, length-map_text, root_due-more, graph_of-lines_in}
+use Rattle.rh_dump.proofs.texts.SpelledIsRead.{met_after_grows, length-map_text, root_due-more, graph_of-lines_in, graph_within-text}
 
 with_fault_ok : {A : Type 0} (number : ℕ) (r : Result A DumpKind) (x : A) → with_fault (fault_at number) r ≡ Ok x → r ≡ Ok x
 with_fault_ok number (Ok y) x e = cc
@@ -622,3 +622,20 @@ graph_within-means limit text g e =
     let spelled : text ≡ text_in is.version is.graph = sym (lines_text text) ∙ m.text ∙ ap (flat_map spell_dump_line) is.lines_are in
     let told : IsTextOf text is.graph = (is.version, is.says, spelled) in
     (subst IsGraph same is.is, subst (IsTextOf text) same told, omega (arith, m.within, ap length (lines_text text)))
+
+-- a text of version 1 is none of version 2
+one_is_no_two : (g : GraphState) → text_in One g ≡ text_in Two g → ⊥
+one_is_no_two g same =
+    let byte : 49 ≡ 50 = ap (λ text. slice_index_or text 6 0) same in
+    omega (arith, byte)
+
+-- where a graph's text of version 1 is one of its texts, it has no raw object
+said_in_one : (g : GraphState) → IsTextOf (text_in One g) g → AllByRecursion (CanSay One) g.objects
+said_in_one g (One, says, same) = says
+said_in_one g (Two, says, same) = absurd (one_is_no_two g same)
+
+-- a graph is read from its text of version 1 exactly where it has no raw object
+pub graph_within-one : (limit : ℕ) (g : GraphState) → IsGraph g → length (text_in One g) ≤ limit
+    → (graph_within limit (text_in One g) ≡ Ok g) ↔ AllByRecursion (CanSay One) g.objects
+graph_within-one limit g is few =
+    (λ e. said_in_one g (graph_within-means limit (text_in One g) g e).1, λ says. graph_within-text limit One g is says few)

@@ -7,7 +7,7 @@ pub returns-clause-counted : goal.returns-clause-counted
 returns-clause-counted c = λ g old new is few. counted_as (dump_text g) g old new (c.what_is_spelled_is_read.ensures.spelled g is few)
 
 pub returns-clause-version_1 : goal.returns-clause-version_1
-returns-clause-version_1 c = λ g old new is plain few. counted_as (text_in One g) g old new (c.what_is_spelled_is_read.ensures.version_1 g is plain few)
+returns-clause-version_1 c = λ g old new is plain few. counted_as (text_in One g) g old new ((c.what_is_spelled_is_read.ensures.version_1 g is few).1 plain)
 
 pub returns-clause-one : goal.returns-clause-one
 returns-clause-one c = counted_one
