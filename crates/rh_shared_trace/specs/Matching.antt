@@ -1,5 +1,5 @@
 -- Which histories are of a trace: each owner's lines stand there, in order, with their answers.
-use Rattle.std.specs.Prelude.{◌≡◌, ◌⊎◌, ℕ, ◌<◌, ◌≤◌, ◌==◌, Bool, true, false, is_some, if◌then◌else◌, List, [], ◌∷◌, length}
+use Rattle.std.specs.Prelude.{◌≡◌, ◌⊎◌, ℕ, ◌<◌, ◌==◌, Bool, true, is_some, if◌then◌else◌, List, [], ◌∷◌}
 use Rattle.std.specs.List.{AllByRecursion}
 use Rattle.rh_layout.specs.declared.command.Command.{Command}
 use Rattle.rh_layout.specs.declared.command.Command.TheVariants.{Store}
@@ -8,7 +8,6 @@ use Rattle.rh_syntax.specs.declared.request.Request.{Request}
 use Rattle.rh_syntax.specs.declared.request.Request.TheVariants as requests
 use Rattle.rh_syntax.specs.Spelling.{Script}
 use Rattle.rh_replay.specs.declared.call.Call.{Call}
-use Rattle.rh_replay.specs.History.{HistoryState}
 use Rattle.rh_shared.specs.Shares.{calls_of}
 
 -- the commands of an owner's lines, in order

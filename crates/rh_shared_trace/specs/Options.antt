@@ -1,5 +1,5 @@
 -- The configuration of a shared run.
-use Rattle.std.specs.Prelude.{ℕ, ◌/◌}
+use Rattle.std.specs.Prelude.{◌/◌}
 use Rattle.rh_syntax.specs.declared.line.Header.{Header}
 use Rattle.rh_increment.specs.declared.config.SharedConfig.{SharedConfig}
 use Rattle.rh_shared_trace.specs.declared.options.RunOptions.{RunOptions}

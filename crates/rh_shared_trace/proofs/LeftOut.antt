@@ -1,0 +1,100 @@
+-- A line may be left out exactly where a limit may refuse its command.
+use Rattle.std.proofs.Common.{◌≡◌, ◌⊎◌, ℕ, zero, suc, ◌+◌, true, false, [], ◌∷◌, slice_index_or, refl, sym, subst, arith, inl, inr}
+use Rattle.std.proofs.lemmas.Bool.{true≢false}
+use Rattle.rh_layout.specs.declared.command.RootId.{RootId}
+use Rattle.rh_layout.specs.declared.value.Value.TheVariants.{Nil}
+use Rattle.rh_layout.specs.declared.command.Command.{Command}
+use Rattle.rh_layout.specs.declared.command.Command.TheVariants.{Alloc, Raw, Load, Store, Copy, Same, Drop}
+use Rattle.rh_layout.specs.declared.refusal.Refusal.{Refusal}
+use Rattle.rh_layout.specs.declared.refusal.Refusal.TheVariants.{NoRoot, NotYours, NotObject, NoField, RawField, IntRange, FieldsRange, SpaceFull, LogFull, NumbersSpent}
+use Rattle.rh_mutator.specs.declared.config.Config.{Config}
+use Rattle.rh_mutator.specs.Mutator.{MutatorState, IsMutator, IsStorable, new_mutators}
+use Rattle.rh_mutator.specs.Commands.{LimitHolds, IsStoring, with_new_object}
+use Rattle.rh_mutator.specs.lemmas.Kept.{IsMutator-with_new_object}
+use Rattle.rh_layout.specs.Shape.{shape_of}
+use Rattle.rh_shared_trace.specs.Matching.{MayLeaveOut}
+
+-- eight words, one root, and one number for stores
+abbrev small : Config
+small = record { words = 8; ratio = 1; owners = 1; slots = 1; log_limit = 1; last_number = 1; last_epoch = 1 }
+
+-- the number is taken
+abbrev spent : MutatorState
+spent = record (new_mutators small) { log = record (new_mutators small).log { number = 1 } }
+
+IsMutator-spent : IsMutator spent
+IsMutator-spent = record {
+  config = refl;
+  owners = refl;
+  slots = refl;
+  words = refl;
+  log = record {
+    some_limit = omega arith;
+    small_limit = omega arith;
+    some_number = omega arith;
+    small_number = omega arith;
+    within = omega arith;
+    fits = omega arith;
+    rise = omega arith;
+  };
+  limit = refl;
+  last_number = refl;
+  roots = at_nil;
+  fields = λ a f. tt;
+  raw = λ a f kind. refl;
+  numbers = λ a f. omega arith;
+}
+  where
+    at_nil : (position : ℕ) → IsStorable [] (slice_index_or (Nil ∷ []) position Nil)
+    at_nil zero = tt
+    at_nil (suc position) = tt
+
+-- and an object takes all words
+abbrev first_root : RootId
+first_root = record { owner = 0; slot = 0 }
+
+abbrev at_limits : MutatorState
+at_limits = with_new_object spent first_root (shape_of 6 false)
+
+abbrev IsLimited : Command → Type 0
+IsLimited command = (m : MutatorState) × IsMutator m × (limit : Refusal) × LimitHolds m command limit
+
+at : (command : Command) (limit : Refusal) → LimitHolds at_limits command limit → IsLimited command
+at command limit holds = (at_limits, IsMutator-with_new_object spent IsMutator-spent first_root (shape_of 6 false), limit, holds)
+
+nothing : {X : Type 0} → (false ≡ true) ⊎ (false ≡ true) → X
+nothing (inl e) = absurd (true≢false (sym e))
+nothing (inr e) = absurd (true≢false (sym e))
+
+pub left_out_is_limited : (command : Command) → MayLeaveOut false command → IsLimited command
+left_out_is_limited (Alloc dst fields) out = at (Alloc dst fields) (SpaceFull (2 + fields) 0) (dst, shape_of fields false, refl, refl, refl, omega arith)
+left_out_is_limited (Raw dst fields) out = at (Raw dst fields) (SpaceFull (2 + fields) 0) (dst, shape_of fields true, refl, refl, refl, omega arith)
+left_out_is_limited (Store obj field operand) out = at (Store obj field operand) NumbersSpent ((obj, field, operand, refl), refl, λ on. absurd (true≢false (sym on)))
+left_out_is_limited (Load dst src field) out = nothing out
+left_out_is_limited (Copy dst src) out = nothing out
+left_out_is_limited (Same a b) out = nothing out
+left_out_is_limited (Drop root) out = nothing out
+
+stored : (command : Command) → IsStoring command → MayLeaveOut false command
+stored command is = subst (MayLeaveOut false) (sym is.3) (inr refl)
+
+made : (m : MutatorState) (command : Command) (need free : ℕ) → LimitHolds m command (SpaceFull need free) → MayLeaveOut false command
+made m (Alloc dst fields) need free holds = inr refl
+made m (Raw dst fields) need free holds = inr refl
+made m (Store obj field operand) need free holds = inr refl
+made m (Load dst src field) need free holds = absurd cc
+made m (Copy dst src) need free holds = absurd cc
+made m (Same a b) need free holds = absurd cc
+made m (Drop root) need free holds = absurd cc
+
+pub limited_is_left_out : (m : MutatorState) (command : Command) (limit : Refusal) → LimitHolds m command limit → MayLeaveOut false command
+limited_is_left_out m command NoRoot holds = absurd holds
+limited_is_left_out m command NotYours holds = absurd holds
+limited_is_left_out m command NotObject holds = absurd holds
+limited_is_left_out m command NoField holds = absurd holds
+limited_is_left_out m command RawField holds = absurd holds
+limited_is_left_out m command IntRange holds = absurd holds
+limited_is_left_out m command FieldsRange holds = absurd holds
+limited_is_left_out m command (SpaceFull need free) holds = made m command need free holds
+limited_is_left_out m command LogFull holds = stored command holds.0
+limited_is_left_out m command NumbersSpent holds = stored command holds.0
