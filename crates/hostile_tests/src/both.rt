@@ -2,10 +2,10 @@
 
 ghost use Rattle.std.specs.Prelude.{◌≤◌};
 
-use crate::account::{Account, Answer};
+use crate::account::{Account, Answer, MOST_IDLE};
 use crate::expectations::{expect_equal, expect_limit, expect_same_dump};
 use crate::numbers::Numbers;
-use rh_core::{Config, FlipError, GiveError, Heap, Kind, Shaded, Stat};
+use rh_core::{Config, FlipError, GiveError, Heap, IdleError, Kind, Stat};
 use rh_layout::{Item, RootId, Value};
 use rh_model::{CommandError, Plain};
 use rh_partial::{PartialReplica, Piece, fold};
@@ -42,8 +42,9 @@ pub struct Counts {
     pub recalls: u64,
     /// Cycles that were abandoned and had placed something.
     pub abandons: u64,
-    /// Idle words that were accepted.
+    /// Idle words that were accepted, and those that were refused as too many.
     pub idles: u64,
+    pub idles_spent: u64,
     /// Pieces that were lost.
     pub lost: u64,
 }
@@ -78,10 +79,10 @@ fn give<A: Allocator + Copy>(
     let before = heap.stat();
     let copies = heap.undealt(Kind::Copies);
     let entries = heap.undealt(Kind::Entries);
-    let (answer, units) = account.give(rt, heap, replica);
+    let answer = account.give(rt, heap, replica);
     expect_equal(rt, heap.give(replica), answer);
     let after = heap.stat();
-    expect_equal(rt, after.spent, before.spent.saturating_add(units));
+    expect_equal(rt, after.spent, account.spent);
     if answer.is_err() {
         let spent = before.spent;
         expect_equal(rt, Stat { spent, ..after }, before);
@@ -123,6 +124,7 @@ impl<A: Allocator + Copy> Both<A> {
                 recalls: 0,
                 abandons: 0,
                 idles: 0,
+                idles_spent: 0,
                 lost: 0,
             },
         }
@@ -144,23 +146,37 @@ impl<A: Allocator + Copy> Both<A> {
                 let plain = self.plain.command(owner, &command);
                 expect_equal(rt, plain, answer.map_err(CommandError::Refused));
                 count(&mut self.counts.commands);
+                if before.cycle && answer.is_ok() {
+                    self.account.grant(&command, TIGHT.ratio);
+                }
             }
         }
     }
 
     /// A root is shaded.
     fn shade(&mut self, rt: &impl Abort, root: RootId) {
-        if self.heap.shade(root) == Ok(Shaded::Placed) {
-            self.account.note_placed(rt, self.heap.root(root));
+        let answer = self.account.shade(rt, &self.heap, root);
+        expect_equal(rt, self.heap.shade(root), answer);
+    }
+
+    /// A piece is dealt, of as many as the account expects, or refused as it expects.
+    fn deal(&mut self, rt: &impl Abort, kind: Kind, most: u32, loses: bool) {
+        let undealt = self.account.undealt(&self.heap, kind);
+        expect_equal(rt, self.heap.undealt(kind), undealt);
+        let answer = self.account.deal(&self.heap, kind, most);
+        match self.heap.deal(kind, most) {
+            Ok(dealt) => {
+                let looked = u64::from(dealt.passed).saturating_add(dealt.piece.len() as u64);
+                expect_equal(rt, Ok(looked), answer);
+                self.take(rt, &dealt.piece, loses);
+            }
+            Err(refusal) => expect_equal(rt, Err(refusal), answer),
         }
     }
 
-    /// A piece is dealt and taken into a replica of its own. Of six replicas all are given for the
-    /// last time, or lost: what was dealt isn't dealt again but after a recall.
-    fn deal(&mut self, rt: &impl Abort, kind: Kind, most: u32, loses: bool) {
-        let Ok(dealt) = self.heap.deal(kind, most) else {
-            return;
-        };
+    /// A piece is taken into a replica of its own. Of six replicas all are given for the last time,
+    /// or lost: what was dealt isn't dealt again but after a recall.
+    fn take(&mut self, rt: &impl Abort, piece: &Piece, loses: bool) {
         if self.replicas.len() == 6 {
             if loses {
                 count(&mut self.counts.lost);
@@ -171,8 +187,8 @@ impl<A: Allocator + Copy> Both<A> {
             }
             self.replicas.clear();
         }
-        let empty = PartialReplica::empty(self.memory, dealt.piece.epoch());
-        let replica = empty.take(&dealt.piece).ok().expect(rt, "memory is ample");
+        let empty = PartialReplica::empty(self.memory, piece.epoch());
+        let replica = empty.take(piece).ok().expect(rt, "memory is ample");
         self.replicas
             .push(replica)
             .ok()
@@ -200,12 +216,20 @@ impl<A: Allocator + Copy> Both<A> {
         }
     }
 
+    /// A cycle begins, where none is on.
+    fn begin(&mut self) {
+        if self.heap.begin().is_ok() {
+            self.account.begin();
+        }
+    }
+
     /// All that was dealt is undealt; the replicas are of an earlier epoch then.
     fn recall(&mut self, rt: &impl Abort) {
         let before = self.heap.epoch();
         if let Ok(epoch) = self.heap.recall() {
             expect_equal(rt, epoch, before.saturating_add(1));
             expect_equal(rt, self.heap.epoch(), epoch);
+            self.account.recall();
             let fields = self.account.fields(&self.heap);
             expect_equal(rt, self.heap.undealt(Kind::Copies), fields);
             expect_equal(rt, self.heap.undealt(Kind::Entries), 0);
@@ -225,10 +249,19 @@ impl<A: Allocator + Copy> Both<A> {
         }
     }
 
-    /// The collector has some idle words.
-    fn idle(&mut self, words: u32) {
-        if self.heap.idle(words.into()).is_ok() {
-            count(&mut self.counts.idles);
+    /// The collector has some idle words, or one more than a cycle may have.
+    fn idle(&mut self, rt: &impl Abort, numbers: &mut Numbers) {
+        let left = MOST_IDLE.saturating_sub(self.account.idle);
+        let words = match numbers.below(50) {
+            0 => left.saturating_add(1),
+            few => few.into(),
+        };
+        let answer = self.account.idle(&self.heap, words);
+        expect_equal(rt, self.heap.idle(words), answer);
+        match answer {
+            Ok(_) => count(&mut self.counts.idles),
+            Err(IdleError::IdleSpent) => count(&mut self.counts.idles_spent),
+            Err(IdleError::NoCycle) => {}
         }
     }
 
@@ -252,9 +285,7 @@ impl<A: Allocator + Copy> Both<A> {
     /// An event that isn't a command, or all that a cycle's end takes.
     fn collect(&mut self, rt: &impl Abort, numbers: &mut Numbers) {
         match numbers.below(16) {
-            0 | 1 | 2 => {
-                let _ = self.heap.begin();
-            }
+            0 | 1 | 2 => self.begin(),
             3 => self.shade(rt, numbers.root(1)),
             4 | 5 | 6 => {
                 let kind = numbers.kind();
@@ -264,7 +295,7 @@ impl<A: Allocator + Copy> Both<A> {
             9 => self.flip(rt),
             10 => self.recall(rt),
             11 => self.abandon(rt),
-            12 => self.idle(numbers.below(50)),
+            12 => self.idle(rt, numbers),
             _ => self.end(rt),
         }
     }
@@ -366,7 +397,10 @@ impl<A: Allocator + Copy> Both<A> {
             _ => self.invent(rt, numbers),
         }
         let stat = self.heap.stat();
-        expect_equal(rt, stat.missing, self.account.missing(&self.heap));
-        expect_equal(rt, stat.placed, self.account.placed.len() as u64);
+        let account = &self.account;
+        expect_equal(rt, stat.missing, account.missing(&self.heap));
+        expect_equal(rt, stat.placed, account.placed.len() as u64);
+        let units = (account.granted, account.idle, account.spent);
+        expect_equal(rt, (stat.granted, stat.idle, stat.spent), units);
     }
 }
