@@ -24,6 +24,8 @@ mod replicators;
 #[cfg(test)]
 mod rings;
 #[cfg(test)]
+mod settled;
+#[cfg(test)]
 mod shares;
 #[cfg(test)]
 mod starts;
