@@ -6,7 +6,7 @@ use crate::account::{Account, Answer, MOST_IDLE};
 use crate::expectations::{expect_equal, expect_limit, expect_same_dump};
 use crate::numbers::Numbers;
 use rh_core::{Config, FlipError, GiveError, Heap, IdleError, Kind, Stat};
-use rh_layout::{Item, RootId, Value};
+use rh_layout::{Item, Place, RootId, Value};
 use rh_model::{CommandError, Plain};
 use rh_partial::{PartialReplica, Piece, fold};
 use std::alloc::Allocator;
@@ -45,8 +45,10 @@ pub struct Counts {
     /// Idle words that were accepted, and those that were refused as too many.
     pub idles: u64,
     pub idles_spent: u64,
-    /// Pieces that were lost.
+    /// Pieces that were lost and never given.
     pub lost: u64,
+    /// Flips of cycles whose recall made such a piece undealt that was missing.
+    pub mended: u64,
 }
 
 /// The place of an answer among the counts of gives.
@@ -101,6 +103,10 @@ pub struct Both<A: Allocator + Copy> {
     account: Account<A>,
     /// What was dealt: given in any order, late and again.
     replicas: Vec<PartialReplica<A>, A>,
+    /// A place of a piece of this epoch that was lost, and whether one was recalled in this cycle
+    /// that was missing.
+    lost: Option<Place>,
+    recalled: bool,
     pub counts: Counts,
 }
 
@@ -115,6 +121,8 @@ impl<A: Allocator + Copy> Both<A> {
                 .expect(rt, "a plain heap"),
             account: Account::new(memory),
             replicas: Vec::new(memory),
+            lost: None,
+            recalled: false,
             counts: Counts {
                 gives: [0; 8],
                 joined: 0,
@@ -126,6 +134,7 @@ impl<A: Allocator + Copy> Both<A> {
                 idles: 0,
                 idles_spent: 0,
                 lost: 0,
+                mended: 0,
             },
         }
     }
@@ -159,7 +168,8 @@ impl<A: Allocator + Copy> Both<A> {
         expect_equal(rt, self.heap.shade(root), answer);
     }
 
-    /// A piece is dealt, of as many as the account expects, or refused as it expects.
+    /// A piece is dealt, and lost, or taken into a replica of its own: what was dealt isn't dealt
+    /// again but after a recall.
     fn deal(&mut self, rt: &impl Abort, kind: Kind, most: u32, loses: bool) {
         let undealt = self.account.undealt(&self.heap, kind);
         expect_equal(rt, self.heap.undealt(kind), undealt);
@@ -168,22 +178,29 @@ impl<A: Allocator + Copy> Both<A> {
             Ok(dealt) => {
                 let looked = u64::from(dealt.passed).saturating_add(dealt.piece.len() as u64);
                 expect_equal(rt, Ok(looked), answer);
-                self.take(rt, &dealt.piece, loses);
+                if loses {
+                    self.lose(&dealt.piece);
+                } else {
+                    self.take(rt, &dealt.piece);
+                }
             }
             Err(refusal) => expect_equal(rt, Err(refusal), answer),
         }
     }
 
-    /// A piece is taken into a replica of its own. Of six replicas all are given for the last time,
-    /// or lost: what was dealt isn't dealt again but after a recall.
-    fn take(&mut self, rt: &impl Abort, piece: &Piece, loses: bool) {
+    /// A piece is lost.
+    fn lose(&mut self, piece: &Piece) {
+        if let Some(item) = piece.items().first() {
+            self.lost = Some(item.place());
+            count(&mut self.counts.lost);
+        }
+    }
+
+    /// A piece is taken into a replica of its own. Of six replicas all are given for the last time.
+    fn take(&mut self, rt: &impl Abort, piece: &Piece) {
         if self.replicas.len() == 6 {
-            if loses {
-                count(&mut self.counts.lost);
-            } else {
-                for i in 0..6 {
-                    self.give(rt, i);
-                }
+            for i in 0..6 {
+                self.give(rt, i);
             }
             self.replicas.clear();
         }
@@ -208,12 +225,21 @@ impl<A: Allocator + Copy> Both<A> {
         match self.heap.flip() {
             Ok(_) => {
                 expect_equal(rt, missing, 0);
-                self.account.clear();
+                if self.recalled {
+                    count(&mut self.counts.mended);
+                }
+                self.forget();
                 expect_same_dump(rt, self.memory, &self.heap, &self.plain);
             }
             Err(FlipError::Missing(fields)) => expect_equal(rt, fields, missing),
             Err(_) => {}
         }
+    }
+
+    /// The cycle has ended.
+    fn forget(&mut self) {
+        self.account.clear();
+        (self.lost, self.recalled) = (None, false);
     }
 
     /// A cycle begins, where none is on.
@@ -234,6 +260,10 @@ impl<A: Allocator + Copy> Both<A> {
             expect_equal(rt, self.heap.undealt(Kind::Copies), fields);
             expect_equal(rt, self.heap.undealt(Kind::Entries), 0);
             count(&mut self.counts.recalls);
+            if let Some(place) = self.lost {
+                self.recalled = self.recalled || self.account.is_missing(&self.heap, place);
+            }
+            self.lost = None;
         }
     }
 
@@ -242,7 +272,7 @@ impl<A: Allocator + Copy> Both<A> {
         let placed = self.account.placed.len() as u64;
         if let Ok(forgotten) = self.heap.abandon() {
             expect_equal(rt, u64::from(forgotten), placed);
-            self.account.clear();
+            self.forget();
             if placed > 0 {
                 count(&mut self.counts.abandons);
             }
@@ -265,8 +295,12 @@ impl<A: Allocator + Copy> Both<A> {
         }
     }
 
-    /// What the roots refer to is placed, all is dealt and given, and the cycle ends.
-    fn end(&mut self, rt: &impl Abort) {
+    /// What was lost is undealt, what the roots refer to is placed, all is dealt and given but what
+    /// is lost now, and the cycle ends where nothing was.
+    fn end(&mut self, rt: &impl Abort, numbers: &mut Numbers) {
+        if self.lost.is_some() {
+            self.recall(rt);
+        }
         for owner in 0..TIGHT.owners {
             for slot in 0..TIGHT.slots {
                 self.shade(rt, RootId { owner, slot });
@@ -274,7 +308,7 @@ impl<A: Allocator + Copy> Both<A> {
         }
         for _ in 0..20u32 {
             for kind in [Kind::Copies, Kind::Entries] {
-                self.deal(rt, kind, 64, false);
+                self.deal(rt, kind, 64, numbers.has(1));
                 let last = self.replicas.len().saturating_sub(1);
                 self.give(rt, last);
             }
@@ -296,7 +330,7 @@ impl<A: Allocator + Copy> Both<A> {
             10 => self.recall(rt),
             11 => self.abandon(rt),
             12 => self.idle(rt, numbers),
-            _ => self.end(rt),
+            _ => self.end(rt, numbers),
         }
     }
 

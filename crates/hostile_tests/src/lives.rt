@@ -37,7 +37,7 @@ fn a_heap_through_a_thousand_cycles(rt: HostRuntime) {
     expect_each(&rt, &[counts.idles_spent], 5);
     expect_each(&rt, &[counts.commands], 10_000);
     expect_each(&rt, &[counts.recalls, counts.abandons, counts.idles], 50);
-    expect_each(&rt, &[counts.lost], 5);
+    expect_each(&rt, &[counts.lost, counts.mended], 20);
 }
 
 /// The sizes of a heap whose limits are met now and then.
