@@ -13,7 +13,7 @@ use std::alloc::Allocator;
 use std::process::Abort;
 
 /// The words of a space.
-const WORDS: u32 = 128;
+const WORDS: u32 = 96;
 
 /// The sizes of a heap of two owners and the shared slots: the ends of its words, its log and its
 /// credit are met often, and those of its numbers and epochs aren't.
@@ -22,7 +22,7 @@ pub const TIGHT: Config = Config {
     ratio: 48,
     owners: 3,
     slots: 4,
-    log_limit: 8,
+    log_limit: 6,
     last_number: 1 << 62,
     last_epoch: 1 << 62,
 };
@@ -319,7 +319,11 @@ impl<A: Allocator + Copy> Both<A> {
     /// An event that isn't a command, or all that a cycle's end takes.
     fn collect(&mut self, rt: &impl Abort, numbers: &mut Numbers) {
         match numbers.below(16) {
-            0 | 1 | 2 => self.begin(),
+            0 | 1 | 2 => {
+                self.begin();
+                self.idle(rt, numbers);
+                self.shade(rt, numbers.root(1));
+            }
             3 => self.shade(rt, numbers.root(1)),
             4 | 5 | 6 => {
                 let kind = numbers.kind();

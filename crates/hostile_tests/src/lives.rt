@@ -33,11 +33,11 @@ fn a_heap_through_a_thousand_cycles(rt: HostRuntime) {
     }
     expect_each(&rt, &[gives], 1000);
     expect_each(&rt, &[counts.joined], 50);
-    expect_each(&rt, &[counts.placed, counts.limits], 1);
-    expect_each(&rt, &[counts.idles_spent], 5);
+    expect_each(&rt, &[counts.placed, counts.idles_spent], 36);
+    expect_each(&rt, &[counts.limits], 500);
     expect_each(&rt, &[counts.commands], 10_000);
     expect_each(&rt, &[counts.recalls, counts.abandons, counts.idles], 50);
-    expect_each(&rt, &[counts.lost, counts.mended], 20);
+    expect_each(&rt, &[counts.lost, counts.mended], 50);
 }
 
 /// The sizes of a heap whose limits are met now and then.

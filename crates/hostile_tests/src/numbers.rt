@@ -62,16 +62,12 @@ impl Numbers {
     pub fn command(&mut self, owner: u32) -> Command {
         let first = self.root(owner);
         let second = self.root(owner);
-        let field = self.below(4);
-        match self.below(10) {
-            0 => Command::Alloc {
-                dst: first,
-                fields: field,
-            },
-            1 => Command::Raw {
-                dst: first,
-                fields: field,
-            },
+        // Few objects don't have it.
+        let field = self.below(4).min(self.below(4));
+        let fields = 3 - self.below(4).min(self.below(4));
+        match self.below(11) {
+            0 | 10 => Command::Alloc { dst: first, fields },
+            1 => Command::Raw { dst: first, fields },
             2 | 3 => Command::Load {
                 dst: first,
                 src: second,
