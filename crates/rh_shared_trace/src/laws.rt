@@ -20,8 +20,8 @@ pub fn a_trace_of_one_owner_has_one_whole_history()
         → length k.calls ≡ length (lines_of owner script.requests) → h ≡ k }
 {}
 
-/// A line may be left out of a history that isn't full exactly where some heap is at a limit for
-/// which its command may be refused: where it makes an object, raw or not, or stores.
+/// A line may be left out of a history that isn't full exactly where its command meets a limit of
+/// some heap, whatever else is wrong with it.
 pub fn what_a_limit_may_refuse_may_be_left_out()
     ensures { (command : CommandOf) → MayLeaveOut false command
         ↔ ((m : MutatorState) × IsMutator m × (limit : RefusalOf)
