@@ -5,8 +5,8 @@ ghost use Rattle.std.specs.Prelude.{◌≤◌};
 use crate::account::{Account, Answer, MOST_IDLE};
 use crate::expectations::{expect_equal, expect_limit, expect_same_dump};
 use crate::numbers::Numbers;
-use rh_core::{Config, FlipError, GiveError, Heap, IdleError, Kind, Stat};
-use rh_layout::{Item, Place, RootId, Value};
+use rh_core::{Config, GiveError, Heap, IdleError, Kind, NoCycle, Stat};
+use rh_layout::{Item, Place, Refusal, RootId, Value};
 use rh_model::{CommandError, Plain};
 use rh_partial::{PartialReplica, Piece, fold};
 use std::alloc::Allocator;
@@ -22,7 +22,7 @@ pub const TIGHT: Config = Config {
     ratio: 48,
     owners: 3,
     slots: 4,
-    log_limit: 6,
+    log_limit: 3,
     last_number: 1 << 62,
     last_epoch: 1 << 62,
 };
@@ -35,9 +35,12 @@ pub struct Counts {
     /// Entries of replicas that nobody dealt which were joined, and objects placed for them.
     pub joined: u64,
     pub placed: u64,
-    /// Answers that weren't limits', and those that were.
+    /// Commands that the plain heap answered, and refusals for want of room and of a log.
     pub commands: u64,
-    pub limits: u64,
+    pub full: u64,
+    pub logs_full: u64,
+    /// Flips that were done.
+    pub flips: u64,
     /// Recalls that were accepted.
     pub recalls: u64,
     /// Cycles that were abandoned and had placed something.
@@ -128,7 +131,9 @@ impl<A: Allocator + Copy> Both<A> {
                 joined: 0,
                 placed: 0,
                 commands: 0,
-                limits: 0,
+                full: 0,
+                logs_full: 0,
+                flips: 0,
                 recalls: 0,
                 abandons: 0,
                 idles: 0,
@@ -147,19 +152,23 @@ impl<A: Allocator + Copy> Both<A> {
         let answer = self.heap.command(owner, &command);
         match answer {
             Err(refusal) if refusal.is_limit() => {
-                expect_limit(rt, refusal, &before, TIGHT.log_limit);
+                expect_limit(rt, refusal, &command, &before, TIGHT.log_limit);
                 expect_equal(rt, self.heap.stat(), before);
-                count(&mut self.counts.limits);
+                count(match refusal {
+                    Refusal::LogFull => &mut self.counts.logs_full,
+                    _ => &mut self.counts.full,
+                });
             }
             _ => {
                 let plain = self.plain.command(owner, &command);
                 expect_equal(rt, plain, answer.map_err(CommandError::Refused));
                 count(&mut self.counts.commands);
-                if before.cycle && answer.is_ok() {
-                    self.account.grant(&command, TIGHT.ratio);
+                if self.account.on && answer.is_ok() {
+                    self.account.note(&command, TIGHT.ratio);
                 }
             }
         }
+        assert!(rt; self.account.logged <= TIGHT.log_limit.into());
     }
 
     /// A root is shaded.
@@ -178,6 +187,9 @@ impl<A: Allocator + Copy> Both<A> {
             Ok(dealt) => {
                 let looked = u64::from(dealt.passed).saturating_add(dealt.piece.len() as u64);
                 expect_equal(rt, Ok(looked), answer);
+                if kind == Kind::Copies {
+                    self.expect_copies(rt, &dealt.piece);
+                }
                 if loses {
                     self.lose(&dealt.piece);
                 } else {
@@ -185,6 +197,18 @@ impl<A: Allocator + Copy> Both<A> {
                 }
             }
             Err(refusal) => expect_equal(rt, Err(refusal), answer),
+        }
+    }
+
+    /// The piece has the fields that were next in order of placing, each with what stands there.
+    fn expect_copies(&self, rt: &impl Abort, piece: &Piece) {
+        let mut left = piece.len() as u64;
+        for item in piece.items() {
+            left = left.saturating_sub(1);
+            let place = self.account.dealt_before(&self.heap, left);
+            expect_equal(rt, Some(item.place()), place);
+            let current = self.heap.field(item.object, item.field);
+            expect_equal(rt, current, Some((item.number, item.value)));
         }
     }
 
@@ -221,18 +245,16 @@ impl<A: Allocator + Copy> Both<A> {
 
     /// The cycle ends, where it can, and the graph is that of the plain heap.
     fn flip(&mut self, rt: &impl Abort) {
-        let missing = self.account.missing(&self.heap);
-        match self.heap.flip() {
-            Ok(_) => {
-                expect_equal(rt, missing, 0);
-                if self.recalled {
-                    count(&mut self.counts.mended);
-                }
-                self.forget();
-                expect_same_dump(rt, self.memory, &self.heap, &self.plain);
+        let refusal = self.account.flip(&self.heap, &TIGHT);
+        let answer = self.heap.flip();
+        expect_equal(rt, answer.err(), refusal);
+        if answer.is_ok() {
+            count(&mut self.counts.flips);
+            if self.recalled {
+                count(&mut self.counts.mended);
             }
-            Err(FlipError::Missing(fields)) => expect_equal(rt, fields, missing),
-            Err(_) => {}
+            self.forget();
+            expect_same_dump(rt, self.memory, &self.heap, &self.plain);
         }
     }
 
@@ -243,19 +265,16 @@ impl<A: Allocator + Copy> Both<A> {
     }
 
     /// A cycle begins, where none is on.
-    fn begin(&mut self) {
-        if self.heap.begin().is_ok() {
-            self.account.begin();
-        }
+    fn begin(&mut self, rt: &impl Abort) {
+        let answer = self.account.begin();
+        expect_equal(rt, self.heap.begin(), answer);
     }
 
     /// All that was dealt is undealt; the replicas are of an earlier epoch then.
     fn recall(&mut self, rt: &impl Abort) {
-        let before = self.heap.epoch();
-        if let Ok(epoch) = self.heap.recall() {
-            expect_equal(rt, epoch, before.saturating_add(1));
-            expect_equal(rt, self.heap.epoch(), epoch);
-            self.account.recall();
+        let answer = self.account.recall();
+        expect_equal(rt, self.heap.recall(), answer);
+        if answer.is_ok() {
             let fields = self.account.fields(&self.heap);
             expect_equal(rt, self.heap.undealt(Kind::Copies), fields);
             expect_equal(rt, self.heap.undealt(Kind::Entries), 0);
@@ -269,24 +288,29 @@ impl<A: Allocator + Copy> Both<A> {
 
     /// The cycle ends without a flip.
     fn abandon(&mut self, rt: &impl Abort) {
-        let placed = self.account.placed.len() as u64;
-        if let Ok(forgotten) = self.heap.abandon() {
-            expect_equal(rt, u64::from(forgotten), placed);
-            self.forget();
-            if placed > 0 {
-                count(&mut self.counts.abandons);
+        let placed = self.account.placed.len();
+        match self.heap.abandon() {
+            Ok(forgotten) => {
+                assert!(rt; self.account.on);
+                expect_equal(rt, forgotten as usize, placed);
+                self.forget();
+                if placed > 0 {
+                    count(&mut self.counts.abandons);
+                }
             }
+            Err(NoCycle) => assert!(rt; !self.account.on),
         }
     }
 
-    /// The collector has some idle words, or one more than a cycle may have.
+    /// The collector has some idle words, or as many as a cycle may have, or one more.
     fn idle(&mut self, rt: &impl Abort, numbers: &mut Numbers) {
         let left = MOST_IDLE.saturating_sub(self.account.idle);
         let words = match numbers.below(50) {
             0 => left.saturating_add(1),
+            1 if numbers.has(2) => left,
             few => few.into(),
         };
-        let answer = self.account.idle(&self.heap, words);
+        let answer = self.account.add_idle(words);
         expect_equal(rt, self.heap.idle(words), answer);
         match answer {
             Ok(_) => count(&mut self.counts.idles),
@@ -320,7 +344,7 @@ impl<A: Allocator + Copy> Both<A> {
     fn collect(&mut self, rt: &impl Abort, numbers: &mut Numbers) {
         match numbers.below(16) {
             0 | 1 | 2 => {
-                self.begin();
+                self.begin(rt);
                 self.idle(rt, numbers);
                 self.shade(rt, numbers.root(1));
             }
@@ -427,7 +451,7 @@ impl<A: Allocator + Copy> Both<A> {
         }
     }
 
-    /// One event of any kind. What is missing and what is placed are as the account has them.
+    /// One event of any kind. The heap's numbers are then as the account has them.
     pub fn live(&mut self, rt: &impl Abort, numbers: &mut Numbers) {
         match numbers.below(4) {
             0 | 1 => self.command(rt, numbers),
@@ -440,5 +464,11 @@ impl<A: Allocator + Copy> Both<A> {
         expect_equal(rt, stat.placed, account.placed.len() as u64);
         let units = (account.granted, account.idle, account.spent);
         expect_equal(rt, (stat.granted, stat.idle, stat.spent), units);
+        expect_equal(rt, (stat.cycle, stat.epoch), (account.on, account.epoch));
+        expect_equal(
+            rt,
+            (stat.log, stat.flips),
+            (account.logged, self.counts.flips),
+        );
     }
 }

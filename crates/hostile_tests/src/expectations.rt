@@ -3,7 +3,7 @@
 use rh_core::{Heap, Stat};
 use rh_dump::limits::MAX_OBJECTS;
 use rh_dump::{plain_graph, same_text};
-use rh_layout::Refusal;
+use rh_layout::{Command, Refusal};
 use rh_model::Plain;
 use rh_trace::graph;
 use std::alloc::Allocator;
@@ -20,12 +20,27 @@ pub fn expect_each(rt: &impl Abort, counts: &[u64], least: u64) {
     assert!(rt; counts.iter().all(|count| *count >= least), "{counts:?}");
 }
 
-/// Ends the test unless the limit that is told of stood in the way of the heap that had these
-/// numbers.
-pub fn expect_limit(rt: &impl Abort, refusal: Refusal, before: &Stat, log_limit: u32) {
+/// Ends the test unless the limit that is told of stood in the way of the command, in the heap that
+/// had these numbers.
+pub fn expect_limit(
+    rt: &impl Abort,
+    refusal: Refusal,
+    command: &Command,
+    before: &Stat,
+    log_limit: u32,
+) {
     let stands = match refusal {
-        Refusal::SpaceFull { need, free } => free == before.free && need > free,
-        Refusal::LogFull => before.cycle && before.log == u64::from(log_limit),
+        Refusal::SpaceFull { need, free } => {
+            free == before.free
+                && need > free
+                && command.made().is_some_and(|(_, shape)| {
+                    need == u64::from(shape.fields).saturating_add(2)
+                })
+        }
+        Refusal::LogFull => {
+            let stores = matches!(command, Command::Store { .. });
+            stores && before.cycle && before.log == u64::from(log_limit)
+        }
         _ => false,
     };
     assert!(rt; stands, "{refusal:?} {before:?}");

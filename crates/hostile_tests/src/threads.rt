@@ -54,14 +54,17 @@ fn play<R: AllocGlobal + Abort + Threads + Wait + Sync>(
 #[test]
 fn four_mutators_and_four_replicators(rt: HostRuntime) -> Result<(), Fail> {
     let mut numbers = Numbers { state: 3 };
-    let (mut runs, mut words): (u64, u64) = (0, 0);
+    let (mut runs, mut collected): (u64, u64) = (0, 0);
     for _ in 0..100u32 {
         let text = trace(&rt, &mut numbers)?;
-        words = words.saturating_add(play(&rt, &text, numbers.below(4))?);
+        let words = play(&rt, &text, numbers.below(4))?;
+        // More than the space has: what isn't reached was collected.
+        if words > 192 {
+            collected = collected.saturating_add(1);
+        }
         runs = runs.saturating_add(1);
     }
     expect_equal(&rt, runs, 100);
-    // More than all the spaces have together: what isn't reached was collected.
-    expect_each(&rt, &[words], 100 * 192);
+    expect_each(&rt, &[collected], 10);
     Ok(())
 }
