@@ -30,8 +30,8 @@ pub record IsSharedRun (options : RunOptions) (input : List ℕ) (script : Scrip
   pub shared : shared_fault_of (shared_config_of script.header options) ≡ None
 
 -- A history that a run of a trace may write: it has the trace's owners and slots, and no more than
--- 65,536 calls, and it is legal; each owner's calls are of its lines, in order, of which only those that a limit may refuse are
--- left out, unless the history has its 65,536 calls.
+-- 65,536 calls, and it is legal; each owner's calls are of its lines, in order, of which only those
+-- that a limit may refuse are left out, unless the history has its 65,536 calls.
 pub record IsHistoryOf (script : Script) (h : HistoryState) : Type 0 where
   pub history : IsHistory h
   pub owners : h.owners ≡ script.header.owners
