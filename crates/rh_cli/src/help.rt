@@ -117,14 +117,14 @@ On failure standard error has one line, as `rheap: line 3: Cut`.
 
 Faults of a line, of which the first that holds is told:
   Empty     the file has no byte
-  Long      the line's number is above 1,048,576, or it has more than 256 bytes
+  Long      the line's number is above 1048576, or it has more than 256 bytes
   Cut       the line has no line end
   Trailing  the line stands after the `end` line
   Form      a byte isn't printable, or a part is empty
   Header    the first line doesn't begin with `history`, or hasn't three parts
   Form      `end` hasn't two parts
   Number    the owners aren't 1 to 16, the slots aren't 1 to 256, or what follows `end` isn't a
-            number up to 4,294,967,295
+            number up to 4294967295
   Word, Form, Number, Root  of a command, as in traces
   Answer    no part is `=`, or what follows it isn't an answer that a history may have
   Count     `end` has another number than that of the calls
@@ -145,7 +145,7 @@ On failure standard error has one line, as `rheap: line 3: Order`.
 
 Faults of a line, of which the first that holds is told, the last three part by part, from left to
 right:
-  Long      the text passes 268,435,456 bytes in this line
+  Long      the text passes 268435456 bytes in this line
   End       the file ends before this line's line end
   Header    the first line is neither `rheap 2` nor `rheap 1`, of the version before, in which no
             object is raw
