@@ -5,7 +5,7 @@ use Rattle.std.specs.List.{AllByRecursion}
 use Rattle.rh_rings.specs.Link.{LinkState, RingState}
 use Rattle.rh_rings.specs.Ends.{EndsState, IsNewLink}
 use Rattle.rh_increment.specs.Settling.{ends_pair, pair_of, pairs_of, IsNewHere}
-use Rattle.rh_shared.specs.Start.{AreNewLinks}
+use Rattle.rh_shared.specs.Start.{AreNewLinks, IsFresh}
 
 -- One link more, of the next number.
 pub AreNewLinks-more : {A : Type 0} (first : ℕ) (links : List (LinkState A)) (ends : List (EndsState A)) (link : LinkState A) (more : EndsState A)
@@ -60,6 +60,14 @@ new-from {A} first before (ring ∷ rings) (e ∷ ends) count links =
 
 pub AreNewLinks-here : {A : Type 0} (rings : List (RingState A)) (ends : List (EndsState A)) → AreNewLinks 0 rings ends → AllByRecursion (IsNewHere rings) ends
 AreNewLinks-here rings ends links = new-from 0 [] rings ends refl links
+
+-- nothing went through the ends of new links yet
+pub AreNewLinks-fresh : {A : Type 0} (number : ℕ) (rings : List (RingState A)) (ends : List (EndsState A)) → AreNewLinks number rings ends → AllByRecursion IsFresh ends
+AreNewLinks-fresh number [] [] links = tt
+AreNewLinks-fresh number [] (e ∷ ends) links = absurd links
+AreNewLinks-fresh number (ring ∷ rings) [] links = absurd links
+AreNewLinks-fresh number (ring ∷ rings) (e ∷ ends) links =
+    (record { taken = links.0.taken; handed = links.0.handed }, AreNewLinks-fresh (number + 1) rings ends links.1)
 
 pub count-rings : {A : Type 0} (links : List (LinkState A)) (n : ℕ) → length links ≡ n → length (map (λ l. l.ring) links) ≡ n
 count-rings [] n count = count

@@ -1,5 +1,4 @@
 pub mod OwnLines
-pub mod FreshEnds
 pub mod Ending
 pub mod TellingCommands
 pub mod OneOwner

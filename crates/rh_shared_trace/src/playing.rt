@@ -2,7 +2,7 @@
 
 ghost use Rattle.std.specs.Prelude.{◌≡◌, ◌≤◌, [], length};
 ghost use Rattle.std.specs.List.{AllByRecursion};
-ghost use Rattle.rh_shared_trace.specs.Playing.{IsFresh};
+ghost use Rattle.rh_shared.specs.Start.{IsFresh};
 
 use crate::threads::play_all;
 use rh_layout::OutOfMemory;

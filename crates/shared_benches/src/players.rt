@@ -1,7 +1,7 @@
 //! Replicators, and the gate behind which they are played.
 
 ghost use Rattle.std.specs.List.{AllByRecursion};
-ghost use Rattle.shared_benches.specs.Fresh.{IsFresh};
+ghost use Rattle.rh_shared.specs.Start.{IsFresh};
 
 use rh_layout::OutOfMemory;
 use rh_replicator::{Gate, Replicator, Stepped};

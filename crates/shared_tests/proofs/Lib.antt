@@ -1,2 +1,1 @@
 pub mod EndsHere
-pub mod FreshEnds

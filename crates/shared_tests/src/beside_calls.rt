@@ -1,7 +1,7 @@
 //! Replicators in threads of their own, beside calls under the lock in this one.
 
 ghost use Rattle.std.specs.List.{AllByRecursion};
-ghost use Rattle.rh_shared_trace.specs.Playing.{IsFresh};
+ghost use Rattle.rh_shared.specs.Start.{IsFresh};
 
 use crate::expectations::{expect_equal, play_again};
 use crate::gates::{LOOKS, Signs, Watched, is_seen};

@@ -1,6 +1,6 @@
 use Rattle.std.specs.List.{AllByRecursion}
 use Rattle.std.specs.Vec.Iter.{into_iter_items}
-use Rattle.rh_shared_trace.specs.Playing.{IsFresh}
+use Rattle.rh_shared.specs.Start.{IsFresh}
 use Rattle.rh_shared_trace.proofs.playing.replicators_of.Given as goal
 
 -- nothing went through the ends that come next

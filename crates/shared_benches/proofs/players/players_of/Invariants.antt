@@ -1,6 +1,6 @@
 use Rattle.std.specs.List.{AllByRecursion}
 use Rattle.std.specs.Vec.Iter.{into_iter_items}
-use Rattle.shared_benches.specs.Fresh.{IsFresh}
+use Rattle.rh_shared.specs.Start.{IsFresh}
 use Rattle.shared_benches.proofs.players.players_of.Given as goal
 
 -- nothing went through the ends that come next
