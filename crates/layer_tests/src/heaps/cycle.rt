@@ -6,22 +6,9 @@ ghost use Rattle.rh_core.specs.declared.errors.BeginError.TheVariants.{CycleOn};
 use crate::commands::{SIZES, alloc, item, replica_of, root, store};
 use crate::expectations::expect_equal;
 use rh_core::laws::a_command_leaves_the_cycle;
-use rh_core::laws::cycles::{
-    a_closed_cycle_has_placed_what_it_refers_to, a_cycle_begins_with_nothing_placed,
-    a_flip_ends_the_cycle, a_flip_is_refused_exactly_where_its_cycle_is_not_closed,
-    a_flip_keeps_the_graph,
-};
-use rh_core::laws::deals::{
-    a_deal_is_refused_with_the_first_reason, a_deal_looks_at_as_many_as_it_may,
-    copies_are_the_next_places_as_they_are, entries_are_the_next_of_placed_objects,
-    no_place_is_dealt_twice,
-};
-use rh_core::laws::progress::{
-    a_cycle_keeps_what_was_dealt_logged_and_granted, a_well_formed_heap_is_bounded,
-};
-use rh_core::laws::stores::store_lists_go_on_over_a_flip;
+use rh_core::laws::cycles::a_cycle_begins_with_nothing_placed;
 use rh_core::{BeginError, Config, FlipError, Heap, IdleError, Kind, NoCycle, RecallError, Shaded};
-use rh_layout::{Command, Item, Operand, Value};
+use rh_layout::{Command, Item, Operand, RootId, Value};
 use rh_partial::Piece;
 use std::alloc::Allocator;
 use std::process::Abort;
@@ -95,106 +82,81 @@ fn begins_after<A: Allocator + Copy>(
     heap.begin()
 }
 
-/// Deals of a kind, and checks the items.
-fn deals<A: Allocator + Copy>(
-    rt: &impl Abort,
-    heap: &mut Heap<A>,
-    kind: Kind,
-    items: &[Item],
-) -> Piece {
+const FIRST: RootId = RootId { owner: 1, slot: 0 };
+
+const SECOND: RootId = RootId { owner: 1, slot: 1 };
+
+/// A cycle in which a second object of one field is made, and the first one, of so many fields, is
+/// placed after these stores.
+fn first_placed(rt: &impl Abort, mut heap: Heap, fields: u32, stores: &[Command]) -> Heap {
+    assert!(rt; heap.command(1, &alloc(FIRST, fields)).is_ok());
+    expect_equal(rt, heap.begin(), Ok(1));
+    let answer = begins_after(&mut heap, 1, &alloc(SECOND, 1));
+    expect_equal(rt, answer, Err(BeginError::CycleOn));
+    for command in stores {
+        assert!(rt; heap.command(1, command).is_ok());
+    }
+    expect_equal(rt, heap.shade(FIRST), Ok(Shaded::Placed));
+    heap
+}
+
+/// Deals of a kind, and checks how many entries are passed over, and the items.
+fn deals(rt: &impl Abort, heap: &mut Heap, kind: Kind, passed: u32, items: &[Item]) -> Piece {
     let dealt = heap.deal(kind, 9).ok().expect(rt, "a piece");
-    expect_equal(rt, dealt.piece.epoch(), 1);
+    expect_equal(rt, (dealt.passed, dealt.piece.epoch()), (passed, 1));
     expect_equal(rt, dealt.piece.items(), items);
     dealt.piece
 }
 
-/// Places the object of the root.
-fn places<A: Allocator + Copy>(rt: &impl Abort, heap: &mut Heap<A>, slot: u32) {
-    expect_equal(rt, heap.shade(root(1, slot)), Ok(Shaded::Placed));
-}
-
-/// A cycle of two objects, of which the first refers to the second, up to the placing of the first.
-fn first_placed<A: Allocator + Copy>(rt: &impl Abort, memory: A) -> Heap<A> {
-    let sizes = Config {
-        words: 16,
-        ratio: 16,
-        ..SIZES
-    };
-    let mut heap = Heap::new(memory, sizes).expect(rt, "a heap");
-    let (first, second) = (root(1, 0), root(1, 1));
-    assert!(rt; heap.command(1, &alloc(first, 2)).is_ok());
-    expect_equal(rt, heap.begin(), Ok(1));
-    let answer = begins_after(&mut heap, 1, &alloc(second, 1));
-    expect_equal(rt, answer, Err(BeginError::CycleOn));
-    for command in [
-        store(first, 0, Operand::Root(second)),
-        store(second, 0, Operand::Nil),
-    ] {
-        assert!(rt; heap.command(1, &command).is_ok());
-    }
-    places(rt, &mut heap, 0);
-    heap
+/// Of the entries only those of placed objects are dealt.
+#[test]
+fn entries_of_deals(rt: HostRuntime) {
+    let stores = [
+        store(FIRST, 0, Operand::Int(5)),
+        store(SECOND, 0, Operand::Int(6)),
+    ];
+    let heap = Heap::new(rt.alloc(), SIZES).expect(&rt, "a heap");
+    let mut heap = first_placed(&rt, heap, 1, &stores);
+    let items = [item(0, 0, 1, Value::Int(5))];
+    deals(&rt, &mut heap, Kind::Entries, 1, &items);
+    expect_equal(&rt, (heap.stat().spent, heap.stat().granted), (5, 24));
 }
 
 /// The pair that stands in a field of to-space that has to be there.
-fn replica_pair<A: Allocator + Copy>(
-    rt: &impl Abort,
-    heap: &Heap<A>,
-    a: u32,
-    f: u32,
-) -> (u64, Value) {
+fn replica_pair(rt: &impl Abort, heap: &Heap, a: u32, f: u32) -> (u64, Value) {
     let replica = heap.replica();
     assert!(rt; replica.is_object(a));
     assert!(rt; f < replica.fields(a));
     replica.field(a, f)
 }
 
-/// Copies come in order of placing, then of field; of the entries only those of placed objects.
-/// Whether the entries are given or not, the same pairs stand in to-space before the flip and in
-/// from-space after it.
-fn play_deals<A: Allocator + Copy>(rt: &impl Abort, memory: A, gives_entries: bool) {
-    let mut heap = first_placed(rt, memory);
-    let stored = item(0, 0, 1, Value::Ref(4));
-    let entries = deals(rt, &mut heap, Kind::Entries, &[stored]);
-    expect_equal(rt, heap.stat().spent, 5);
-    places(rt, &mut heap, 1);
-    if gives_entries {
-        assert!(rt; heap.give(&replica_of(rt, memory, &entries)).is_ok());
-    }
-    let items = [stored, item(0, 1, 0, Value::Nil), item(4, 0, 2, Value::Nil)];
-    let copies = deals(rt, &mut heap, Kind::Copies, &items);
-    assert!(rt; heap.give(&replica_of(rt, memory, &copies)).is_ok());
+/// Copies come in order of placing, then of field. Once they are given, their pairs stand in
+/// to-space before the flip and in from-space after it.
+#[test]
+fn copies_of_deals(rt: HostRuntime) {
+    let sizes = Config {
+        words: 16,
+        log_limit: 4,
+        ..SIZES
+    };
+    let heap = Heap::new(rt.alloc(), sizes).expect(&rt, "a heap");
+    let stores = [store(FIRST, 0, Operand::Root(SECOND))];
+    let mut heap = first_placed(&rt, heap, 2, &stores);
+    expect_equal(&rt, heap.shade(SECOND), Ok(Shaded::Placed));
+    let items = [
+        item(0, 0, 1, Value::Ref(4)),
+        item(0, 1, 0, Value::Nil),
+        item(4, 0, 0, Value::Nil),
+    ];
+    let copies = deals(&rt, &mut heap, Kind::Copies, 0, &items);
+    assert!(rt; heap.give(&replica_of(&rt, rt.alloc(), &copies)).is_ok());
     for item in &items {
-        let pair = replica_pair(rt, &heap, item.object, item.field);
-        expect_equal(rt, pair, (item.number, item.value));
+        let pair = replica_pair(&rt, &heap, item.object, item.field);
+        expect_equal(&rt, pair, (item.number, item.value));
     }
     assert!(rt; heap.flip().is_ok());
     for item in &items {
         let pair = heap.field(item.object, item.field);
-        expect_equal(rt, pair, Some((item.number, item.value)));
+        expect_equal(&rt, pair, Some((item.number, item.value)));
     }
-}
-
-#[test]
-fn items_of_deals(rt: HostRuntime) {
-    for &gives_entries in &[false, true] {
-        play_deals(&rt, rt.alloc(), gives_entries);
-    }
-}
-
-#[test]
-fn the_laws_hold() {
-    a_cycle_begins_with_nothing_placed();
-    a_flip_is_refused_exactly_where_its_cycle_is_not_closed();
-    a_closed_cycle_has_placed_what_it_refers_to();
-    a_flip_keeps_the_graph();
-    a_flip_ends_the_cycle();
-    a_deal_is_refused_with_the_first_reason();
-    a_deal_looks_at_as_many_as_it_may();
-    copies_are_the_next_places_as_they_are();
-    entries_are_the_next_of_placed_objects();
-    no_place_is_dealt_twice();
-    store_lists_go_on_over_a_flip();
-    a_cycle_keeps_what_was_dealt_logged_and_granted();
-    a_well_formed_heap_is_bounded();
 }
