@@ -1,13 +1,10 @@
 //! Commands, items, sizes and replicas, written short.
 
 use rh_core::Config;
-use rh_layout::{Command, Item, Operand, Refusal, Reply, RootId, Value};
+use rh_layout::{Command, Item, Operand, RootId, Value};
 use rh_partial::{PartialReplica, Piece};
 use std::alloc::Allocator;
 use std::process::Abort;
-
-/// A command, and what it is answered.
-pub type Line = (Command, Result<Reply, Refusal>);
 
 /// The sizes of a heap with two owners and two slots each.
 pub const SIZES: Config = Config {
@@ -27,10 +24,6 @@ pub fn root(owner: u32, slot: u32) -> RootId {
 
 pub fn alloc(dst: RootId, fields: u32) -> Command {
     Command::Alloc { dst, fields }
-}
-
-pub fn raw(dst: RootId, fields: u32) -> Command {
-    Command::Raw { dst, fields }
 }
 
 pub fn load(dst: RootId, src: RootId, field: u32) -> Command {

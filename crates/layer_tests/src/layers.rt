@@ -1,11 +1,12 @@
 //! The layers of a heap, one by one.
 
+mod errors;
 mod joins;
 mod layout;
 mod log;
+mod making;
 mod partial_replicas;
 mod place;
-mod plain_heap;
 mod roots;
 mod space;
 mod work;

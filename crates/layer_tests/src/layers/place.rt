@@ -6,16 +6,11 @@ ghost use Rattle.rh_place.specs.Mirrors.{IsHoldable, Mirrors};
 
 use crate::commands::item;
 use crate::expectations::expect_equal;
-use refusing::{RefusingAllocator, refused_in_turn};
 use rh_layout::limits::MAX_NUMBER;
 use rh_layout::{Item, Place, Value, value_of, word_of};
-use rh_place::laws::{
-    a_whole_replica_is_the_original, from_space_goes_on, holding_changes_one_place,
-    placement_is_one_to_one, places_stay_in_order, to_space_has_room,
-};
+use rh_place::laws::from_space_goes_on;
 use rh_place::{Joint, Placing};
-use rh_space::{NOT_HELD, Space, SpaceError};
-use std::alloc::Allocator;
+use rh_space::{NOT_HELD, Space};
 use std::marker::Model;
 use std::process::Abort;
 
@@ -415,60 +410,4 @@ fn plays(rt: HostRuntime) {
     for &(objects, parts) in PLAYS {
         play(&rt, objects, parts);
     }
-}
-
-#[test]
-fn limits(rt: HostRuntime) {
-    for &words in &[0, 7, 16_777_217] {
-        expect_equal(
-            &rt,
-            Joint::new(rt.alloc(), words).err(),
-            Some(SpaceError::BadSpace),
-        );
-    }
-    let joint = Joint::new(rt.alloc(), 8).expect(&rt, "a joint");
-    expect_equal(
-        &rt,
-        (joint.placed(), joint.missing(), joint.undealt()),
-        (0, 0, 0),
-    );
-    expect_equal(
-        &rt,
-        (joint.to_space().words(), joint.to_space().used()),
-        (8, 0),
-    );
-}
-
-/// Makes a joint. Answers whether memory was refused.
-fn is_refused_a_joint<A: Allocator>(rt: &impl Abort, memory: &RefusingAllocator<A>) -> bool {
-    let bad = Joint::new(memory, 7).err();
-    expect_equal(rt, bad, Some(SpaceError::BadSpace));
-    match Joint::new(memory, 8) {
-        Ok(mut joint) => {
-            let asked = memory.asked();
-            assert!(rt; joint.next().is_none());
-            expect_equal(rt, memory.asked(), asked);
-            false
-        }
-        Err(error) => {
-            expect_equal(rt, error, SpaceError::OutOfMemory);
-            true
-        }
-    }
-}
-
-#[test]
-fn refused_memory(rt: HostRuntime) {
-    let refused = refused_in_turn(rt.alloc(), |memory| is_refused_a_joint(&rt, memory));
-    expect_equal(&rt, refused, Ok(1));
-}
-
-#[test]
-fn the_laws_hold() {
-    a_whole_replica_is_the_original();
-    from_space_goes_on();
-    holding_changes_one_place();
-    placement_is_one_to_one();
-    places_stay_in_order();
-    to_space_has_room();
 }

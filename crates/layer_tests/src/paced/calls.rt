@@ -1,9 +1,8 @@
 //! Calls of a paced heap, and what each increment did.
 
 use crate::commands::{drop_root, root, store};
-use crate::expectations::{expect_equal, expect_refusals};
-use refusing::refused_in_turn;
-use rh_core::{Config, ConfigFault, Flipped, HeapError};
+use crate::expectations::expect_equal;
+use rh_core::{Config, Flipped};
 use rh_layout::{Command, Operand, Refusal, Reply, RootId, Value};
 use rh_pace::{Did, Pace, PacedHeap};
 use std::alloc::Allocator;
@@ -207,28 +206,4 @@ fn calls_one_by_one(rt: HostRuntime) {
     expect_equal(&rt, heap.root(root(2, 0)), None);
     expect_equal(&rt, heap.fields(1), None);
     expect_equal(&rt, heap.command(2, &drop_root(C)), Err(Refusal::NoRoot));
-}
-
-#[test]
-fn faults_of_a_configuration(rt: HostRuntime) {
-    let narrow = Config { words: 7, ..SIZES };
-    let error = PacedHeap::new(rt.alloc(), narrow, PACE).err();
-    expect_equal(&rt, error, Some(HeapError::Config(ConfigFault::BadSpace)));
-}
-
-#[test]
-fn refused_memory(rt: HostRuntime) {
-    let refused = refused_in_turn(rt.alloc(), |memory| {
-        match PacedHeap::new(memory, SIZES, PACE) {
-            Ok(mut heap) => {
-                play(&rt, &mut heap, STEPS);
-                false
-            }
-            Err(error) => {
-                expect_equal(&rt, error, HeapError::OutOfMemory);
-                true
-            }
-        }
-    });
-    expect_refusals(&rt, refused, 4);
 }
