@@ -1,59 +1,126 @@
-//! Dumps of heaps and of plain heaps.
+//! Dumps of heaps and of plain heaps, which answer the same.
 
 use crate::expectations::{expect_equal, expect_refusals};
+use crate::texts::WITHOUT_FIELDS;
 use refusing::refused_in_turn;
-use rh_core::{Config, Heap};
+use rh_core::{GiveError, Heap};
 use rh_dump::limits::MAX_OBJECTS;
 use rh_dump::{Graph, plain_graph, same_text, write_dump};
-use rh_model::Plain;
-use rh_trace::{Request, graph, parse};
+use rh_layout::{Item, Value};
+use rh_model::{CommandError, Plain};
+use rh_partial::{PartialReplica, Piece};
+use rh_trace::{Request, config_of, graph, parse, write_answer};
 use std::alloc::Allocator;
 use std::process::Abort;
 
-/// Sizes for two owners and three slots each.
-const SIZES: Config = Config {
-    words: 64,
-    ratio: 8,
-    owners: 2,
-    slots: 3,
-    log_limit: 8,
-    last_number: 100,
-    last_epoch: 100,
-};
-
-/// A heap without objects, and its dump.
-const EMPTY: (&[u8], &[u8]) = (b"heap 64 8 8 2 3\n", b"rheap 2\nroots 0\nobjects 0\nend\n");
-
-/// Two objects, of which the one that was made last is named first.
-const TWO_ROOTS: (&[u8], &[u8]) = (
-    b"heap 64 8 8 2 3\n1 alloc 1.1 0\n1 alloc 1.0 1\n",
-    b"rheap 2\nroots 2\n1.0 @0\n1.1 @1\nobjects 2\n@0 1 nil\n@1 0\nend\n",
-);
-
 /// An object that refers to itself, and twice to another, which is met first through a field; and
 /// one that no root reaches.
-const SHARED: (&[u8], &[u8]) = (
+const SHARED: (&[u8], &[u8], &[u8]) = (
     b"heap 64 8 8 2 3\n1 alloc 1.0 3\n1 alloc 1.2 3\n1 alloc 1.1 0\n1 store 1.0 0 1.0\n\
         1 store 1.0 1 1.1\n1 store 1.0 2 1.1\n1 drop 1.1\n1 drop 1.2\n",
+    b"object 3\nobject 3\nobject 0\ndone\ndone\ndone\ndone\ndone\n",
     b"rheap 2\nroots 1\n1.0 @0\nobjects 2\n@0 3 @0 @1 @1\n@1 0\nend\n",
 );
 
-/// A raw object, and one that isn't, which refers to it; both have the same fields but one.
-const RAW: (&[u8], &[u8]) = (
-    b"heap 64 8 8 2 3\n1 raw 1.1 2\n1 store 1.1 0 -7\n1 alloc 1.0 2\n1 store 1.0 0 -7\n\
-        1 store 1.0 1 1.1\n",
-    b"rheap 2\nroots 2\n1.0 @0\n1.1 @1\nobjects 2\n@0 2 -7 @1\n@1 raw 2 -7 nil\nend\n",
-);
+/// Traces, each with what its commands are answered, and the dump after it.
+const PLAYED: &[(&[u8], &[u8], &[u8])] = &[
+    SHARED,
+    (
+        b"heap 64 8 8 2 3\n",
+        b"",
+        b"rheap 2\nroots 0\nobjects 0\nend\n",
+    ),
+    // Two objects, of which the one that was made last is named first.
+    (
+        b"heap 64 8 8 2 3\n1 alloc 1.1 0\n1 alloc 1.0 1\n",
+        b"object 0\nobject 1\n",
+        b"rheap 2\nroots 2\n1.0 @0\n1.1 @1\nobjects 2\n@0 1 nil\n@1 0\nend\n",
+    ),
+    // A raw object, and one that isn't, which refers to it; both have the same fields but one.
+    (
+        b"heap 64 8 8 2 3\n1 raw 1.1 2\n1 store 1.1 0 -7\n1 alloc 1.0 2\n1 store 1.0 0 -7\n\
+            1 store 1.0 1 1.1\n",
+        b"raw 2\ndone\nobject 2\ndone\ndone\n",
+        b"rheap 2\nroots 2\n1.0 @0\n1.1 @1\nobjects 2\n@0 2 -7 @1\n@1 raw 2 -7 nil\nend\n",
+    ),
+    (
+        WITHOUT_FIELDS,
+        b"object 0\nrefused NoField\n",
+        b"rheap 2\nroots 1\n1.0 @0\nobjects 1\n@0 0\nend\n",
+    ),
+    // An object that two fields refer to, before and after a flip.
+    (
+        b"heap 64 8 8 2 3\n1 alloc 1.0 2\n1 alloc 1.1 0\n1 store 1.0 0 1.1\n1 store 1.0 1 1.1\n\
+            1 load 1.2 1.0 1\n1 same 1.1 1.2\n1 drop 1.1\n1 drop 1.2\nbegin\n1 alloc 1.1 3\n\
+            1 drop 1.1\nshade 1.0\ndeal copies 9 a\ngive a\nflip\n1 load 1.1 1.0 0\n\
+            1 load 1.2 1.0 1\n1 same 1.1 1.2\n",
+        b"object 2\nobject 0\ndone\ndone\nobject 0\nsame yes\ndone\ndone\nobject 3\ndone\n\
+            object 0\nobject 0\nsame yes\n",
+        b"rheap 2\nroots 3\n1.0 @0\n1.1 @1\n1.2 @1\nobjects 2\n@0 2 @1 @1\n@1 0\nend\n",
+    ),
+    // The ends of the whole numbers.
+    (
+        b"heap 16 8 4 2 2\n1 alloc 1.0 1\n1 store 1.0 0 -2305843009213693952\n1 load 1.1 1.0 0\n\
+            1 store 1.0 0 2305843009213693951\n1 load 1.1 1.0 0\n\
+            1 store 1.0 0 2305843009213693952\n1 store 1.0 0 -2305843009213693953\n\
+            1 load 1.1 1.0 0\n",
+        b"object 1\ndone\nint -2305843009213693952\ndone\nint 2305843009213693951\n\
+            refused IntRange\nrefused IntRange\nint 2305843009213693951\n",
+        b"rheap 2\nroots 2\n1.0 @0\n1.1 2305843009213693951\nobjects 1\n\
+            @0 1 2305843009213693951\nend\n",
+    ),
+    // Of several refusals the first in order.
+    (
+        b"heap 16 8 4 3 2\n1 copy 1.0 2.0\n1 copy 9.0 2.0\n1 load 1.1 1.0 0\n\
+            1 store 1.0 0 9223372036854775807\n1 drop 1.2\n1 copy 1.0 0.0\n",
+        b"refused NotYours\nrefused NoRoot\nrefused NotObject\nrefused NotObject\n\
+            refused NoRoot\nnil\n",
+        b"rheap 2\nroots 0\nobjects 0\nend\n",
+    ),
+];
 
-/// Plays the commands of a trace on both heaps, which answer the same.
-fn play(rt: &(impl AllocGlobal + Abort), text: &[u8], heap: &mut Heap, plain: &mut Plain) {
+/// The replica that took the piece.
+fn replica_of(rt: &(impl AllocGlobal + Abort), piece: &Piece) -> PartialReplica {
+    let empty = PartialReplica::empty(rt.alloc(), piece.epoch());
+    empty.take(piece).ok().expect(rt, "memory is ample")
+}
+
+/// Does what a line of a cycle asks of a heap. What is dealt is given at once.
+fn collect(rt: &(impl AllocGlobal + Abort), heap: &mut Heap, request: &Request) {
+    let is_done = match *request {
+        Request::Begin => heap.begin().is_ok(),
+        Request::Shade { root } => heap.shade(root).is_ok(),
+        Request::Deal { kind, most, .. } => {
+            let dealt = heap.deal(kind, most).ok().expect(rt, "a piece");
+            heap.give(&replica_of(rt, &dealt.piece)).is_ok()
+        }
+        Request::Flip => heap.flip().is_ok(),
+        _ => true,
+    };
+    assert!(rt; is_done);
+}
+
+/// Plays a trace on a heap, and its commands on a plain heap too, which answers the same. Answers
+/// both, and what the commands are answered, a line each.
+fn play(rt: &(impl AllocGlobal + Abort), text: &[u8]) -> (Heap, Plain, Vec<u8>) {
     let trace = parse(rt.alloc(), text).ok().expect(rt, "a trace");
+    let config = config_of(trace.header());
+    let mut heap = Heap::new(rt.alloc(), config).ok().expect(rt, "a heap");
+    let plain = Plain::new(rt.alloc(), config.owners, config.slots);
+    let mut plain = plain.ok().expect(rt, "a plain heap");
+    let mut answers = Vec::new(rt.alloc());
     for request in trace.requests() {
         if let Request::Command { owner, command } = *request {
             let answer = heap.command(owner, &command);
-            expect_equal(rt, plain.command(owner, &command).ok(), answer.ok());
+            let due = answer.map_err(CommandError::Refused);
+            expect_equal(rt, plain.command(owner, &command), due);
+            expect_equal(rt, write_answer(&answer, &mut answers), Ok(()));
+            answers.push(b'\n').ok().expect(rt, "memory is ample");
+        } else {
+            collect(rt, &mut heap, request);
         }
     }
+    (heap, plain, answers)
 }
 
 /// Expects the text of a graph.
@@ -76,13 +143,76 @@ fn expect_dumps(rt: &(impl AllocGlobal + Abort), heap: &Heap, plain: &Plain, tex
 }
 
 #[test]
-fn objects_are_numbered_as_they_are_met(rt: HostRuntime) {
-    for &(text, dump) in &[EMPTY, TWO_ROOTS, SHARED, RAW] {
-        let mut heap = Heap::new(rt.alloc(), SIZES).expect(&rt, "a heap");
-        let mut plain = Plain::new(rt.alloc(), 2, 3).expect(&rt, "a plain heap");
-        play(&rt, text, &mut heap, &mut plain);
+fn heaps_answer_as_plain_heaps_and_have_their_dumps(rt: HostRuntime) {
+    for &(text, answers, dump) in PLAYED {
+        let (heap, plain, answered) = play(&rt, text);
+        expect_equal(&rt, answered.as_slice(), answers);
         expect_dumps(&rt, &heap, &plain, dump);
     }
+}
+
+/// A trace that places an object at word 0, and the dump after it.
+const PLACED: (&[u8], &[u8]) = (
+    b"heap 64 8 8 2 2\n1 alloc 1.0 1\nbegin\n1 alloc 1.1 0\n1 store 1.0 0 5\nshade 1.0\n",
+    b"rheap 2\nroots 2\n1.0 @0\n1.1 @1\nobjects 2\n@0 1 5\n@1 0\nend\n",
+);
+
+/// Entries of field 0 that nobody dealt: the object, the number and the value, and why a replica
+/// that has one is refused.
+const INVENTED: &[(u32, u64, Value, GiveError)] = &[
+    (
+        1,
+        0,
+        Value::Nil,
+        GiveError::Stranger {
+            object: 1,
+            field: 0,
+        },
+    ),
+    (
+        0,
+        2,
+        Value::Int(5),
+        GiveError::FromFuture {
+            object: 0,
+            field: 0,
+        },
+    ),
+    (
+        0,
+        1,
+        Value::Int(6),
+        GiveError::Forged {
+            object: 0,
+            field: 0,
+        },
+    ),
+];
+
+#[test]
+fn invented_replicas_leave_the_dump(rt: HostRuntime) {
+    let (mut heap, plain, _) = play(&rt, PLACED.0);
+    let mut refused: u32 = 0;
+    for epoch in [1, 2] {
+        expect_equal(&rt, heap.epoch(), epoch);
+        for &(object, number, value, fault) in INVENTED {
+            let mut piece = Piece::new(epoch);
+            let field = 0;
+            let item = Item {
+                object,
+                field,
+                number,
+                value,
+            };
+            piece.push(item).expect(&rt, "there is room");
+            let replica = replica_of(&rt, &piece);
+            expect_equal(&rt, heap.give(&replica), Err(fault));
+            expect_dumps(&rt, &heap, &plain, PLACED.1);
+            refused = refused.saturating_add(1);
+        }
+        expect_equal(&rt, heap.recall().is_ok(), true);
+    }
+    expect_equal(&rt, refused, 6);
 }
 
 /// Makes the graph of a heap. Answers whether memory was refused.
@@ -97,9 +227,7 @@ fn is_refused_a_plain_graph<A: Allocator + Copy>(heap: &Plain, memory: A) -> boo
 
 #[test]
 fn refused_memory(rt: HostRuntime) {
-    let mut heap = Heap::new(rt.alloc(), SIZES).expect(&rt, "a heap");
-    let mut plain = Plain::new(rt.alloc(), 2, 3).expect(&rt, "a plain heap");
-    play(&rt, SHARED.0, &mut heap, &mut plain);
+    let (heap, plain, _) = play(&rt, SHARED.0);
     let refused = refused_in_turn(rt.alloc(), |memory| is_refused_a_graph(&heap, memory));
     expect_refusals(&rt, refused, 3);
     let refused = refused_in_turn(
