@@ -124,27 +124,11 @@ fn expect_reads<R: AllocGlobal + Abort + Threads + Wait + Sync>(
 }
 
 #[test]
-fn reads_of_traces_end(rt: HostRuntime) {
-    expect_reads(&rt, &RUN, 33_554_432, 33_554_432, b"rheap: line 1: Empty\n");
-    expect_reads(&rt, &RUN, 33_554_433, 33_554_432, b"rheap: read failed\n");
-}
-
-#[test]
-fn reads_of_histories_end(rt: HostRuntime) {
-    expect_reads(
-        &rt,
-        &REPLAY,
-        33_554_432,
-        33_554_432,
-        b"rheap: line 1: Empty\n",
-    );
-    expect_reads(
-        &rt,
-        &REPLAY,
-        33_554_433,
-        33_554_432,
-        b"rheap: read failed\n",
-    );
+fn reads_of_traces_and_histories_end(rt: HostRuntime) {
+    for ask in &[RUN, PACED, THREADS, REPLAY] {
+        expect_reads(&rt, ask, 33_554_432, 33_554_432, b"rheap: line 1: Empty\n");
+        expect_reads(&rt, ask, 33_554_433, 33_554_432, b"rheap: read failed\n");
+    }
 }
 
 /// So many reads take their time, so that only the one too many is tried, and not the last.

@@ -1,7 +1,7 @@
 //! Texts with faults, and what the program tells of them.
 
 use crate::expectations::{expect_equal, expect_text};
-use crate::program::driving::{DUMP, REPLAY, RUN, drives_to};
+use crate::program::driving::{DUMP, PACED, REPLAY, RUN, THREADS, drives_to};
 use crate::texts::repeated;
 use rh_cli::Ask;
 use rh_dump::{DumpFault, DumpKind, DumpReadError};
@@ -340,7 +340,7 @@ fn long_lines(rt: HostRuntime) -> Result<(), Fail> {
 #[test]
 fn files_that_are_too_long(rt: HostRuntime) -> Result<(), Fail> {
     let text = vec![in rt.alloc(); b'9'; 16_777_217]?;
-    for ask in &[RUN, REPLAY] {
+    for ask in &[RUN, PACED, THREADS, REPLAY] {
         drives_to(&rt, ask, &text, 1, b"", b"rheap: too long\n");
     }
     Ok(())
