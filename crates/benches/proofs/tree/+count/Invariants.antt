@@ -1,5 +1,5 @@
 use Rattle.std.proofs.Common.{ℕ}
-use Rattle.paced_benches.proofs.tree.+count.Given as goal
+use Rattle.benches.proofs.tree.+count.Given as goal
 
 abbrev pub decreases-count : goal.decreases-count
 decreases-count l = l.depth

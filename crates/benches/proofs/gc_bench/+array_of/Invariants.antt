@@ -1,5 +1,5 @@
 use Rattle.std.proofs.Common.{ℕ}
-use Rattle.paced_benches.proofs.gc_bench.+array_of.Given as goal
+use Rattle.benches.proofs.gc_bench.+array_of.Given as goal
 
 abbrev pub decreases-array_of : goal.decreases-array_of
 decreases-array_of l = l.depth

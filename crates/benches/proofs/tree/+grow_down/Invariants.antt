@@ -1,5 +1,5 @@
 use Rattle.std.proofs.Common.{ℕ}
-use Rattle.paced_benches.proofs.tree.+grow_down.Given as goal
+use Rattle.benches.proofs.tree.+grow_down.Given as goal
 
 abbrev pub decreases-grow_down : goal.decreases-grow_down
 decreases-grow_down l = l.depth

@@ -1,5 +1,5 @@
 use Rattle.std.proofs.Common.{ℕ}
-use Rattle.paced_benches.proofs.tree.+grow_up.Given as goal
+use Rattle.benches.proofs.tree.+grow_up.Given as goal
 
 abbrev pub decreases-grow_up : goal.decreases-grow_up
 decreases-grow_up l = l.depth
