@@ -1,12 +1,11 @@
 //! Texts with faults, and what the program tells of them.
 
-use crate::expectations::{expect_equal, expect_text};
+use crate::expectations::expect_text;
 use crate::program::driving::{DUMP, PACED, REPLAY, RUN, THREADS, drives_to};
 use crate::texts::repeated;
 use rh_cli::Ask;
 use rh_dump::{DumpFault, DumpKind, DumpReadError};
-use rh_layout::{Command, RootId};
-use rh_trace::{Kind, Line, ParseError, Request, TraceFault, Write, parse};
+use rh_trace::{Kind, ParseError, TraceFault, Write, parse};
 use std::process::Abort;
 use std::sync::Wait;
 use std::test::Fail;
@@ -363,17 +362,4 @@ fn texts_of_faults(rt: HostRuntime) {
     };
     expect_text(&rt, DumpReadError::Fault(fault), "line 4: Count");
     expect_text(&rt, DumpReadError::Read, "read failed");
-}
-
-#[test]
-fn a_line_is_that_of_its_request(rt: HostRuntime) -> Result<(), Fail> {
-    let root = RootId { owner: 1, slot: 0 };
-    let command = Command::Drop { root };
-    let request = Request::Command { owner: 3, command };
-    expect_equal(&rt, Line::of(&request), Line::Drop { owner: 3, root });
-    let trace = parse(rt.alloc(), b"heap 16 8 4 2 2\n3 drop 1.0\n")
-        .ok()
-        .ok_or("a trace")?;
-    expect_equal(&rt, trace.requests(), [request].as_slice());
-    Ok(())
 }

@@ -1,19 +1,13 @@
 //! Reading and printing traces.
 
 use crate::devices::SlowWriter;
-use crate::expectations::expect_equal;
+use crate::expectations::{expect_equal, expect_prefix};
 use crate::texts::{
     DUMPS, FOUR_CYCLES, JOINED, LARGE_TRAYS, LONG_HEADER, LONG_LINE, RAW_OBJECT, TOO_MANY,
     TWO_EPOCHS, WHOLE_CYCLE, WITHOUT_FIELDS, repeated,
 };
 use refusing::RefusingAllocator;
-use rh_core::Kind as PieceKind;
-use rh_layout::{Operand, RootId};
-use rh_trace::{
-    Header, Kind, Line, ParseError, Request, Trace, TraceFault, TrayName, Write, parse, print,
-    tray_name_of,
-};
-use std::alloc::Allocator;
+use rh_trace::{Kind, Line, ParseError, Request, Trace, TraceFault, Write, parse, print};
 use std::process::Abort;
 use std::test::Fail;
 
@@ -38,148 +32,80 @@ const BOUNDARY: &[u8] =
     b"heap 16 8 4 2 2\n1 alloc 1.0 2\n1 alloc 1.1 1\n1 alloc 0.0 4096\n1 alloc 0.0 8\n\
         1 alloc 0.0 7\n1 alloc 0.1 0\n";
 
-const A: RootId = RootId { owner: 1, slot: 0 };
+/// What shows the first line of a text, and its other lines, a variant for each keyword: how each
+/// begins.
+const SHOWN: &[(&[u8], &str, &[&str])] = &[
+    (
+        KEYWORDS,
+        "Header { words: 16, ratio: 8, log: 4, owners: 2, slots: 2 }",
+        &[
+            "Alloc { owner: 1, dst: RootId { owner: 1, slot: 0 }, fields: 2 }",
+            "Raw { owner: 1, dst: RootId { owner: 1, slot: 1 }, fields: 3 }",
+            "Load { owner: 1, dst: RootId { owner: 1, slot: 1 }, src: RootId { owner: 1, slot: 0 }, field: 0 }",
+            "Store { owner: 1, obj: RootId { owner: 1, slot: 0 }, field: 0, operand: Int(5) }",
+            "Copy { owner: 1, dst: RootId { owner: 1, slot: 1 }, src: RootId { owner: 0, slot: 0 } }",
+            "Same { owner: 1, a: RootId { owner: 1, slot: 0 }, b: RootId { owner: 1, slot: 1 } }",
+            "Drop { owner: 1, root: RootId { owner: 1, slot: 0 } }",
+            "Begin",
+            "Shade { root: RootId { owner: 1, slot: 0 } }",
+            "Deal { kind: Copies, most: 4294967295, tray: TrayName { bytes: [116, 0,",
+            "Deal { kind: Entries, most: 0, tray: TrayName { bytes: [97, 95, 50, 122, 57, 0,",
+            "Give { tray: TrayName { bytes: [97, 98, 99, 100, 101, 102, 103, 104, 105, 106, 107, 108, 109, 110, 111, 112], len: 16 } }",
+            "Join { into: TrayName { bytes: [116, 0,",
+            "Flip",
+            "Recall",
+            "Abandon",
+            "Idle { words: 4294967295 }",
+            "Trays",
+            "Stat",
+            "Dump",
+        ],
+    ),
+    (
+        OPERANDS,
+        "Header { words: 4294967295, ratio: 0, log: 1, owners: 2, slots: 3 }",
+        &[
+            "Store { owner: 1, obj: RootId { owner: 1, slot: 0 }, field: 1, operand: Nil }",
+            "Store { owner: 1, obj: RootId { owner: 1, slot: 0 }, field: 1, operand: Int(0) }",
+            "Store { owner: 1, obj: RootId { owner: 1, slot: 0 }, field: 1, operand: Int(-1) }",
+            "Store { owner: 1, obj: RootId { owner: 1, slot: 0 }, field: 1, operand: Int(9223372036854775807) }",
+            "Store { owner: 1, obj: RootId { owner: 1, slot: 0 }, field: 1, operand: Int(-9223372036854775808) }",
+            "Store { owner: 1, obj: RootId { owner: 1, slot: 0 }, field: 1, operand: Root(RootId { owner: 15, slot: 255 }) }",
+        ],
+    ),
+];
 
-const B: RootId = RootId { owner: 1, slot: 1 };
-
-const HEADER: Header = Header {
-    words: 16,
-    ratio: 8,
-    log: 4,
-    owners: 2,
-    slots: 2,
-};
-
-/// A command line of each keyword.
-fn command_lines() -> [Line; 7] {
-    [
-        Line::Alloc {
-            owner: 1,
-            dst: A,
-            fields: 2,
-        },
-        Line::Raw {
-            owner: 1,
-            dst: B,
-            fields: 3,
-        },
-        Line::Load {
-            owner: 1,
-            dst: B,
-            src: A,
-            field: 0,
-        },
-        Line::Store {
-            owner: 1,
-            obj: A,
-            field: 0,
-            operand: Operand::Int(5),
-        },
-        Line::Copy {
-            owner: 1,
-            dst: B,
-            src: RootId { owner: 0, slot: 0 },
-        },
-        Line::Same {
-            owner: 1,
-            a: A,
-            b: B,
-        },
-        Line::Drop { owner: 1, root: A },
-    ]
-}
-
-/// The name of a tray that these bytes are.
-fn tray(rt: &impl Abort, name: &[u8]) -> TrayName {
-    tray_name_of(name).expect(rt, "a name")
-}
-
-/// The other lines, one of each keyword, and of both kinds of deals.
-fn other_lines(rt: &impl Abort) -> [Line; 13] {
-    let (first, second) = (tray(rt, b"t"), tray(rt, b"a_2z9"));
-    [
-        Line::Begin,
-        Line::Shade { root: A },
-        Line::Deal {
-            kind: PieceKind::Copies,
-            most: 4_294_967_295,
-            tray: first,
-        },
-        Line::Deal {
-            kind: PieceKind::Entries,
-            most: 0,
-            tray: second,
-        },
-        Line::Give {
-            tray: tray(rt, b"abcdefghijklmnop"),
-        },
-        Line::Join {
-            into: first,
-            other: second,
-        },
-        Line::Flip,
-        Line::Recall,
-        Line::Abandon,
-        Line::Idle {
-            words: 4_294_967_295,
-        },
-        Line::Trays,
-        Line::Stat,
-        Line::Dump,
-    ]
-}
-
-/// The line `i` of a trace, if it has one.
-fn line_at<A: Allocator>(trace: &Trace<A>, i: usize) -> Option<Line> {
-    if i < trace.len() {
-        Some(trace.line(i))
-    } else {
-        None
+/// Expects the line `i` of a trace to be shown so.
+fn expect_line(
+    rt: &(impl AllocGlobal + Abort),
+    trace: &Trace,
+    i: usize,
+    text: &str,
+) -> Result<(), Fail> {
+    if i >= trace.len() {
+        return Err(Fail::from("there is no such line"));
     }
+    let line = trace.line(i);
+    let shown = format!(in rt.alloc(); "{line:?}")?;
+    expect_prefix(rt, shown.as_bytes(), text.as_bytes());
+    Ok(())
 }
 
 #[test]
 fn reads_each_keyword(rt: HostRuntime) -> Result<(), Fail> {
-    let trace = parse(rt.alloc(), KEYWORDS).ok().ok_or("a trace")?;
-    expect_equal(&rt, trace.header(), HEADER);
-    expect_equal(&rt, (trace.len(), trace.is_empty()), (20, false));
-    for (i, line) in (0..7).zip(command_lines().iter()) {
-        expect_equal(&rt, line_at(&trace, i), Some(*line));
+    let mut lines: u32 = 0;
+    for &(text, first, others) in SHOWN {
+        let trace = parse(rt.alloc(), text).ok().ok_or("a trace")?;
+        let header = trace.header();
+        let shown = format!(in rt.alloc(); "{header:?}")?;
+        expect_equal(&rt, shown.as_str(), first);
+        for (i, line) in others.iter().enumerate() {
+            expect_line(&rt, &trace, i, line)?;
+            lines = lines.saturating_add(1);
+        }
     }
-    for (i, line) in (7..20).zip(other_lines(&rt).iter()) {
-        expect_equal(&rt, line_at(&trace, i), Some(*line));
-    }
-    assert!(rt; trace.len() == 20 && trace.line(19) == Line::Dump);
+    expect_equal(&rt, lines, 26);
     assert!(rt; size_of::<Line>() <= 40 && size_of::<Request>() <= 40);
-    Ok(())
-}
-
-/// The operands that are stored, in turn.
-const STORED: &[Operand] = &[
-    Operand::Nil,
-    Operand::Int(0),
-    Operand::Int(-1),
-    Operand::Int(9_223_372_036_854_775_807),
-    Operand::Int(-9_223_372_036_854_775_808),
-    Operand::Root(RootId {
-        owner: 15,
-        slot: 255,
-    }),
-];
-
-#[test]
-fn reads_each_operand(rt: HostRuntime) -> Result<(), Fail> {
-    let trace = parse(rt.alloc(), OPERANDS).ok().ok_or("a trace")?;
-    expect_equal(&rt, trace.len(), 10);
-    for (i, operand) in STORED.iter().enumerate() {
-        let store = Line::Store {
-            owner: 1,
-            obj: A,
-            field: 1,
-            operand: *operand,
-        };
-        expect_equal(&rt, line_at(&trace, i), Some(store));
-    }
     Ok(())
 }
 
