@@ -1,8 +1,7 @@
 //! Dumps of heaps and of plain heaps, which answer the same.
 
-use crate::expectations::{expect_equal, expect_refusals};
+use crate::expectations::expect_equal;
 use crate::texts::WITHOUT_FIELDS;
-use refusing::refused_in_turn;
 use rh_core::{GiveError, Heap};
 use rh_dump::limits::MAX_OBJECTS;
 use rh_dump::{Graph, plain_graph, same_text, write_dump};
@@ -13,18 +12,16 @@ use rh_trace::{Request, config_of, graph, parse, write_answer};
 use std::alloc::Allocator;
 use std::process::Abort;
 
-/// An object that refers to itself, and twice to another, which is met first through a field; and
-/// one that no root reaches.
-const SHARED: (&[u8], &[u8], &[u8]) = (
-    b"heap 64 8 8 2 3\n1 alloc 1.0 3\n1 alloc 1.2 3\n1 alloc 1.1 0\n1 store 1.0 0 1.0\n\
-        1 store 1.0 1 1.1\n1 store 1.0 2 1.1\n1 drop 1.1\n1 drop 1.2\n",
-    b"object 3\nobject 3\nobject 0\ndone\ndone\ndone\ndone\ndone\n",
-    b"rheap 2\nroots 1\n1.0 @0\nobjects 2\n@0 3 @0 @1 @1\n@1 0\nend\n",
-);
-
 /// Traces, each with what its commands are answered, and the dump after it.
 const PLAYED: &[(&[u8], &[u8], &[u8])] = &[
-    SHARED,
+    // An object that refers to itself, and twice to another, which is met first through a field; and one
+    // that no root reaches.
+    (
+        b"heap 64 8 8 2 3\n1 alloc 1.0 3\n1 alloc 1.2 3\n1 alloc 1.1 0\n1 store 1.0 0 1.0\n\
+            1 store 1.0 1 1.1\n1 store 1.0 2 1.1\n1 drop 1.1\n1 drop 1.2\n",
+        b"object 3\nobject 3\nobject 0\ndone\ndone\ndone\ndone\ndone\n",
+        b"rheap 2\nroots 1\n1.0 @0\nobjects 2\n@0 3 @0 @1 @1\n@1 0\nend\n",
+    ),
     (
         b"heap 64 8 8 2 3\n",
         b"",
@@ -213,26 +210,4 @@ fn invented_replicas_leave_the_dump(rt: HostRuntime) {
         expect_equal(&rt, heap.recall().is_ok(), true);
     }
     expect_equal(&rt, refused, 6);
-}
-
-/// Makes the graph of a heap. Answers whether memory was refused.
-fn is_refused_a_graph<A: Allocator + Copy>(heap: &Heap, memory: A) -> bool {
-    graph(memory, heap).is_err()
-}
-
-/// Makes the graph of a plain heap. Answers whether memory was refused.
-fn is_refused_a_plain_graph<A: Allocator + Copy>(heap: &Plain, memory: A) -> bool {
-    heap.objects() <= MAX_OBJECTS as usize && plain_graph(memory, heap).is_err()
-}
-
-#[test]
-fn refused_memory(rt: HostRuntime) {
-    let (heap, plain, _) = play(&rt, SHARED.0);
-    let refused = refused_in_turn(rt.alloc(), |memory| is_refused_a_graph(&heap, memory));
-    expect_refusals(&rt, refused, 3);
-    let refused = refused_in_turn(
-        rt.alloc(),
-        |memory| is_refused_a_plain_graph(&plain, memory),
-    );
-    expect_refusals(&rt, refused, 3);
 }

@@ -1,19 +1,16 @@
 //! Histories: recorded, checked, reported, written and read.
 
 use crate::devices::SlowWriter;
-use crate::expectations::{expect_equal, expect_refusals};
+use crate::expectations::expect_equal;
 use crate::texts::{
     RAW_HISTORY, RAW_HISTORY_REPORT, RIGHT, RIGHT_REPORT, WRONG, WRONG_REPORT, repeated,
 };
-use refusing::{RefusingAllocator, refused_in_turn};
 use rh_layout::{Command, Refusal, Reply, RootId};
 use rh_replay::{
     HistoryError, HistoryKind, Recorder, RecorderError, TraceFull, Verdict, check, read_history,
     report, write_history,
 };
 use rh_trace::{Kind, Write, command_of, write_answer, write_command};
-use std::alloc::Allocator;
-use std::process::Abort;
 use std::test::Fail;
 
 /// A history whose third answer is another number, and the report on it.
@@ -123,41 +120,6 @@ fn a_recorder_takes_as_many_calls_as_its_limit(rt: HostRuntime) -> Result<(), Fa
     }
     assert!(rt; Recorder::new(rt.alloc(), 16, 256, 1_048_576).is_ok());
     Ok(())
-}
-
-#[test]
-fn refused_memory_of_a_history(rt: HostRuntime) {
-    let memory = RefusingAllocator::new(rt.alloc(), 1);
-    let found = read_history(&memory, RIGHT).err();
-    assert!(rt; matches!(found, Some(HistoryError::OutOfMemory)));
-}
-
-#[test]
-fn refused_memory_of_a_check(rt: HostRuntime) -> Result<(), Fail> {
-    let history = read_history(rt.alloc(), RIGHT).ok().ok_or("a history")?;
-    let memory = RefusingAllocator::new(rt.alloc(), 1);
-    assert!(rt; check(&memory, &history).is_err());
-    Ok(())
-}
-
-/// Makes a recorder. Answers whether memory was refused.
-fn is_refused_a_recorder<A: Allocator + Copy>(rt: &impl Abort, memory: A) -> bool {
-    match Recorder::new(memory, 2, 2, 4) {
-        Ok(recorder) => {
-            expect_equal(rt, recorder.limit(), 4);
-            false
-        }
-        Err(error) => {
-            assert!(rt; matches!(error, RecorderError::OutOfMemory));
-            true
-        }
-    }
-}
-
-#[test]
-fn refused_memory_of_recorders(rt: HostRuntime) {
-    let refused = refused_in_turn(rt.alloc(), |memory| is_refused_a_recorder(&rt, memory));
-    expect_refusals(&rt, refused, 1);
 }
 
 /// How many calls a history of this text has, or the fault of the text and its line.

@@ -3,7 +3,6 @@
 use crate::devices::{SlowReader, SlowWriter};
 use crate::expectations::expect_equal;
 use crate::texts::repeated;
-use refusing::RefusingAllocator;
 use rh_dump::{
     DumpFault, DumpKind, DumpReadError, read_dump, read_dump_logged, same_text, write_dump,
 };
@@ -121,13 +120,6 @@ fn the_most_roots(rt: HostRuntime) -> Result<(), Fail> {
     text.extend_from_slice(b"objects 0\nend\n")?;
     expect_dump(&rt, &mut { text.as_slice() }, &text);
     Ok(())
-}
-
-#[test]
-fn refused_memory(rt: HostRuntime) {
-    let memory = RefusingAllocator::new(rt.alloc(), 1);
-    let found = read_dump(&memory, &mut { EACH_KIND }).err();
-    expect_equal(&rt, found, Some(DumpReadError::OutOfMemory));
 }
 
 #[test]

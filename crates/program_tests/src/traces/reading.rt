@@ -6,7 +6,6 @@ use crate::texts::{
     DUMPS, FOUR_CYCLES, JOINED, LARGE_TRAYS, LONG_HEADER, LONG_LINE, RAW_OBJECT, TOO_MANY,
     TWO_EPOCHS, WHOLE_CYCLE, WITHOUT_FIELDS, repeated,
 };
-use refusing::RefusingAllocator;
 use rh_trace::{Kind, Line, ParseError, Request, Trace, TraceFault, Write, parse, print};
 use std::process::Abort;
 use std::test::Fail;
@@ -160,11 +159,4 @@ fn the_greatest_trace(rt: HostRuntime) -> Result<(), Fail> {
     let found = parse(rt.alloc(), &text).err();
     assert!(rt; matches!(found, Some(ParseError::Fault(found)) if found == long));
     Ok(())
-}
-
-#[test]
-fn refused_memory(rt: HostRuntime) {
-    let memory = RefusingAllocator::new(rt.alloc(), 1);
-    let found = parse(&memory, KEYWORDS).err();
-    assert!(rt; matches!(found, Some(ParseError::OutOfMemory)));
 }
