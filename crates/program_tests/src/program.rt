@@ -4,5 +4,4 @@ mod command_line;
 pub mod driving;
 mod failing;
 mod faults;
-mod paced;
 mod terminal;

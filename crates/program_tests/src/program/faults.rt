@@ -3,7 +3,7 @@
 use crate::expectations::expect_text;
 use crate::program::driving::{DUMP, PACED, REPLAY, RUN, THREADS, drives_to};
 use crate::texts::repeated;
-use rh_cli::Ask;
+use rh_cli::{Ask, Subcommand};
 use rh_dump::{DumpFault, DumpKind, DumpReadError};
 use rh_trace::{Kind, ParseError, TraceFault, Write, parse};
 use std::process::Abort;
@@ -291,19 +291,48 @@ fn first_faults_of_dumps(rt: HostRuntime) -> Result<(), Fail> {
     Ok(())
 }
 
-/// First lines of heaps that can't be made, each with why.
-const HEAPS: &[(&[u8], &[u8])] = &[
-    (b"heap 7 0 0 0 0\n", b"rheap: heap: BadSpace\n"),
-    (b"heap 16 0 4 2 2\n", b"rheap: heap: BadRatio\n"),
-    (b"heap 16 8 4 0 2\n", b"rheap: heap: BadRoots\n"),
-    (b"heap 16 8 4 2 257\n", b"rheap: heap: BadRoots\n"),
-    (b"heap 16 8 0 2 2\n", b"rheap: heap: BadLog\n"),
+/// A paced run at a mark.
+const MARKED: Ask<'static> = Ask {
+    subcommand: Subcommand::RunPaced { mark: Some(9) },
+    file: "-",
+};
+
+/// Runs that can't be made, each with why: by the first line; and where a pace is asked for by the
+/// first fault of the text, then the heap's, and last the pace's, which asks for 29 words.
+const NOT_RUN: &[(Ask<'static>, &[u8], &[u8])] = &[
+    (RUN, b"heap 7 0 0 0 0\n", b"rheap: heap: BadSpace\n"),
+    (RUN, b"heap 16 0 4 2 2\n", b"rheap: heap: BadRatio\n"),
+    (RUN, b"heap 16 8 4 0 2\n", b"rheap: heap: BadRoots\n"),
+    (RUN, b"heap 16 8 4 2 257\n", b"rheap: heap: BadRoots\n"),
+    (RUN, b"heap 16 8 0 2 2\n", b"rheap: heap: BadLog\n"),
+    (
+        PACED,
+        b"heap 7 3 8 2 2\n1 alloc 1.0 2\nbegin\nflip\n",
+        b"rheap: line 3: Word\n",
+    ),
+    (MARKED, b"heap 29 8 8 2 2\nstat\n", b"rheap: line 2: Word\n"),
+    (
+        PACED,
+        b"heap 29 8 8 2 2\nstat\n1\n",
+        b"rheap: line 3: Form\n",
+    ),
+    (MARKED, b"heap 7 8 8 2 2\n", b"rheap: heap: BadSpace\n"),
+    (
+        PACED,
+        b"heap 29 3 8 2 2\n1 alloc 1.0 2\n",
+        b"rheap: pace: RatioTooLow\n",
+    ),
+    (
+        PACED,
+        b"heap 28 8 8 2 2\n1 alloc 1.0 2\n",
+        b"rheap: pace: TooSmall need 29\n",
+    ),
 ];
 
 #[test]
-fn heaps_that_cannot_be_made(rt: HostRuntime) {
-    for &(text, told) in HEAPS {
-        drives_to(&rt, &RUN, text, 1, b"", told);
+fn runs_that_cannot_be_made(rt: HostRuntime) {
+    for &(ask, text, told) in NOT_RUN {
+        drives_to(&rt, &ask, text, 1, b"", told);
     }
 }
 
