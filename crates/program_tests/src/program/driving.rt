@@ -1,11 +1,8 @@
 //! The program's commands, over a text and two writers.
 
-use crate::devices::{Broken, InterruptedReader, Unflushed};
+use crate::devices::InterruptedReader;
 use crate::expectations::{expect_equal, expect_prefix};
-use crate::texts::{
-    RIGHT, RIGHT_REPORT, STORED, STORED_HISTORY, TWO_FLIPS, TWO_FLIPS_ANSWERS, WITHOUT_FIELDS,
-    WITHOUT_FIELDS_ANSWERS, WRONG, WRONG_REPORT, without_last_line,
-};
+use crate::texts::without_last_line;
 use rh_cli::{Ask, Subcommand, drive};
 use std::alloc::Allocator;
 use std::process::Abort;
@@ -56,54 +53,6 @@ pub fn drives_to<R: AllocGlobal + Abort + Threads + Wait + Sync>(
     expect_equal(rt, answer, status);
     expect_equal(rt, out.as_slice(), answers);
     expect_equal(rt, err.as_slice(), told);
-}
-
-/// The dump of an object that refers to itself.
-const ITSELF: &[u8] = b"rheap 2\nroots 1\n1.0 @0\nobjects 1\n@0 1 @0\nend\n";
-
-/// What is asked, of which text, and the answers.
-const ASKED: &[(Ask<'static>, &[u8], &[u8])] = &[
-    (RUN, WITHOUT_FIELDS, WITHOUT_FIELDS_ANSWERS),
-    (PACED, TWO_FLIPS, TWO_FLIPS_ANSWERS),
-    (THREADS, STORED, STORED_HISTORY),
-    (REPLAY, RIGHT, RIGHT_REPORT),
-    (DUMP, ITSELF, b"roots 1 objects 1\n"),
-];
-
-#[test]
-fn statuses_and_texts(rt: HostRuntime) {
-    for &(ask, text, answers) in ASKED {
-        drives_to(&rt, &ask, text, 0, answers, b"");
-    }
-    // Of a wrong history standard error has nothing.
-    drives_to(&rt, &REPLAY, WRONG, 4, WRONG_REPORT, b"");
-}
-
-#[test]
-fn devices_that_fail(rt: HostRuntime) {
-    for &(ask, text, _) in ASKED {
-        let mut out = Vec::new(rt.alloc());
-        let mut err = Vec::new(rt.alloc());
-        let unread = drive(&rt, rt.alloc(), &ask, &mut Broken, &mut out, &mut err);
-        let unwritten = drive(&rt, rt.alloc(), &ask, &mut { text }, &mut Broken, &mut err);
-        let unflushed = drive(
-            &rt,
-            rt.alloc(),
-            &ask,
-            &mut { text },
-            &mut Unflushed,
-            &mut err,
-        );
-        // What can't be told still has its status.
-        let untold = drive(&rt, rt.alloc(), &ask, &mut Broken, &mut out, &mut Broken);
-        expect_equal(&rt, [unread, unwritten, unflushed, untold], [1, 1, 1, 1]);
-        expect_equal(
-            &rt,
-            err.as_slice(),
-            b"rheap: read failed\nrheap: write failed\nrheap: write failed\n".as_slice(),
-        );
-        expect_equal(&rt, out.len(), 0);
-    }
 }
 
 /// Does what is asked where the read of this number, counted from 1, comes to the end, and each other

@@ -1,7 +1,7 @@
 //! Each command of the program over texts that are cut, devices that fail, and memory that is
 //! refused, at each place in turn.
 
-use crate::devices::{SlowReader, SlowWriter};
+use crate::devices::{Broken, SlowReader, SlowWriter, Unflushed};
 use crate::expectations::{expect_equal, expect_prefix, expect_refusals};
 use crate::program::driving::{DUMP, PACED, REPLAY, RUN, THREADS, drives_to, is_refused};
 use crate::texts::{
@@ -130,6 +130,20 @@ fn each_write_fails_in_turn(rt: HostRuntime) {
     // The lines of a run each come in one write.
     let [run, ..] = PLAYED else { return };
     expect_equal(&rt, fail_writes(&rt, run, 1000), 11);
+}
+
+#[test]
+fn devices_that_fail(rt: HostRuntime) {
+    for &(ask, text, ..) in PLAYED {
+        let mut out = Vec::new(rt.alloc());
+        let mut err = Vec::new(rt.alloc());
+        let mut reader = text;
+        let unflushed = drive(&rt, rt.alloc(), &ask, &mut reader, &mut Unflushed, &mut err);
+        // What can't be told still has its status.
+        let untold = drive(&rt, rt.alloc(), &ask, &mut Broken, &mut out, &mut Broken);
+        expect_equal(&rt, (unflushed, untold, out.len()), (1, 1, 0));
+        expect_equal(&rt, err.as_slice(), b"rheap: write failed\n".as_slice());
+    }
 }
 
 /// The first eight reads of a text that comes a byte a time, and the two after its last byte.
