@@ -59,21 +59,24 @@ impl io::Read for InterruptedReader {
     }
 }
 
-/// A writer that keeps what it takes: at most `most` bytes of a write, and fails at its nth write.
+/// A writer that keeps what it takes: at most `most` bytes of a write. Of two writes each, the first
+/// so many are interrupted, and it fails at its nth write.
 #[derive(Drop)]
 pub struct SlowWriter {
     pub text: Vec<u8>,
     pub writes: u32,
+    pub interrupted: u32,
     most: usize,
     fails_at: u32,
 }
 
 impl SlowWriter {
-    /// A writer that has no bytes; at 0 no write fails.
+    /// A writer that has no bytes and isn't interrupted; at 0 no write fails.
     pub fn new(rt: &impl AllocGlobal, most: usize, fails_at: u32) -> SlowWriter {
         SlowWriter {
             text: Vec::new(rt.alloc()),
             writes: 0,
+            interrupted: 0,
             most,
             fails_at,
         }
@@ -82,36 +85,17 @@ impl SlowWriter {
 
 impl io::Write for SlowWriter {
     fn write(&mut self, buf: &[u8]) -> io::Result<usize> {
+        let earlier = self.writes % 2;
         self.writes = self.writes.wrapping_add(1);
         if self.writes == self.fails_at {
             return Err(io::Error::new(ErrorKind::Other, "full"));
         }
+        if earlier < self.interrupted {
+            return Err(io::Error::from(ErrorKind::Interrupted));
+        }
         let taken = buf.len().min(self.most);
         self.text.extend_from_slice(&buf[..taken])?;
         Ok(taken)
-    }
-
-    fn flush(&mut self) -> io::Result<()> {
-        Ok(())
-    }
-}
-
-/// A writer that is interrupted at each write, or at every second one, and takes the others whole.
-#[derive(Drop)]
-pub struct InterruptedWriter {
-    pub text: Vec<u8>,
-    pub writes: u32,
-    pub always: bool,
-}
-
-impl io::Write for InterruptedWriter {
-    fn write(&mut self, buf: &[u8]) -> io::Result<usize> {
-        self.writes = self.writes.wrapping_add(1);
-        if self.always || self.writes % 2 == 1 {
-            return Err(io::Error::from(ErrorKind::Interrupted));
-        }
-        self.text.extend_from_slice(buf)?;
-        Ok(buf.len())
     }
 
     fn flush(&mut self) -> io::Result<()> {

@@ -1,6 +1,6 @@
 //! Runs of traces.
 
-use crate::devices::{InterruptedWriter, SlowReader, SlowWriter};
+use crate::devices::{SlowReader, SlowWriter};
 use crate::expectations::{expect_equal, expect_prefix, expect_refusals};
 use crate::texts::{
     DUMPS, DUMPS_ANSWERS, FOUR_CYCLES, FOUR_CYCLES_ANSWERS, JOINED, JOINED_ANSWERS, LARGE_TRAYS,
@@ -164,16 +164,14 @@ fn what_is_not_run_writes_nothing(rt: HostRuntime) {
 
 #[test]
 fn interrupted_writes_are_made_again(rt: HostRuntime) {
-    for &(always, fault, answers, writes) in &[
-        (false, None, WITHOUT_FIELDS_ANSWERS, 6),
-        (true, Some(RunFault::Write), b"".as_slice(), 33_554_432),
+    // How many of two writes each are interrupted, and what that comes to.
+    for &(interrupted, fault, answers, writes) in &[
+        (1, None, WITHOUT_FIELDS_ANSWERS, 6),
+        (2, Some(RunFault::Write), b"".as_slice(), 33_554_432),
     ] {
         let mut reader = WITHOUT_FIELDS;
-        let mut writer = InterruptedWriter {
-            text: Vec::new(rt.alloc()),
-            writes: 0,
-            always,
-        };
+        let mut writer = SlowWriter::new(&rt, 1000, 0);
+        writer.interrupted = interrupted;
         let outcome = run_trace(rt.alloc(), &mut reader, &mut writer);
         expect_equal(&rt, outcome.err(), fault);
         expect_equal(&rt, writer.text.as_slice(), answers);
