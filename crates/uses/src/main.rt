@@ -8,18 +8,23 @@ mod owners;
 mod problem;
 mod queue;
 mod recorded;
+mod threads;
 
 use problem::Problem;
 use std::io;
 use std::process::ExitCode;
+use std::sync::Wait;
+use std::thread::Threads;
 
 /// Each program, and what it came to.
-fn run(rt: &(impl Print + AllocGlobal)) -> Result<(), Problem> {
+fn run(rt: &(impl Print + AllocGlobal + Threads + Wait + Sync)) -> Result<(), Problem> {
     let alloc = rt.alloc();
     let (sum, flips) = list::run(alloc)?;
     println!(rt; "list sum {sum} flips {flips}")?;
     let shared = owners::run(alloc)?;
     println!(rt; "owners shared {shared}")?;
+    let (sum, flips) = threads::run(rt)?;
+    println!(rt; "threads sum {sum} flips over 300 {}", flips > 300)?;
     let live = full::run(alloc)?;
     println!(rt; "full live {live}")?;
     let cycles = queue::run(alloc, 10_000)?;
