@@ -4,7 +4,6 @@ ghost use Rattle.std.specs.List.{AllByRecursion};
 ghost use Rattle.rh_increment.specs.Settling.{IsNewHere};
 ghost use Rattle.shared_tests.specs.Beside.{IsHere};
 
-use crate::expectations::expect_equal;
 use crate::starts::SMALL;
 use rh_layout::{Command, Reply};
 use rh_replicator::{Replicator, Stepped};
@@ -94,11 +93,15 @@ impl<A: Allocator + Copy> Beside<A> {
         self.kept.call(1, &command)
     }
 
-    /// Makes a call of owner 1, and ends the test unless it was answered so, and its increment did
-    /// this.
-    pub fn expect_call(&mut self, rt: &impl Abort, command: Command, reply: Reply, did: Did) {
-        expect_equal(rt, self.call(command), Ok(reply));
-        expect_equal(rt, self.kept.last_did(), did);
+    /// One increment.
+    pub fn increment(&mut self) -> Did {
+        self.kept.increment()
+    }
+
+    /// Loses both replicators.
+    pub fn lose(&mut self) {
+        self.first = None;
+        self.second = None;
     }
 
     /// A step of the first replicator.
