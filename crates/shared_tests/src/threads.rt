@@ -1,45 +1,13 @@
 //! Mutators in threads of their own.
 
+use crate::calls::NOTHING;
+use crate::closing::{HALF, LARGE, Told, closed, shared_of};
 use crate::expectations::{expect_equal, play_again};
-use crate::starts::{EAGER, SMALL};
-use rh_core::Config;
-use rh_layout::{Command, Operand, Refusal, Reply, RootId};
-use rh_replay::{Call, Verdict, check};
-use rh_shared::{CloseError, Mutator, SharedConfig, SharedHeap, Start, close};
+use rh_layout::{Command, Operand, Reply, RootId};
+use rh_shared::{CloseError, Mutator, SharedHeap};
 use std::process::Abort;
 use std::sync::Wait;
-use std::test::Fail;
 use std::thread::{self, Threads};
-
-/// Three owners with two slots each, and ample space.
-pub const LARGE: Config = Config {
-    words: 1024,
-    owners: 3,
-    log_limit: 64,
-    ..SMALL
-};
-
-/// Half of the space is left when a cycle begins.
-pub const HALF: SharedConfig = SharedConfig {
-    mark: 512,
-    history: 16,
-    ..EAGER
-};
-
-/// A shared heap and its mutators, of these configurations.
-pub fn shared_of<R: AllocGlobal + Abort>(
-    rt: &R,
-    config: Config,
-    shared: SharedConfig,
-) -> (SharedHeap, Vec<Mutator>) {
-    let start = Start::new(rt.alloc(), config, shared)
-        .ok()
-        .expect(rt, "it starts");
-    let (shared, mutators, _ends) = SharedHeap::new(rt.alloc(), start)
-        .ok()
-        .expect(rt, "memory is ample");
-    (shared, mutators)
-}
 
 /// The five calls of an owner: it makes an object with its own number in it, shares it, and reads
 /// its own object and the one that is shared then.
@@ -91,100 +59,90 @@ fn played<R: Wait>(
     mutator
 }
 
-/// The answer to the call that stands after so many others.
-fn answer_at(calls: &[Call], before: usize) -> Option<Result<Reply, Refusal>> {
-    match calls.get(before) {
-        Some(call) => Some(call.answer),
-        None => None,
-    }
+/// Whether an owner read its own number from its object, and that of either owner from the shared
+/// one.
+fn has_read(mutator: &Mutator) -> bool {
+    let [_, _, _, own, shared] = mutator.calls() else {
+        return false;
+    };
+    own.answer == Ok(Reply::Int(mutator.owner().into()))
+        && matches!(shared.answer, Ok(Reply::Int(1 | 2)))
 }
 
-/// Ends the test unless these are the answers to the five calls of an owner.
-fn expect_answers(rt: &impl Abort, calls: &[Call], number: i64) {
-    expect_equal(rt, calls.len(), 5);
-    expect_equal(rt, answer_at(calls, 0), Some(Ok(Reply::Object(1))));
-    expect_equal(rt, answer_at(calls, 1), Some(Ok(Reply::Done)));
-    expect_equal(rt, answer_at(calls, 2), Some(Ok(Reply::Object(1))));
-    expect_equal(rt, answer_at(calls, 3), Some(Ok(Reply::Int(number))));
-    let last = answer_at(calls, 4);
-    assert!(rt;
-        last == Some(Ok(Reply::Int(1))) || last == Some(Ok(Reply::Int(2))),
-        "{last:?}"
-    );
-}
-
-/// Two threads play owners 1 and 2 on one heap.
-fn make_one_history<R: Threads + Wait + Sync + AllocGlobal + Abort>(rt: &R) -> Result<(), Fail> {
-    let (shared, mut mutators) = shared_of(rt, LARGE, HALF);
-    let two = mutators.pop().ok_or("owner 2")?;
-    let one = mutators.pop().ok_or("owner 1")?;
-    let (one, two) = thread::join(
-        rt,
-        || played(rt, &shared, &shared, one),
-        || played(rt, &shared, &shared, two),
-    );
-    expect_answers(rt, one.calls(), 1);
-    expect_answers(rt, two.calls(), 2);
-    // In any order of the list.
-    mutators.push(two)?;
-    mutators.push(one)?;
-    let kept = close(shared, mutators).ok().ok_or("all calls are there")?;
-    let verdict = check(rt.alloc(), kept.history()).ok();
-    expect_equal(rt, verdict, Some(Verdict::Legal(10)));
-    Ok(())
-}
-
-#[test]
-fn two_threads_make_one_history(rt: HostRuntime) -> Result<(), Fail> {
-    play_again(&rt, || make_one_history(&rt))
-}
-
-/// Two threads play both owners, and the heap is closed without the second one's calls.
-fn miss_an_owner<R: Threads + Wait + Sync + AllocGlobal + Abort>(rt: &R) -> Result<(), Fail> {
-    let (shared, mut mutators) = shared_of(rt, LARGE, HALF);
-    let two = mutators.pop().ok_or("owner 2")?;
-    let one = mutators.pop().ok_or("owner 1")?;
-    let (one, two) = thread::join(
-        rt,
-        || played(rt, &shared, &shared, one),
-        || played(rt, &shared, &shared, two),
-    );
-    mutators.push(one)?;
-    expect_equal(rt, two.calls().len(), 5);
-    let left = close(shared, mutators).err().ok_or("owner 2 is missing")?;
-    expect_equal(rt, left.why, CloseError::SharesMissing);
-    expect_equal(rt, left.mutators.len(), 2);
-    expect_equal(rt, left.kept.history().calls().len(), 10);
-    Ok(())
-}
-
-#[test]
-fn an_owner_is_missed(rt: HostRuntime) -> Result<(), Fail> {
-    play_again(&rt, || miss_an_owner(&rt))
-}
-
-/// Two threads play both owners, the second one's fourth call on another heap.
-fn find_another_answer<R: Threads + Wait + Sync + AllocGlobal + Abort>(rt: &R) -> Result<(), Fail> {
+/// Two threads play owners 1 and 2 on one heap, and the second one's fourth call on another, where
+/// that is asked for; and the heap is closed, without the second one where that is. Answers whether
+/// both read what they were to, and what closing told.
+fn play_two<R: Threads + Wait + Sync + AllocGlobal + Abort>(
+    rt: &R,
+    elsewhere: bool,
+    leaves: bool,
+) -> (bool, bool, Told) {
     let (shared, mut mutators) = shared_of(rt, LARGE, HALF);
     let (other, _others) = shared_of(rt, LARGE, HALF);
-    let two = mutators.pop().ok_or("owner 2")?;
-    let one = mutators.pop().ok_or("owner 1")?;
+    let two = mutators.pop().expect(rt, "owner 2");
+    let one = mutators.pop().expect(rt, "owner 1");
+    let fourth = if elsewhere { &other } else { &shared };
     let (one, two) = thread::join(
         rt,
         || played(rt, &shared, &shared, one),
-        || played(rt, &shared, &other, two),
+        || played(rt, &shared, fourth, two),
     );
-    mutators.push(one)?;
-    mutators.push(two)?;
-    let left = close(shared, mutators)
-        .err()
-        .ok_or("the fourth call went astray")?;
-    expect_equal(rt, left.why, CloseError::HistoryDiffers { owner: 2, at: 4 });
-    expect_equal(rt, left.kept.history().calls().len(), 9);
-    Ok(())
+    let read = (has_read(&one), has_read(&two));
+    // In any order of the list.
+    if !leaves {
+        let _ = mutators.push(two);
+    }
+    let _ = mutators.push(one);
+    (read.0, read.1, closed(rt, shared, mutators))
 }
 
+/// Whether the second owner's fourth call goes elsewhere, whether the heap is closed without that
+/// owner, and what comes of it.
+const PLAYED: &[(bool, bool, (bool, bool, Told))] = &[
+    (
+        false,
+        false,
+        (
+            true,
+            true,
+            (None, NOTHING, ((6, 1, false, 0), (0, 0, 0, 0), Some(10)), 0),
+        ),
+    ),
+    (
+        false,
+        true,
+        (
+            true,
+            true,
+            (
+                Some(CloseError::SharesMissing),
+                NOTHING,
+                ((6, 1, false, 0), (0, 0, 0, 0), Some(10)),
+                2,
+            ),
+        ),
+    ),
+    (
+        true,
+        false,
+        (
+            true,
+            false,
+            (
+                Some(CloseError::HistoryDiffers { owner: 2, at: 4 }),
+                NOTHING,
+                ((6, 1, false, 0), (0, 0, 0, 0), Some(9)),
+                3,
+            ),
+        ),
+    ),
+];
+
 #[test]
-fn another_answer_is_found(rt: HostRuntime) -> Result<(), Fail> {
-    play_again(&rt, || find_another_answer(&rt))
+fn two_threads_call_one_heap(rt: HostRuntime) {
+    for &(elsewhere, leaves, told) in PLAYED {
+        play_again(&rt, || {
+            expect_equal(&rt, play_two(&rt, elsewhere, leaves), told);
+        });
+    }
 }
