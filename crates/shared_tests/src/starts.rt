@@ -1,11 +1,9 @@
 //! What a shared heap starts with.
 
-use crate::expectations::{expect_equal, expect_refusals, expect_texts};
-use refusing::refused_in_turn;
+use crate::expectations::{expect_equal, expect_texts};
 use rh_core::{Config, ConfigFault};
-use rh_layout::{OutOfMemory, Refusal};
-use rh_shared::{CallError, CloseError, SharedConfig, SharedFault, SharedHeap, Start, StartError};
-use std::alloc::Allocator;
+use rh_layout::Refusal;
+use rh_shared::{CallError, CloseError, SharedConfig, SharedFault, Start, StartError};
 
 /// Two owners with two slots each.
 pub const SMALL: Config = Config {
@@ -29,9 +27,11 @@ pub const EAGER: SharedConfig = SharedConfig {
     idle: 0,
 };
 
-/// The same with two replicators.
-pub const TWO: SharedConfig = SharedConfig {
+/// Two replicators that get pieces of one item in turn.
+pub const GATE: SharedConfig = SharedConfig {
     replicators: 2,
+    most: 1,
+    history: 16,
     ..EAGER
 };
 
@@ -123,73 +123,51 @@ fn the_first_fault_is_told(rt: HostRuntime) {
     }
 }
 
+/// The greatest sizes.
+const GREATEST: SharedConfig = SharedConfig {
+    replicators: 8,
+    copies: 8,
+    most: 64,
+    mark: u32::MAX,
+    history: 1_048_576,
+    patience: u32::MAX,
+    idle: u32::MAX,
+};
+
 #[test]
 fn the_greatest_sizes_start(rt: HostRuntime) {
-    let shared = SharedConfig {
-        replicators: 8,
-        copies: 8,
-        most: 64,
-        mark: u32::MAX,
-        history: 1_048_576,
-        patience: u32::MAX,
-        idle: u32::MAX,
-        ..EAGER
-    };
-    assert!(rt; Start::new(rt.alloc(), SMALL, shared).is_ok());
+    assert!(rt; Start::new(rt.alloc(), SMALL, GREATEST).is_ok());
 }
 
-/// Whether a start met want of memory, which is told as that alone.
-fn start_is_refused<A: Allocator + Copy>(alloc: A) -> bool {
-    matches!(Start::new(alloc, SMALL, TWO), Err(StartError::OutOfMemory))
-}
+/// The texts of the errors.
+const START_TEXTS: &[(StartError, &str)] = &[
+    (StartError::Config(ConfigFault::BadLog), "BadLog"),
+    (
+        StartError::Shared(SharedFault::BadReplicators),
+        "BadReplicators",
+    ),
+    (StartError::Shared(SharedFault::BadCopies), "BadCopies"),
+    (StartError::Shared(SharedFault::BadMost), "BadMost"),
+    (StartError::Shared(SharedFault::BadHistory), "BadHistory"),
+    (StartError::OutOfMemory, "out of memory"),
+];
 
-/// Whether a shared heap met want of memory once it had started.
-fn shared_heap_is_refused<A: Allocator + Copy>(alloc: A) -> bool {
-    match Start::new(alloc, SMALL, TWO) {
-        Ok(start) => matches!(SharedHeap::new(alloc, start), Err(OutOfMemory)),
-        Err(_) => true,
-    }
-}
+const CALL_TEXTS: &[(CallError, &str)] = &[
+    (CallError::TraceFull, "TraceFull"),
+    (CallError::Heap(Refusal::NoRoot), "NoRoot"),
+];
 
-#[test]
-fn refused_memory_is_told(rt: HostRuntime) {
-    let starts = refused_in_turn(rt.alloc(), |memory| start_is_refused(memory));
-    expect_refusals(&rt, starts, 11);
-    let heaps = refused_in_turn(rt.alloc(), |memory| shared_heap_is_refused(memory));
-    expect_refusals(&rt, heaps, 15);
-}
+const CLOSE_TEXTS: &[(CloseError, &str)] = &[
+    (CloseError::SharesMissing, "SharesMissing"),
+    (
+        CloseError::HistoryDiffers { owner: 2, at: 4 },
+        "HistoryDiffers owner 2 at 4",
+    ),
+];
 
 #[test]
 fn each_error_has_its_text(rt: HostRuntime) {
-    expect_texts(
-        &rt,
-        &[
-            (StartError::Config(ConfigFault::BadLog), "BadLog"),
-            (
-                StartError::Shared(SharedFault::BadReplicators),
-                "BadReplicators",
-            ),
-            (StartError::Shared(SharedFault::BadCopies), "BadCopies"),
-            (StartError::Shared(SharedFault::BadMost), "BadMost"),
-            (StartError::Shared(SharedFault::BadHistory), "BadHistory"),
-            (StartError::OutOfMemory, "out of memory"),
-        ],
-    );
-    expect_texts(
-        &rt,
-        &[
-            (CallError::TraceFull, "TraceFull"),
-            (CallError::Heap(Refusal::NoRoot), "NoRoot"),
-        ],
-    );
-    expect_texts(
-        &rt,
-        &[
-            (CloseError::SharesMissing, "SharesMissing"),
-            (
-                CloseError::HistoryDiffers { owner: 2, at: 4 },
-                "HistoryDiffers owner 2 at 4",
-            ),
-        ],
-    );
+    expect_texts(&rt, START_TEXTS);
+    expect_texts(&rt, CALL_TEXTS);
+    expect_texts(&rt, CLOSE_TEXTS);
 }

@@ -1,16 +1,14 @@
 //! Traces that are played on a shared heap, with mutators and replicators in threads.
 
-use crate::expectations::{expect_equal, expect_refusals, expect_texts, play_again};
-use refusing::{RefusingAllocator, refused_in_turn};
+use crate::expectations::{expect_equal, expect_texts, play_again};
+use refusing::RefusingAllocator;
 use rh_core::ConfigFault;
 use rh_replay::{Verdict, check, read_history};
 use rh_shared::SharedFault;
 use rh_shared_trace::{RunOptions, SharedRunFault, run_shared};
 use rh_syntax::{Kind, TraceFault};
-use std::alloc::Allocator;
 use std::process::Abort;
 use std::sync::Wait;
-use std::test::Fail;
 use std::thread::Threads;
 
 /// No replicators, and no idle words.
@@ -19,9 +17,29 @@ const ALONE: RunOptions = RunOptions {
     idle: 0,
 };
 
-/// Two replicators.
+/// One replicator, and two.
+const ONE: RunOptions = RunOptions {
+    replicators: 1,
+    idle: 0,
+};
+
 const TWO: RunOptions = RunOptions {
     replicators: 2,
+    idle: 0,
+};
+
+/// Two replicators, and an idle word.
+const IDLE: RunOptions = RunOptions {
+    replicators: 2,
+    idle: 1,
+};
+
+/// What a trace of two owners is played with.
+const CROWDS: &[RunOptions] = &[ALONE, TWO, IDLE];
+
+/// More replicators than there may be.
+const NINE: RunOptions = RunOptions {
+    replicators: 9,
     idle: 0,
 };
 
@@ -101,18 +119,20 @@ fn runs_to<R: AllocGlobal + Abort + Threads + Wait + Sync>(
     expect_equal(rt, written.as_slice(), history);
 }
 
+/// Traces of one owner, with their histories, and what they are played with.
+const ONE_OWNER: &[(RunOptions, &[u8], &[u8])] = &[
+    (ALONE, STORED, STORED_HISTORY),
+    (ONE, STORED, STORED_HISTORY),
+    (TWO, STORED, STORED_HISTORY),
+    (TWO, LEFT_OUT, LEFT_OUT_HISTORY),
+    (TWO, b"heap 64 8 8 2 2\n", b"history 2 2\nend 0\n"),
+];
+
 #[test]
 fn histories_of_one_owner(rt: HostRuntime) {
-    runs_to(&rt, ALONE, STORED, Ok(()), STORED_HISTORY);
-    runs_to(&rt, TWO, STORED, Ok(()), STORED_HISTORY);
-    runs_to(&rt, TWO, LEFT_OUT, Ok(()), LEFT_OUT_HISTORY);
-    runs_to(
-        &rt,
-        TWO,
-        b"heap 64 8 8 2 2\n",
-        Ok(()),
-        b"history 2 2\nend 0\n",
-    );
+    for &(options, text, history) in ONE_OWNER {
+        play_again(&rt, || runs_to(&rt, options, text, Ok(()), history));
+    }
 }
 
 #[test]
@@ -125,12 +145,8 @@ fn faults_of_traces(rt: HostRuntime) {
     for &(text, fault) in WITHOUT_HEAP {
         runs_to(&rt, TWO, text, Err(SharedRunFault::New(fault)), b"");
     }
-    let nine = RunOptions {
-        replicators: 9,
-        idle: 0,
-    };
     let fault = SharedRunFault::Shared(SharedFault::BadReplicators);
-    runs_to(&rt, nine, STORED, Err(fault), b"");
+    runs_to(&rt, NINE, STORED, Err(fault), b"");
 }
 
 /// Ends the test unless the history of two owners is read, is legal and has all their calls: none
@@ -142,55 +158,19 @@ fn expect_legal<R: AllocGlobal + Abort>(rt: &R, written: &[u8]) {
 }
 
 /// Ends the test unless the trace of two owners is played to its end.
-fn plays_legally<R: AllocGlobal + Abort + Threads + Wait + Sync>(
-    rt: &R,
-    options: RunOptions,
-) -> Result<(), Fail> {
+fn plays_legally<R: AllocGlobal + Abort + Threads + Wait + Sync>(rt: &R, options: RunOptions) {
     let mut reader = SHARED;
     let mut written = Vec::new(rt.alloc());
     let outcome = run_shared(rt, rt.alloc(), &mut reader, &mut written, options);
     expect_equal(rt, outcome, Ok(()));
     expect_legal(rt, &written);
-    Ok(())
 }
 
 #[test]
-fn histories_of_two_owners(rt: HostRuntime) -> Result<(), Fail> {
-    play_again(&rt, || plays_legally(&rt, ALONE))?;
-    play_again(&rt, || plays_legally(&rt, TWO))?;
-    let idle = RunOptions {
-        replicators: 2,
-        idle: 1,
-    };
-    play_again(&rt, || plays_legally(&rt, idle))
-}
-
-/// Whether memory was refused to a run, so that nothing is written. Ends the test where anything else
-/// came of it but the whole history.
-fn is_refused<R, A>(rt: &R, memory: A) -> bool
-where
-    R: AllocGlobal + Abort + Threads + Wait + Sync,
-    A: Allocator + Copy + Send,
-{
-    let mut reader = STORED;
-    let mut written = Vec::new(rt.alloc());
-    match run_shared(rt, memory, &mut reader, &mut written, TWO) {
-        Ok(()) => {
-            expect_equal(rt, written.as_slice(), STORED_HISTORY);
-            false
-        }
-        Err(fault) => {
-            expect_equal(rt, fault, SharedRunFault::OutOfMemory);
-            expect_equal(rt, written.len(), 0);
-            true
-        }
+fn histories_of_two_owners(rt: HostRuntime) {
+    for &options in CROWDS {
+        play_again(&rt, || plays_legally(&rt, options));
     }
-}
-
-#[test]
-fn refused_memory_of_runs(rt: HostRuntime) {
-    let refused = refused_in_turn(rt.alloc(), |memory| is_refused(&rt, memory));
-    expect_refusals(&rt, refused, 10);
 }
 
 /// Refuses the nth allocation of a run of two owners, whose cycle begins where the fifth of their
