@@ -1,7 +1,7 @@
 //! Four replicators and four mutators, each in a thread of its own, on one heap; and what went through
 //! the rings between them.
 
-ghost use Rattle.std.specs.Prelude.{◌≡◌, IfOk};
+ghost use Rattle.std.specs.Prelude.{◌≡◌};
 ghost use Rattle.std.specs.List.{AllByRecursion};
 ghost use Rattle.rh_increment.specs.Settling.{IsNewHere, pairs_of};
 ghost use Rattle.shared_tests.specs.Beside.{AreEndsOf};
@@ -12,15 +12,13 @@ use crate::starts::{EAGER, SMALL};
 use crate::threads::calls_of_owner;
 use rh_core::Config;
 use rh_layout::Command;
-use rh_replay::{Verdict, check};
 use rh_replicator::{Gate, Replicator, RunEnd, Stepped, crew};
 use rh_rings::ReplicatorEnds;
-use rh_shared::{CallError, Did, Kept, SharedConfig, Start};
+use rh_shared::{Did, Kept, SharedConfig, Start};
 use std::marker::{Brand, PhantomData};
 use std::process::Abort;
 use std::sync::atomic::{AtomicBool, AtomicU64, Ordering};
 use std::sync::{Mutex, Wait};
-use std::test::Fail;
 use std::thread::{self, Threads};
 
 /// Five owners in a small space.
@@ -58,8 +56,6 @@ impl Rings for Brand {
 #[derive(Drop)]
 struct Crowded<B: Rings> {
     kept: Kept,
-    /// Calls that no limit refused.
-    noted: u32,
     /// Pieces that were pushed, and replicas that were given or dropped.
     pushed: u64,
     taken: u64,
@@ -79,13 +75,9 @@ impl<B: Rings> Crowded<B> {
 
     /// One command of an owner.
     fn call(&mut self, owner: u32, command: &Command) {
-        let answer = self.kept.call(owner, command);
-        if answer.is_ok() {
+        if self.kept.call(owner, command).is_ok() {
             let did = self.kept.last_did();
             self.count(did);
-        }
-        if !matches!(answer, Err(CallError::Heap(refusal)) if refusal.is_limit()) {
-            self.noted = self.noted.saturating_add(1);
         }
     }
 
@@ -139,22 +131,23 @@ impl<'f> Gate for Counting<'f> {
 }
 
 /// The replicators that have these ends of the heap's rings, in order.
-fn replicators_of<'f, R: AllocGlobal>(
+fn replicators_of<'f, R: AllocGlobal + Abort>(
     rt: &R,
     _kept: &Kept,
     ends: Vec<ReplicatorEnds>,
     folds: &'f [Folds],
-) -> Result<Vec<(Replicator, Counting<'f>)>, Fail>
+) -> Vec<(Replicator, Counting<'f>)>
     requires { AllByRecursion (IsNewHere _kept.now.collector.rings) ends.items }
-    ensures { IfOk result (λ all. AllByRecursion
-        (λ own. AreEndsOf (pairs_of _kept.now.collector.rings) own.0) all.items) }
+    ensures { AllByRecursion
+        (λ own. AreEndsOf (pairs_of _kept.now.collector.rings) own.0) result.items }
 {
-    let mut all = Vec::with_capacity(rt.alloc(), ends.len())?;
+    let mut all = Vec::new(rt.alloc());
     for own in ends {
-        let folds = folds.get(own.replicator() as usize).ok_or("its folds")?;
-        all.push((Replicator::new(rt.alloc(), own), Counting { folds }))?;
+        let folds = folds.get(own.replicator() as usize).expect(rt, "its folds");
+        all.push((Replicator::new(rt.alloc(), own), Counting { folds }))
+            .expect(rt, "memory is ample");
     }
-    Ok(all)
+    all
 }
 
 /// An owner's calls, twenty times over, and then increments until enough cycles have ended.
@@ -190,7 +183,7 @@ fn settle_all<B: Rings, R: Abort>(
     crowded: Crowded<B>,
     ended: Vec<(Replicator, RunEnd)>,
     folds: &[Folds],
-) -> Result<(), Fail>
+)
     requires { AllByRecursion (λ own. AreEndsOf B.pairs own.0) ended.items }
 {
     let Crowded {
@@ -203,8 +196,10 @@ fn settle_all<B: Rings, R: Abort>(
     for own in ended {
         let (replicator, end) = own;
         expect_equal(rt, end, RunEnd::Stopped);
-        let done = replicator.finish().ok_or("the heap's ends are there")?;
-        let counted = folds.get(done.replicator() as usize).ok_or("its folds")?;
+        let done = replicator.finish().expect(rt, "the heap's ends are there");
+        let counted = folds
+            .get(done.replicator() as usize)
+            .expect(rt, "its folds");
         let settled = kept.settle(done);
         let handed = counted.handed.load(Ordering::SeqCst);
         expect_equal(rt, settled.received.saturating_add(settled.left), handed);
@@ -222,7 +217,6 @@ fn settle_all<B: Rings, R: Abort>(
         read <= pushed && pushed <= read.saturating_add(32),
         "{pushed} {read}"
     );
-    Ok(())
 }
 
 /// Plays a heap that has these rings.
@@ -230,15 +224,14 @@ fn play<B: Rings + Send, R: Threads + Wait + Sync + AllocGlobal + Abort>(
     rt: &R,
     kept: Kept,
     ends: Vec<ReplicatorEnds>,
-) -> Result<(), Fail>
+)
     requires kept { pairs_of kept.collector.rings ≡ B.pairs }
     requires ends { AllByRecursion (IsNewHere kept.collector.rings) ends.items }
 {
     let folds = [Folds::new(), Folds::new(), Folds::new(), Folds::new()];
-    let replicators = replicators_of(rt, &kept, ends, &folds)?;
+    let replicators = replicators_of(rt, &kept, ends, &folds);
     let crowded: Mutex<Crowded<B>> = Mutex::new(Crowded {
         kept,
-        noted: 0,
         pushed: 0,
         taken: 0,
         of: PhantomData,
@@ -247,27 +240,28 @@ fn play<B: Rings + Send, R: Threads + Wait + Sync + AllocGlobal + Abort>(
     let Ok(ended) = crew(rt, rt.alloc(), replicators, &stop, LOOKS, || {
         call_all(rt, &crowded);
     }) else {
-        return Err(Fail::from("they start"));
+        panic!(rt; "they start")
     };
     let crowded = crowded.into_inner();
     assert!(rt; crowded.kept.heap().stat().flips > FLIPS);
     // No limit refuses a copy or a load.
-    assert!(rt; crowded.noted >= 240, "{}", crowded.noted);
-    let verdict = check(rt.alloc(), crowded.kept.history()).ok();
-    expect_equal(rt, verdict, Some(Verdict::Legal(crowded.noted)));
-    settle_all(rt, crowded, ended, &folds)
+    let noted = crowded.kept.history().calls().len();
+    assert!(rt; noted >= 240, "{noted}");
+    settle_all(rt, crowded, ended, &folds);
 }
 
 /// Plays a new heap.
-fn play_new<R: Threads + Wait + Sync + AllocGlobal + Abort>(rt: &R) -> Result<(), Fail> {
-    let start = Start::new(rt.alloc(), FIVE, FOUR).ok().ok_or("it starts")?;
+fn play_new<R: Threads + Wait + Sync + AllocGlobal + Abort>(rt: &R) {
+    let start = Start::new(rt.alloc(), FIVE, FOUR)
+        .ok()
+        .expect(rt, "it starts");
     let Ok((kept, ends)) = Kept::new(rt.alloc(), start) else {
-        return Err(Fail::from("memory is ample"));
+        panic!(rt; "memory is ample")
     };
-    play::<Brand, R>(rt, kept, ends)
+    play::<Brand, R>(rt, kept, ends);
 }
 
 #[test]
-fn what_went_through_four_rings_is_settled(rt: HostRuntime) -> Result<(), Fail> {
-    play_again(&rt, || play_new(&rt))
+fn what_went_through_four_rings_is_settled(rt: HostRuntime) {
+    play_again(&rt, || play_new(&rt));
 }
