@@ -6,6 +6,8 @@ mod beside;
 #[cfg(test)]
 mod beside_calls;
 #[cfg(test)]
+mod calls;
+#[cfg(test)]
 mod closing;
 #[cfg(test)]
 mod crews;
@@ -14,19 +16,13 @@ mod expectations;
 #[cfg(test)]
 mod gates;
 #[cfg(test)]
-mod kept;
-#[cfg(test)]
-mod lost;
-#[cfg(test)]
-mod repeated;
+mod plays;
 #[cfg(test)]
 mod replicators;
 #[cfg(test)]
 mod rings;
 #[cfg(test)]
 mod settled;
-#[cfg(test)]
-mod shares;
 #[cfg(test)]
 mod starts;
 #[cfg(test)]
