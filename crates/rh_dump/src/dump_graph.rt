@@ -21,7 +21,7 @@ pub struct Graph<A: Allocator = Global> {
 
 impl<A: Allocator> Model for Graph<A> {
     ghost use Rattle.rh_dump.specs.Dump.{GraphState, IsGraph};
-    ghost use Rattle.rh_dump.specs.Graph.{FlatGraph, graph_in, IsFilled};
+    ghost use Rattle.rh_dump.specs.Graph.{graph_in, IsFilled};
 
     ghost Value = { GraphState };
 

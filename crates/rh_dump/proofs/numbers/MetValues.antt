@@ -16,20 +16,6 @@ use Rattle.rh_dump.proofs.numbers.Names.{by_names, IsOnce, HasName, HasName-at, 
 abbrev pub IsBeginning : List ℕ → List ℕ → Type 0
 IsBeginning xs ys = (k a : ℕ) → slice_get xs k ≡ Some a → slice_get ys k ≡ Some a
 
--- one more value
-pub with_values-push : (names : List ℕ) (vs : List Value) (v : Value) → with_values names (vs ++ v ∷ []) ≡ with_value (with_values names vs) v
-with_values-push names [] v = refl
-with_values-push names (w ∷ vs) v = with_values-push (with_value names w) vs v
-
-pub met_values-push : (names : List ℕ) (vs : List Value) (v : Value) → met_values names (vs ++ v ∷ []) ≡ met_values names vs ++ numbered_value (with_value (with_values names vs) v) v ∷ []
-met_values-push names [] v = refl
-met_values-push names (w ∷ vs) v = ap (λ l. numbered_value (with_value names w) w ∷ l) (met_values-push (with_value names w) vs v)
-
-pub met_roots-push : (names : List ℕ) (roots : List (RootId × Value)) (root : RootId × Value)
-    → met_roots names (roots ++ root ∷ []) ≡ met_roots names roots ++ numbered_root (with_value (with_values names (map (λ (r : RootId × Value). r.1) roots)) root.1) root ∷ []
-met_roots-push names [] root = refl
-met_roots-push names (r ∷ roots) root = ap (λ l. numbered_root (with_value names r.1) r ∷ l) (met_roots-push (with_value names r.1) roots root)
-
 pub length-met_values : (names : List ℕ) (vs : List Value) → length (met_values names vs) ≡ length vs
 length-met_values names [] = refl
 length-met_values names (v ∷ vs) = ap suc (length-met_values (with_value names v) vs)

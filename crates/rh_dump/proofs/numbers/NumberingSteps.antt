@@ -1,5 +1,5 @@
 -- A numbering on its way: what each call makes of it.
-use Rattle.std.specs.Prelude.{◌≡◌, ◌≢◌, ◌<◌, ◌≤◌, ◌+◌, ◌-◌, ℕ, suc, IsSome, List, [], ◌∷◌, ◌++◌, map, take, length, slice_get, slice_index_or, Option, Some, None}
+use Rattle.std.specs.Prelude.{◌≡◌, ◌<◌, ◌≤◌, ◌+◌, ◌-◌, ℕ, suc, IsSome, List, [], ◌∷◌, ◌++◌, map, take, length, slice_get, slice_index_or, Option, Some, None}
 use Rattle.std.proofs.Common.{refl, sym, ap, subst, ◌∙◌, arith, inl, inr, append_assoc}
 use Rattle.std.proofs.lemmas.List.{append-nil, map-append}
 use Rattle.std.proofs.lemmas.Option.{none-some, slice_get-get_or, slice_get_within}
@@ -61,12 +61,6 @@ with_fields-append s vs ws =
     ap (λ n. state_of s.limit n s.flat.roots s.flat.shapes ((s.flat.values ++ met_values s.names vs) ++ met_values (with_values s.names vs) ws)) (with_values-append s.names vs ws)
     ∙ ap (state_of s.limit (with_values s.names (vs ++ ws)) s.flat.roots s.flat.shapes)
     (append_assoc s.flat.values (met_values s.names vs) (met_values (with_values s.names vs) ws) ∙ ap (λ l. s.flat.values ++ l) (met_values-append s.names vs ws))
-
--- a root that isn't nil is put
-pub filled_root-is : (r : RootId) (v : Value) → v ≢ Nil → filled_root r v ≡ (r, v) ∷ []
-filled_root-is r Nil filled = absurd (filled refl)
-filled_root-is r (Int n) filled = refl
-filled_root-is r (Ref a) filled = refl
 
 -- the next field
 pub with_fields-next : (s : NumberingState) (vs : List Value) (f : ℕ) (v : Value) → f < length vs → v ≡ slice_index_or vs f Nil → with_fields (with_fields s (take f vs)) (v ∷ []) ≡ with_fields s (take (suc f) vs)

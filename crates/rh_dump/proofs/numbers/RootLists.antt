@@ -104,9 +104,3 @@ module _ (held : RootId → Value) where
       → filled_roots held (more_slots + slots) (more_owners + owners) ≡ filled_roots held slots owners
   filled_roots-more slots more_slots owners more_owners of_slots of_owners =
       filled_roots-owners (more_slots + slots) owners more_owners of_owners ∙ filled_roots-slots slots more_slots owners of_slots
-
--- Entries changed by a function of their values, which keeps what is nil
-
--- the entry with another value
-abbrev pub entry_with : (Value → Value) → RootId × Value → RootId × Value
-entry_with change entry = (entry.0, change entry.1)

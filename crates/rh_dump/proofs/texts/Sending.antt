@@ -38,9 +38,6 @@ Sent-last a b c text rest so_far last = Appends-at a c (so_far.prefix ++ rest) t
 pub Sent-last_less : (a b c : Option (List ℕ)) (text rest : List ℕ) → Sent a b text rest → AppendsLess b c rest → AppendsLess a c text
 Sent-last_less a b c text rest so_far last = subst (AppendsLess a c) (sym so_far.whole) (Appends-less a b c so_far.prefix rest so_far.appended last)
 
-pub Sent-whole : (a b : Option (List ℕ)) (text : List ℕ) → Sent a b text [] → Appends a b text
-Sent-whole a b text sent = Appends-at a b sent.prefix text (sym (sent.whole ∙ append-nil sent.prefix)) sent.appended
-
 -- ---- the texts of lines in the parts in which they are sent
 
 -- a further part of a line

@@ -1,6 +1,6 @@
 //! The texts of a dump's lines.
 
-ghost use Rattle.std.specs.Prelude.{◌≡◌, ◌+◌, ◌≤◌, ◌++◌, ◌∷◌, [], codes, decimal, length};
+ghost use Rattle.std.specs.Prelude.{◌≡◌, ◌+◌, ◌≤◌, ◌++◌, ◌∷◌, [], decimal, length};
 ghost use Rattle.std.specs.List.{join_with_byte};
 ghost use Rattle.rh_dump.specs.declared.reading.due.Version.TheVariants.{Two};
 ghost use Rattle.rh_dump.specs.texts.Line.{kind_parts, spell_dump_line, value_text, header_line, roots_line, root_line, objects_line};
