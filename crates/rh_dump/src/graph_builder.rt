@@ -52,9 +52,7 @@ impl<A: Allocator + Copy> GraphBuilder<A> {
             (self.new ≡ record self.old { roots = self.old.roots ++ (root, value) ∷ [] }) }
         ensures err { OnErr result (self.new ≡ self.old) }
     {
-        if self.roots.push((root, value)).is_err() {
-            return Err(OutOfMemory);
-        }
+        self.roots.push((root, value))?;
         Ok(())
     }
 
@@ -68,9 +66,7 @@ impl<A: Allocator + Copy> GraphBuilder<A> {
             (self.new ≡ record self.old { shapes = self.old.shapes ++ shape ∷ [] }) }
         ensures err { OnErr result (self.new ≡ self.old) }
     {
-        if self.shapes.push(shape).is_err() {
-            return Err(OutOfMemory);
-        }
+        self.shapes.push(shape)?;
         Ok(())
     }
 
@@ -84,9 +80,7 @@ impl<A: Allocator + Copy> GraphBuilder<A> {
             (self.new ≡ record self.old { values = self.old.values ++ value ∷ [] }) }
         ensures err { OnErr result (self.new ≡ self.old) }
     {
-        if self.values.push(value).is_err() {
-            return Err(OutOfMemory);
-        }
+        self.values.push(value)?;
         Ok(())
     }
 

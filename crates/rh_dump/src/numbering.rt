@@ -33,7 +33,7 @@ use crate::limits::MAX_OBJECTS;
 use crate::object_graph::ObjectGraph;
 use rh_layout::limits::{MAX_OWNERS, MAX_SLOTS};
 use rh_layout::{OutOfMemory, RootId, Shape, Value};
-use std::alloc::{AllocError, Allocator, Global};
+use std::alloc::{Allocator, Global};
 use std::marker::Model;
 
 /// The names that were met, in order of their numbers, and the graph as far as it was put together.
@@ -69,14 +69,12 @@ impl<A: Allocator + Copy> Numbering<A> {
         requires { limit ≤ MAX_OBJECTS }
         ensures { IfOk result (λ n. n ≡ empty_numbering limit) }
     {
-        match Vec::from_elem(alloc, 0, limit as usize) {
-            Ok(numbers) => Ok(Numbering {
-                numbers,
-                names: Vec::new(alloc),
-                graph: GraphBuilder::new(alloc),
-            }),
-            Err(AllocError) => Err(OutOfMemory),
-        }
+        let numbers = Vec::from_elem(alloc, 0, limit as usize)?;
+        Ok(Numbering {
+            numbers,
+            names: Vec::new(alloc),
+            graph: GraphBuilder::new(alloc),
+        })
     }
 
     /// The number of the object with this name, where it was met.
@@ -249,9 +247,7 @@ fn push_name<A: Allocator + Copy>(names: &mut Vec<u32, A>, name: u32) -> Result<
     ensures ok { OnOk result (names.new.items ≡ names.old.items ++ name ∷ []) }
     ensures err { OnErr result (names.new.items ≡ names.old.items) }
 {
-    if names.push(name).is_err() {
-        return Err(OutOfMemory);
-    }
+    names.push(name)?;
     Ok(())
 }
 

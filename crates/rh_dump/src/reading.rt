@@ -133,6 +133,6 @@ pub fn read_dump_logged<A: Allocator + Copy, R: io::Read>(
         Err(InputFault::Read) => Err(DumpReadError::Read),
         Err(InputFault::OutOfMemory) => Err(DumpReadError::OutOfMemory),
         // Reading past a limit never answers it.
-        Err(InputFault::Long) => Err(DumpReadError::Read),
+        Err(InputFault::Long) => unreachable!(),
     }
 }

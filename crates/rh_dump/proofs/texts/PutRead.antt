@@ -1,6 +1,5 @@
 -- A line that is read by what is due, step by step, and put into a graph.
 use Rattle.std.proofs.Common.{◌≡◌, ℕ, ◌+◌, ◌<◌, ◌≤◌, Bool, true, false, cond, eqb, ltb, not, List, [], ◌∷◌, ◌++◌, length, Option, Some, None, Result, Ok, Err, refl, sym, ap, ◌∙◌, append_assoc, arith}
-use Rattle.std.specs.Prelude.{is_err, OnOk}
 use Rattle.std.proofs.lemmas.Bool.{lt-ltb, le-ltb}
 use Rattle.std.proofs.lemmas.List.{append-nil}
 use Rattle.rh_layout.specs.declared.value.Value.{Value}
@@ -28,10 +27,6 @@ use Rattle.rh_dump.proofs.texts.ReadIsSpelled.{Fits, line_means}
 
 ok_is : {A E : Type 0} (x y : A) → ◌≡◌ {A = Result A E} (Ok x) (Ok y) → x ≡ y
 ok_is x y e = cc
-
-pub on_ok : {A E : Type 0} {P : Type 0} (r : Result A E) → is_err r ≡ false → OnOk r P → P
-on_ok (Ok x) is h = h
-on_ok (Err e) is h = absurd cc
 
 -- ---- parts
 

@@ -128,10 +128,7 @@ fn after_end(line: &[u8]) -> Result<Due, DumpKind>
 fn of_kind(read: Result<Due, DumpKind>) -> Result<Due, LineError>
     ensures { result ≡ with_fault errors.Kind read }
 {
-    match read {
-        Ok(due) => Ok(due),
-        Err(kind) => Err(LineError::Kind(kind)),
-    }
+    Ok(read?)
 }
 
 /// A root that isn't nil, and what it holds.
@@ -156,13 +153,8 @@ fn read_root<A: Allocator + Copy>(
     ensures { Tells (λ due. (builder.new, due)) result (put_read builder.old
         (dues.Root version left last met) (line_due (dues.Root version left last met) line.now)) }
 {
-    let (root, value) = match root_in(last, met, line) {
-        Ok(root) => root,
-        Err(kind) => return Err(LineError::Kind(kind)),
-    };
-    if builder.push_root(root, value).is_err() {
-        return Err(LineError::OutOfMemory);
-    }
+    let (root, value) = root_in(last, met, line)?;
+    builder.push_root(root, value)?;
     Ok(root_due(version, left, Some(root), met_with(met, value)))
 }
 
@@ -182,13 +174,8 @@ fn read_values<A: Allocator + Copy>(
     let mut met = met_before;
     let mut left = rest;
     while let Some((part, others)) = next_part(left) {
-        let value = match field_or_fault(raw, count, met, part) {
-            Ok(value) => value,
-            Err(kind) => return Err(LineError::Kind(kind)),
-        };
-        if builder.push_value(value).is_err() {
-            return Err(LineError::OutOfMemory);
-        }
+        let value = field_or_fault(raw, count, met, part)?;
+        builder.push_value(value)?;
         met = met_with(met, value);
         left = others;
     }
@@ -210,17 +197,10 @@ fn read_object<A: Allocator + Copy>(
         (dues.Object version number count met)
         (line_due (dues.Object version number count met) line.now)) }
 {
-    let (shape, values) = match start_of(version, number, met, line) {
-        Ok(start) => start,
-        Err(kind) => return Err(LineError::Kind(kind)),
-    };
-    if builder.begin_object(shape).is_err() {
-        return Err(LineError::OutOfMemory);
-    }
-    match read_values(builder, shape.raw, count, met, values) {
-        Ok(met) => Ok(object_due(version, number + 1, count, met)),
-        Err(error) => Err(error),
-    }
+    let (shape, values) = start_of(version, number, met, line)?;
+    builder.begin_object(shape)?;
+    let met = read_values(builder, shape.raw, count, met, values)?;
+    Ok(object_due(version, number + 1, count, met))
 }
 
 /// A line with its line end, by what is due: puts it, and answers what is due after it.

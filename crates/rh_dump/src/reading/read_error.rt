@@ -1,6 +1,10 @@
 //! Why a dump is not read.
 
+ghost use Rattle.std.specs.Prelude.{◌≡◌};
+ghost use Rattle.rh_dump.specs.declared.reading.read_error.LineError.TheVariants as errors;
+
 use crate::reading::fault::{DumpFault, DumpKind};
+use rh_layout::OutOfMemory;
 use thiserror::Error;
 
 /// Why `read_dump` gives no graph.
@@ -24,4 +28,20 @@ pub enum LineError {
     Kind(DumpKind),
     /// The allocator refused memory for the graph.
     OutOfMemory,
+}
+
+impl From<DumpKind> for LineError {
+    ghost from_gives = { λ kind e. e ≡ errors.Kind kind };
+
+    fn from(kind: DumpKind) -> LineError {
+        LineError::Kind(kind)
+    }
+}
+
+impl From<OutOfMemory> for LineError {
+    ghost from_gives = { λ _ e. e ≡ errors.OutOfMemory };
+
+    fn from(_error: OutOfMemory) -> LineError {
+        LineError::OutOfMemory
+    }
 }
