@@ -4,7 +4,7 @@ use Rattle.std.specs.Option.{option_map, option_copied}
 use Rattle.std.specs.Borrow.{Bor}
 use Rattle.std.specs.Map.{lookup}
 use Rattle.std.specs.Str.{bytes_eq}
-use Rattle.std.specs.Prelude.{slice_get, length}
+use Rattle.std.specs.Prelude.{slice_get}
 use Rattle.indexmap.specs.IndexMap.{insert_entry}
 use Rattle.rh_partial.specs.PartialReplica.{ReplicaState}
 use Rattle.rh_engine.specs.Trays.{Tray, Trays, tray_of, named_trays, trays_with}
@@ -32,10 +32,6 @@ pub named_trays-insert_entry : (es : List (List ℕ × ReplicaState)) (name : Li
 named_trays-insert_entry [] name r = refl
 named_trays-insert_entry (e ∷ es) name r =
     put_by (bytes_eq name e.0) e es (insert_entry bytes_eq es name r) r (trays_with (named_trays es) name (tray_of r)) (named_trays-insert_entry es name r)
-
-pub length-named : (es : List (List ℕ × ReplicaState)) → length (named_trays es) ≡ length es
-length-named [] = refl
-length-named (e ∷ es) = ap suc (length-named es)
 
 -- the tray at a place among them
 pub slice_get-named : (es : List (List ℕ × ReplicaState)) (i : ℕ) → slice_get (named_trays es) i ≡ option_map named (slice_get es i)

@@ -81,7 +81,7 @@ impl<A: Allocator + Copy> Trays<A> {
     }
 
     /// Whether a tray of this name would be one too many.
-    pub fn is_beyond(&self, name: TrayName) -> bool
+    pub(crate) fn is_beyond(&self, name: TrayName) -> bool
         ensures { result ≡ is_beyond_in self.now name }
     {
         self.len() >= MAX_TRAYS && self.get(name).is_none()
