@@ -61,7 +61,8 @@ pub fn check<A: Allocator + Copy, B: Allocator>(
     let mut plain = match Plain::new(alloc, history.owners(), history.slots()) {
         Ok(plain) => plain,
         // A history has as many owners and slots as a heap may have.
-        Err(PlainError::BadRoots | PlainError::OutOfMemory) => return Err(OutOfMemory),
+        Err(PlainError::BadRoots) => unreachable!(),
+        Err(PlainError::OutOfMemory) => return Err(OutOfMemory),
     };
     let calls = history.calls();
     let mut count = 0;
