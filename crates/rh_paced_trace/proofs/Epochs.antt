@@ -16,9 +16,9 @@ use Rattle.rh_core.specs.Giving.{give_step}
 use Rattle.rh_core.specs.Holding.{hold_step, next_kind, replica_with, with_dealt_given}
 use Rattle.rh_core.specs.Idle.{idle_step}
 use Rattle.rh_core.specs.Shading.{shade_step}
+use Rattle.rh_pace.specs.InTime.{paced_after}
 use Rattle.rh_pace.specs.Paced.{PacedState, after_answer, paced_step, with_command}
 use Rattle.rh_paced_trace.specs.Lines.{Commands}
-use Rattle.rh_paced_trace.specs.Run.{state_after}
 use Rattle.rh_paced_trace.proofs.CollectorWork.{WorkLaws, answered}
 
 -- neither flips nor epoch changed
@@ -78,8 +78,8 @@ module _ (laws : CountLaws) where
       let next = after_answer done.1 command (with_command s owner command) in
       work.both s.heap done.0 next.heap (agree s.heap done.0 (laws.command s.heap owner command)) (answered work done.1 command (with_command s owner command))
 
-  pub agree-commands : (s : PacedState) (commands : Commands) → CountsAgree s.heap (state_after s commands).heap
+  pub agree-commands : (s : PacedState) (commands : Commands) → CountsAgree s.heap (paced_after s commands).heap
   agree-commands s [] = omega arith
   agree-commands s (owned ∷ others) =
       let next = (paced_step s owned.0 owned.1).0 in
-      work.both s.heap next.heap (state_after next others).heap (agree-command s owned.0 owned.1) (agree-commands next others)
+      work.both s.heap next.heap (paced_after next others).heap (agree-command s owned.0 owned.1) (agree-commands next others)

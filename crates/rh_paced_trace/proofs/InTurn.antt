@@ -1,5 +1,5 @@
 -- Commands run one after the other: what is left of them, and what was written of the answers.
-use Rattle.std.proofs.Common.{◌≡◌, ℕ, ◌+◌, ◌<◌, ◌≤◌, Bool, cond, true, false, List, [], ◌∷◌, ◌++◌, length, get_or, drop, Option, Some, None, Result, refl, sym, ap, subst, ◌∙◌, append_assoc, arith}
+use Rattle.std.proofs.Common.{◌≡◌, ℕ, ◌+◌, ◌<◌, ◌≤◌, Bool, cond, true, false, List, [], ◌∷◌, ◌++◌, length, get_or, drop, Option, Result, refl, sym, ap, subst, ◌∙◌, append_assoc, arith}
 use Rattle.std.specs.Prelude.{count_by, is_err}
 use Rattle.std.specs.Int.{from_bool}
 use Rattle.std.specs.List.{flat_map}
@@ -11,17 +11,16 @@ use Rattle.rh_layout.specs.declared.refusal.Refusal.{Refusal}
 use Rattle.rh_core.specs.declared.stat.Stat.{Stat}
 use Rattle.rh_core.specs.Stat.{stat_of}
 use Rattle.rh_text.specs.Output.{AppendsLess}
-use Rattle.rh_text.specs.lemmas.Appends.{Appends-none, Appends-at, Appends-then, Appends-less, less-more}
-use Rattle.rh_syntax.specs.declared.fault.Kind.TheVariants.{Word}
+use Rattle.rh_text.specs.lemmas.Appends.{Appends-at, Appends-then, Appends-less, less-more}
 use Rattle.rh_syntax.specs.declared.request.Request.{Request}
 use Rattle.rh_syntax.specs.declared.request.Request.TheVariants as requests
-use Rattle.rh_syntax.specs.Reading.{fault_at}
 use Rattle.rh_trace.specs.declared.summary.Summary.{Summary}
 use Rattle.rh_trace.specs.Answers.{answer_line, total_line}
 use Rattle.rh_trace.proofs.CountsByHead.{count_by-head}
+use Rattle.rh_pace.specs.InTime.{paced_after, paced_replies}
 use Rattle.rh_pace.specs.Paced.{PacedState, paced_step}
-use Rattle.rh_paced_trace.specs.Lines.{Commands, commands_in, other_fault, biggest_of}
-use Rattle.rh_paced_trace.specs.Run.{answers_to, state_after, summary_of, summary_to, output_to}
+use Rattle.rh_paced_trace.specs.Lines.{Commands, commands_in, biggest_of}
+use Rattle.rh_paced_trace.specs.Run.{summary_of, summary_to, output_to}
 
 -- the request that stands at i comes first among those from i on
 pub next : (requests : List Request) (i : ℕ) (request : Request) → i < length requests → request ≡ get_or requests i request → drop i requests ≡ request ∷ drop (i + 1) requests
@@ -32,19 +31,6 @@ next requests i request lt is = drop_more requests i request lt ∙ ap (λ (r : 
 -- the request is no command
 abbrev pub IsOther : Request → Type 0
 IsOther request = (owner : ℕ) (command : Command) → request ≡ requests.Command owner command → ⊥
-
-pub other_fault-command : (line : ℕ) (all : List Request) (i : ℕ) (request : Request) (owner : ℕ) (command : Command) → i < length all → request ≡ get_or all i request → request ≡ requests.Command owner command
-    → other_fault line (drop i all) ≡ other_fault (line + 1) (drop (i + 1) all)
-other_fault-command line all i request owner command lt is same =
-    ap (other_fault line) (next all i request lt is) ∙ ap (λ (r : Request). other_fault line (r ∷ drop (i + 1) all)) same
-
-other_here : (line : ℕ) (request : Request) (rest : List Request) → IsOther request → other_fault line (request ∷ rest) ≡ Some (fault_at line Word)
-other_here line (requests.Command owner command) rest other = absurd (other owner command refl)
-other_here line request rest other = refl
-
-pub other_fault-other : (line : ℕ) (all : List Request) (i : ℕ) (request : Request) → i < length all → request ≡ get_or all i request → IsOther request
-    → other_fault line (drop i all) ≡ Some (fault_at line Word)
-other_fault-other line all i request lt is other = ap (other_fault line) (next all i request lt is) ∙ other_here line request (drop (i + 1) all) other
 
 pub commands_in-command : (all : List Request) (i : ℕ) (request : Request) (owner : ℕ) (command : Command) → i < length all → request ≡ get_or all i request → request ≡ requests.Command owner command
     → commands_in (drop i all) ≡ (owner, command) ∷ commands_in (drop (i + 1) all)
@@ -62,9 +48,6 @@ commands_in-other all i request lt is other = ap commands_in (next all i request
 pub none_left : (all : List Request) (i : ℕ) → length all ≤ i → commands_in (drop i all) ≡ []
 none_left all i past = ap commands_in (drop_all i all past)
 
-pub no_line_left : (line : ℕ) (all : List Request) (i : ℕ) → length all ≤ i → other_fault line (drop i all) ≡ None
-no_line_left line all i past = ap (other_fault line) (drop_all i all past)
-
 -- ---- the biggest object
 
 pub biggest-least : (commands : Commands) → 2 ≤ biggest_of commands
@@ -76,22 +59,12 @@ biggest-least (owned ∷ others) = omega (arith, biggest-least others)
 -- Some commands were run, and these are left: what they add to what was counted and written comes
 -- to what all do.
 pub record Left (old : PacedState) (all : Commands) (now : PacedState) (left : Commands) (commands refused : ℕ) (from to : Option (List ℕ)) : Type 0 where
-  pub commands_left : commands + length (answers_to now left) ≡ length (answers_to old all)
-  pub refused_left : refused + count_by is_err (answers_to now left) ≡ count_by is_err (answers_to old all)
-  pub state : state_after now left ≡ state_after old all
+  pub commands_left : commands + length (paced_replies now left) ≡ length (paced_replies old all)
+  pub refused_left : refused + count_by is_err (paced_replies now left) ≡ count_by is_err (paced_replies old all)
+  pub state : paced_after now left ≡ paced_after old all
   pub written : List ℕ
-  pub text : flat_map answer_line (answers_to old all) ≡ written ++ flat_map answer_line (answers_to now left)
+  pub text : flat_map answer_line (paced_replies old all) ≡ written ++ flat_map answer_line (paced_replies now left)
   pub sent : Appends from to written
-
-pub Left-all : (s : PacedState) (all : Commands) (from : Option (List ℕ)) → Left s all s all 0 0 from from
-Left-all s all from = record {
-  commands_left = omega arith;
-  refused_left = omega arith;
-  state = refl;
-  written = [];
-  text = refl;
-  sent = Appends-none from;
-}
 
 bit_is : (b : Bool) → from_bool b ≡ cond b 1 0
 bit_is true = refl
@@ -109,25 +82,25 @@ module _ (old : PacedState) (all : Commands) (now : PacedState) (owner : ℕ) (c
   -- one more was run
   pub Left-next : (refusal : Bool) (new : PacedState) (end : Option (List ℕ)) → new ≡ after → refusal ≡ is_err answer → Appends to end (answer_line answer) → Left old all new rest (commands + 1) (refused + from_bool refusal) from end
   Left-next refusal new end is same sent =
-      let counted = count_by-head is_err answer (answers_to after rest) in
+      let counted = count_by-head is_err answer (paced_replies after rest) in
       let one : from_bool refusal ≡ cond (is_err answer) 1 0 = ap from_bool same ∙ bit_is (is_err answer) in
       subst (λ (s : PacedState). Left old all s rest (commands + 1) (refused + from_bool refusal) from end) (sym is) (record {
         commands_left = omega (arith, left.commands_left);
         refused_left = omega (arith, left.refused_left, counted, one);
         state = left.state;
         written = left.written ++ answer_line answer;
-        text = left.text ∙ sym (append_assoc left.written (answer_line answer) (flat_map answer_line (answers_to after rest)));
+        text = left.text ∙ sym (append_assoc left.written (answer_line answer) (flat_map answer_line (paced_replies after rest)));
         sent = Appends-then from to end left.written (answer_line answer) left.sent sent;
       })
 
   -- its line wasn't written whole, so the text isn't
   pub Left-cut : (end : Option (List ℕ)) → AppendsLess to end (answer_line answer) → AppendsLess from end (output_to old all)
   Left-cut end cut =
-      let later = flat_map answer_line (answers_to after rest) ++ total_line (summary_to old all) in
+      let later = flat_map answer_line (paced_replies after rest) ++ total_line (summary_to old all) in
       let whole : output_to old all ≡ left.written ++ (answer_line answer ++ later) =
       ap (λ (t : List ℕ). t ++ total_line (summary_to old all)) left.text
-      ∙ append_assoc left.written (answer_line answer ++ flat_map answer_line (answers_to after rest)) (total_line (summary_to old all))
-      ∙ ap (λ (t : List ℕ). left.written ++ t) (append_assoc (answer_line answer) (flat_map answer_line (answers_to after rest)) (total_line (summary_to old all))) in
+      ∙ append_assoc left.written (answer_line answer ++ flat_map answer_line (paced_replies after rest)) (total_line (summary_to old all))
+      ∙ ap (λ (t : List ℕ). left.written ++ t) (append_assoc (answer_line answer) (flat_map answer_line (paced_replies after rest)) (total_line (summary_to old all))) in
       subst (AppendsLess from end) (sym whole) (Appends-less from to end left.written (answer_line answer ++ later) left.sent (less-more to end (answer_line answer) later cut))
 
 -- ---- once none is left
@@ -136,26 +109,26 @@ module _ (old : PacedState) (all : Commands) (now : PacedState) (commands refuse
   -- what was counted is what all add up to
   pub Left-summary : (summary : Summary) → summary ≡ record { commands = commands; refused = refused; flips = now.heap.flips; root_words = now.heap.root_words } → summary ≡ summary_to old all
   Left-summary summary is =
-      let n : commands ≡ length (answers_to old all) = omega (arith, left.commands_left) in
-      let m : refused ≡ count_by is_err (answers_to old all) = omega (arith, left.refused_left) in
+      let n : commands ≡ length (paced_replies old all) = omega (arith, left.commands_left) in
+      let m : refused ≡ count_by is_err (paced_replies old all) = omega (arith, left.refused_left) in
       let last = left.state in
       is ∙ ap (λ (c : ℕ). record { commands = c; refused = refused; flips = now.heap.flips; root_words = now.heap.root_words }) n
-      ∙ ap (λ (r : ℕ). record { commands = length (answers_to old all); refused = r; flips = now.heap.flips; root_words = now.heap.root_words }) m
-      ∙ ap (λ (s : PacedState). summary_of (answers_to old all) s) last
+      ∙ ap (λ (r : ℕ). record { commands = length (paced_replies old all); refused = r; flips = now.heap.flips; root_words = now.heap.root_words }) m
+      ∙ ap (λ (s : PacedState). summary_of (paced_replies old all) s) last
 
-  text_is : flat_map answer_line (answers_to old all) ≡ left.written
+  text_is : flat_map answer_line (paced_replies old all) ≡ left.written
   text_is = left.text ∙ append-nil left.written
 
   pub Left-done : (end : Option (List ℕ)) (summary : Summary) → summary ≡ summary_to old all → Appends to end (total_line summary) → Appends from end (output_to old all)
   Left-done end summary is sent =
-      Appends-then from to end (flat_map answer_line (answers_to old all)) (total_line (summary_to old all))
-      (Appends-at from to left.written (flat_map answer_line (answers_to old all)) (sym text_is) left.sent)
+      Appends-then from to end (flat_map answer_line (paced_replies old all)) (total_line (summary_to old all))
+      (Appends-at from to left.written (flat_map answer_line (paced_replies old all)) (sym text_is) left.sent)
       (Appends-at to end (total_line summary) (total_line (summary_to old all)) (ap total_line is) sent)
 
   pub Left-cut_total : (end : Option (List ℕ)) (summary : Summary) → summary ≡ summary_to old all → AppendsLess to end (total_line summary) → AppendsLess from end (output_to old all)
   Left-cut_total end summary is cut =
-      Appends-less from to end (flat_map answer_line (answers_to old all)) (total_line (summary_to old all))
-      (Appends-at from to left.written (flat_map answer_line (answers_to old all)) (sym text_is) left.sent)
+      Appends-less from to end (flat_map answer_line (paced_replies old all)) (total_line (summary_to old all))
+      (Appends-at from to left.written (flat_map answer_line (paced_replies old all)) (sym text_is) left.sent)
       (subst (λ (s : Summary). AppendsLess to end (total_line s)) is cut)
 
 -- ---- at a line

@@ -30,11 +30,12 @@ use Rattle.rh_syntax.specs.lemmas.ReadIsSpelled.{trace_of-means}
 use Rattle.rh_trace.specs.declared.summary.Summary.{Summary}
 use Rattle.rh_trace.specs.Run.{config_of}
 use Rattle.rh_pace.specs.declared.pace.Pace.{Pace}
+use Rattle.rh_pace.specs.InTime.{paced_replies}
 use Rattle.rh_pace.specs.Paced.{PacedState, after_answer, paced_step, with_command}
 use Rattle.rh_paced_trace.specs.declared.fault.PacedFault.{PacedFault}
 use Rattle.rh_paced_trace.specs.declared.fault.PacedFault.TheVariants as faults
 use Rattle.rh_paced_trace.specs.Lines.{Commands, commands_in}
-use Rattle.rh_paced_trace.specs.Run.{answers_to, new_run, output_of, sum_of, IsRun, Ends, AreTransparent, IsPlainRun, AreSumsOf}
+use Rattle.rh_paced_trace.specs.Run.{new_run, output_of, sum_of, IsRun, Ends, AreTransparent, IsPlainRun, AreSumsOf}
 use Rattle.rh_paced_trace.proofs.CollectorWork.{WorkLaws, answered}
 
 -- no limit refused by the answer
@@ -118,7 +119,7 @@ module _ {A : Type 0} (laws : PlainLaws A) where
       let work = answered laws.work done.1 command (with_command s owner command) in
       (steps.0, (laws.well done.0 next.heap well work, laws.stands done.0 next.heap well work (plain_unless (is_limit_answer done.1) p owner command) steps.1))
 
-  transparent : (commands : Commands) (s : PacedState) (p : PlainHeap) → IsPlain s.heap p → AreTransparent p commands (answers_to s commands)
+  transparent : (commands : Commands) (s : PacedState) (p : PlainHeap) → IsPlain s.heap p → AreTransparent p commands (paced_replies s commands)
   transparent [] s p plain = tt
   transparent (owned ∷ others) s p plain =
       let first = one s p plain owned.0 owned.1 in
@@ -126,19 +127,19 @@ module _ {A : Type 0} (laws : PlainLaws A) where
 
   -- so two runs at any paces are answered alike, where no limit refused
   pub unseen : (script : Script) → fault_of (config_of script.header) ≡ None → (first second : Pace)
-      → AreUnlimited (answers_to (new_run script first) (commands_in script.requests)) → AreUnlimited (answers_to (new_run script second) (commands_in script.requests))
-      → answers_to (new_run script first) (commands_in script.requests) ≡ answers_to (new_run script second) (commands_in script.requests)
+      → AreUnlimited (paced_replies (new_run script first) (commands_in script.requests)) → AreUnlimited (paced_replies (new_run script second) (commands_in script.requests))
+      → paced_replies (new_run script first) (commands_in script.requests) ≡ paced_replies (new_run script second) (commands_in script.requests)
   unseen script sizes first second within also =
       let c = config_of script.header in
       let p = empty_plain script.header.owners script.header.slots in
       let plain : IsPlain (new_heap c) p = (laws.new c sizes, laws.begins c) in
       let commands = commands_in script.requests in
-      alike commands p (answers_to (new_run script first) commands) (answers_to (new_run script second) commands)
+      alike commands p (paced_replies (new_run script first) commands) (paced_replies (new_run script second) commands)
       (transparent commands (new_run script first) p plain) (transparent commands (new_run script second) p plain) within also
 
   -- what a run is answered
   abbrev answers_of : Script → Pace → CommandAnswers
-  answers_of script pace = answers_to (new_run script pace) (commands_in script.requests)
+  answers_of script pace = paced_replies (new_run script pace) (commands_in script.requests)
 
   plain_run : (mark : Option ℕ) (input : List ℕ) (script : Script) (pace : Pace) (old new : Option (List ℕ)) → IsRun mark input script pace → Consumes old new input → IsPlainRun script (answers_of script pace) old new
   plain_run mark input script pace old new run consumed =

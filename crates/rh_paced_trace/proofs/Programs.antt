@@ -5,10 +5,10 @@ use Rattle.std.specs.Option.{option_map_or}
 use Rattle.std.proofs.lemmas.List.{length_push}
 use Rattle.rh_layout.specs.declared.command.Command.{Command}
 use Rattle.rh_core.specs.runs.Programs.{CommandAnswers, Program, answers_by}
+use Rattle.rh_pace.specs.InTime.{paced_replies}
 use Rattle.rh_pace.specs.Paced.{PacedState, paced_step}
 use Rattle.rh_pace.specs.Programs.{Insists, call_step, paced_answers}
 use Rattle.rh_paced_trace.specs.Lines.{Commands}
-use Rattle.rh_paced_trace.specs.Run.{answers_to}
 
 -- it insists on nothing
 abbrev nothing : Insists
@@ -20,7 +20,7 @@ module _ (all : Commands) where
 
   -- the next commands are those that are left
   pub answers-lines : (left : Commands) (s : PacedState) (so_far : CommandAnswers) → ((k : ℕ) → slice_get left k ≡ slice_get all (length so_far + k))
-      → answers_to s left ≡ paced_answers lines nothing (length left) s so_far
+      → paced_replies s left ≡ paced_answers lines nothing (length left) s so_far
   answers-lines [] s so_far are = refl
   answers-lines (owned ∷ others) s so_far are =
       let done = paced_step s owned.0 owned.1 in

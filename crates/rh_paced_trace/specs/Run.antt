@@ -14,22 +14,12 @@ use Rattle.rh_trace.specs.declared.summary.Summary.{Summary}
 use Rattle.rh_trace.specs.Answers.{answer_line, total_line}
 use Rattle.rh_trace.specs.Run.{config_of}
 use Rattle.rh_pace.specs.declared.pace.Pace.{Pace}
-use Rattle.rh_pace.specs.Paced.{PacedState, paced_heap, paced_step}
+use Rattle.rh_pace.specs.Paced.{PacedState, paced_heap}
+use Rattle.rh_pace.specs.InTime.{paced_after, paced_replies}
 use Rattle.rh_paced_trace.specs.declared.fault.PacedFault.{PacedFault}
 use Rattle.rh_paced_trace.specs.declared.fault.PacedFault.TheVariants as faults
 use Rattle.rh_paced_trace.specs.Lines.{Commands, commands_in, fault_in, other_fault}
 use Rattle.rh_paced_trace.specs.Pacing.{IsPaceOf}
-
--- what a paced heap answers to commands, in order
-abbrev pub answers_to : PacedState → Commands → CommandAnswers
-answers_to s [] = []
-answers_to s (owned ∷ others) =
-    (paced_step s owned.0 owned.1).1 ∷ answers_to (paced_step s owned.0 owned.1).0 others
-
--- the paced heap after them
-abbrev pub state_after : PacedState → Commands → PacedState
-state_after s [] = s
-state_after s (owned ∷ others) = state_after (paced_step s owned.0 owned.1).0 others
 
 -- what the answers add up to, and what the heap counted that gave them
 abbrev pub summary_of : CommandAnswers → PacedState → Summary
@@ -46,11 +36,11 @@ output_of answers summary = flat_map answer_line answers ++ total_line summary
 
 -- what a paced heap answers to these commands, and what that adds up to
 abbrev pub summary_to : PacedState → Commands → Summary
-summary_to s commands = summary_of (answers_to s commands) (state_after s commands)
+summary_to s commands = summary_of (paced_replies s commands) (paced_after s commands)
 
 -- the text of that
 abbrev pub output_to : PacedState → Commands → List ℕ
-output_to s commands = output_of (answers_to s commands) (summary_to s commands)
+output_to s commands = output_of (paced_replies s commands) (summary_to s commands)
 
 -- what a run begins with: a new heap of the sizes of the first line, at this pace
 abbrev pub new_run : Script → Pace → PacedState

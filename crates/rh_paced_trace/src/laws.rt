@@ -15,10 +15,11 @@ ghost use Rattle.rh_syntax.specs.Spelling.{Script};
 ghost use Rattle.rh_trace.specs.Events.{is_command};
 ghost use Rattle.rh_trace.specs.Run.{config_of};
 ghost use Rattle.rh_pace.specs.declared.pace.Pace.{Pace as PaceOf};
+ghost use Rattle.rh_pace.specs.InTime.{paced_after, paced_replies};
 ghost use Rattle.rh_pace.specs.Paced.{PacedState};
 ghost use Rattle.rh_pace.specs.Programs.{paced_answers};
 ghost use Rattle.rh_paced_trace.specs.Lines.{AreCommands, Commands, IsFirstOther, biggest_of, commands_in, other_fault};
-ghost use Rattle.rh_paced_trace.specs.Run.{answers_to, new_run, state_after, sum_of, summary_to};
+ghost use Rattle.rh_paced_trace.specs.Run.{new_run, sum_of, summary_to};
 
 use rh_core::laws::cycles::{
     a_cycle_begins_with_nothing_placed, a_flip_ends_the_cycle,
@@ -81,10 +82,10 @@ pub fn the_biggest_object_is_the_largest_that_a_line_allocates()
 pub fn a_summary_counts_the_cycles_that_ended()
     ensures flips { (s : PacedState) (commands : Commands)
         → (summary_to s commands).flips + s.heap.epoch
-        ≡ s.heap.flips + (state_after s commands).heap.epoch }
+        ≡ s.heap.flips + (paced_after s commands).heap.epoch }
     ensures run { (script : Script) (pace : PaceOf)
         → (sum_of script pace).flips + 1
-        ≡ (state_after (new_run script pace) (commands_in script.requests)).heap.epoch }
+        ≡ (paced_after (new_run script pace) (commands_in script.requests)).heap.epoch }
 {
     a_command_leaves_the_cycle();
     a_cycle_begins_with_nothing_placed();
@@ -100,7 +101,7 @@ pub fn a_summary_counts_the_cycles_that_ended()
 /// command is that of the next line. So of its run all holds that is promised of every program on a
 /// paced heap.
 pub fn a_trace_is_a_program()
-    ensures { (s : PacedState) (commands : Commands) → answers_to s commands
+    ensures { (s : PacedState) (commands : Commands) → paced_replies s commands
         ≡ paced_answers (λ so_far. slice_get commands (length so_far)) (λ so_far. false)
         (length commands) s [] }
 {}
@@ -110,10 +111,10 @@ pub fn a_trace_is_a_program()
 pub fn the_pace_is_seen_in_refusals_by_a_limit_alone()
     ensures { (script : Script) → fault_of (config_of script.header) ≡ None
         → (first second : PaceOf)
-        → AreUnlimited (answers_to (new_run script first) (commands_in script.requests))
-        → AreUnlimited (answers_to (new_run script second) (commands_in script.requests))
-        → answers_to (new_run script first) (commands_in script.requests)
-        ≡ answers_to (new_run script second) (commands_in script.requests) }
+        → AreUnlimited (paced_replies (new_run script first) (commands_in script.requests))
+        → AreUnlimited (paced_replies (new_run script second) (commands_in script.requests))
+        → paced_replies (new_run script first) (commands_in script.requests)
+        ≡ paced_replies (new_run script second) (commands_in script.requests) }
 {
     heaps_answer_as_plain_heaps();
     a_new_heap_is_well_formed();

@@ -3,15 +3,12 @@
 ghost use Rattle.std.specs.Prelude.{◌≡◌, ◌<◌, ◌≤◌, length};
 ghost use Rattle.rh_paced_trace.specs.Lines.{biggest_of, commands_in, other_fault, words_asked};
 
-use rh_layout::Command;
 use rh_layout::limits::{MAX_FIELDS, MAX_LINES};
+use rh_layout::{Command, size_of};
 use rh_syntax::{Kind, Request, TraceFault};
 
 /// The number of the line after the first.
 const FIRST_COMMAND_LINE: u32 = 2;
-
-/// The words that an object has beside its fields.
-const HEADER_WORDS: u32 = 2;
 
 /// The fault of the first request that is no command, if one isn't.
 pub fn other_fault(requests: &[Request]) -> Option<TraceFault>
@@ -37,7 +34,7 @@ pub fn other_fault(requests: &[Request]) -> Option<TraceFault>
 pub fn biggest_of(requests: &[Request]) -> u32
     ensures { result ≡ biggest_of (commands_in requests.now) }
 {
-    let mut biggest = HEADER_WORDS;
+    let mut biggest = size_of(0);
     for request in requests {
         if let Request::Command { command, .. } = request {
             biggest = biggest.max(words_asked(command));
@@ -51,7 +48,7 @@ fn words_asked(command: &Command) -> u32
     ensures { result ≡ words_asked command.now }
 {
     match command.made() {
-        Some((_, shape)) => shape.fields.min(MAX_FIELDS) + HEADER_WORDS,
+        Some((_, shape)) => size_of(shape.fields.min(MAX_FIELDS)),
         None => 0,
     }
 }

@@ -1,8 +1,8 @@
 //! The commands of a trace, run one after the other on a heap that collects by itself.
 
-ghost use Rattle.std.specs.Prelude.{◌≡◌, ◌<◌, ◌≤◌, ◌+◌, ◌^◌, length, false, is_err, IfOk, OnOk, OnErr};
+ghost use Rattle.std.specs.Prelude.{◌≡◌, ◌<◌, ◌≤◌, ◌+◌, ◌^◌, false, is_err, IfOk, OnOk, OnErr};
 ghost use Rattle.std.specs.Io.KnownBytes.{Appends};
-ghost use Rattle.rh_text.specs.IoLog.{AreSpent, AreSpentSince, CountsDown, MadeSince};
+ghost use Rattle.rh_text.specs.IoLog.{AreSpent, AreSpentSince, CountsDown};
 ghost use Rattle.rh_text.specs.Output.{AppendsLess};
 ghost use Rattle.rh_trace.specs.Answers.{answer_line};
 ghost use Rattle.rh_pace.specs.Paced.{paced_step};
