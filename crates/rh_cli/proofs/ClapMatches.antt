@@ -1,12 +1,11 @@
 -- What clap's matches hold, as far as a request is read from them.
-use Rattle.std.proofs.Common.{◌≡◌, List, Option, Some, None, Err, option_map, ap, sym, codes, true, refl, ◌∙◌}
+use Rattle.std.proofs.Common.{◌≡◌, List, Option, Some, None, option_map, ap, sym, codes, true, refl, ◌∙◌}
 use Rattle.clap.specs.Words.{Row, Text, App, first_of, first_value, found_of, rows_of, subcommand_rows_of, is_simple, HasMatchesOf, subcommand_name_of, subcommand_of, takes}
 use Rattle.clap.specs.declared.parser.matches.ArgMatches.{ArgMatches}
 use Rattle.clap.specs.declared.parser.matches.ArgMatches.TheViews.{out-ArgMatches, out-SubCommand}
 use Rattle.std.specs.Box.{box_value}
 use Rattle.clap.proofs.WalkLemmas.{first_value-rows}
 use Rattle.clap.proofs.OnLiterals.{clap_on_literals}
-use Rattle.rh_cli.specs.declared.fault.LineFault.TheVariants as faults
 use Rattle.rh_cli.specs.Ask.{command_and_file_in, command_and_file_of, command_named, options_in, with_file, rheap_app, is_taken, Options}
 
 abbrev both : {X : Type 0} → (X → Text) → (X → List Row) → X → Text × List Row
@@ -19,10 +18,6 @@ rows_are : {X : Type 0} (name : X → Text) (rows : X → List Row) (o : Option 
     → Some r ≡ option_map (λ (p : Text × List Row). p.1) (option_map (both name rows) o) → option_map (both name rows) o ≡ Some (labelled n r)
 rows_are name rows None n r e f = absurd cc
 rows_are name rows (Some x) n r e f = cc
-
-no_rows : {X : Type 0} (name : X → Text) (rows : X → List Row) (o : Option X) → None ≡ option_map name o → option_map (both name rows) o ≡ None
-no_rows name rows None e = refl
-no_rows name rows (Some x) e = absurd cc
 
 -- the options are those that the rows hold
 pub record AreHeld (rows : List Row) (given : Options) : Type 0 where
@@ -78,10 +73,6 @@ command_and_file_in-matches m n values file given name rows is matched =
     let found = found_of values in
     let entered = rows_are (λ b. (out-SubCommand (box_value b)).name.now) (λ b. rows_of (found_of (out-SubCommand (box_value b)).matches)) (out-ArgMatches m).subcommand n (rows_of found) name rows in
     ap command_and_file_in entered ∙ from_values (rows_of found) n file given (is ∙ first_value-rows found (codes "FILE")) (held_by_matches values given matched)
-
--- no subcommand is held where the matches have none
-pub command_and_file_in-none : (m : ArgMatches) → None ≡ subcommand_name_of m → command_and_file_in (subcommand_rows_of m) ≡ Err faults.Incomplete
-command_and_file_in-none m is = ap command_and_file_in (no_rows (λ b. (out-SubCommand (box_value b)).name.now) (λ b. rows_of (found_of (out-SubCommand (box_value b)).matches)) (out-ArgMatches m).subcommand is)
 
 is_simple_line : is_simple rheap_app ≡ true
 unfolding clap_on_literals
