@@ -1,6 +1,6 @@
 //! Texts of traces and histories, with their answers and reports. What stands in `examples/`, where
-//! `examples/check` plays it, is repeated only where a test counts its writes, lets them or its memory
-//! fail, or plays its commands on a plain heap.
+//! `examples/check` plays it, is repeated only where a test counts its writes, lets them or its
+//! memory fail, or plays its commands on a plain heap.
 
 use std::alloc::AllocError;
 use std::process::Abort;

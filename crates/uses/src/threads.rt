@@ -1,6 +1,6 @@
 //! Threads that share a heap: each is an owner, and makes its calls under a lock. What all may use
 //! stands in a slot of owner 0, here a list; what an owner has in its own slots is there when it
-//! takes the lock again. Nothing is recorded, so threads may go on so for ever.
+//! takes the lock again. Nothing is recorded, so no history ends what threads may do.
 
 ghost use Rattle.std.specs.Prelude.{◌≢◌, IfErr};
 ghost use Rattle.rh_layout.specs.declared.refusal.Refusal.TheVariants.{LogFull};
