@@ -116,12 +116,14 @@ fn replica<R: AllocGlobal + Abort, M: Allocator + Copy>(
     }
     let copy = replica.copy().ok()?;
     let folded = fold(memory, 1, &pieces).ok()?;
-    let joined = copy.join(folded).ok()?;
-    expect_equal(
-        rt,
-        (joined.len(), replica.len()),
-        (size as usize, size as usize),
-    );
+    let both = (size as usize, size as usize);
+    match copy.join(folded) {
+        Ok(joined) => expect_equal(rt, (joined.len(), replica.len()), both),
+        Err(unjoined) => {
+            expect_equal(rt, (unjoined.left.len(), unjoined.right.len()), both);
+            return None;
+        }
+    }
     Some(())
 }
 

@@ -146,6 +146,7 @@ fn heaps_answer_as_plain_heaps_and_have_their_dumps(rt: HostRuntime) {
         expect_equal(&rt, answered.as_slice(), answers);
         expect_dumps(&rt, &heap, &plain, dump);
     }
+    expect_equal(&rt, PLAYED.len(), 8);
 }
 
 /// A trace that places an object at word 0, and the dump after it.

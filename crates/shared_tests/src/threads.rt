@@ -145,4 +145,5 @@ fn two_threads_call_one_heap(rt: HostRuntime) {
             expect_equal(&rt, play_two(&rt, elsewhere, leaves), told);
         });
     }
+    expect_equal(&rt, PLAYED.len(), 3);
 }

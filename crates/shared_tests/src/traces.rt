@@ -133,6 +133,7 @@ fn histories_of_one_owner(rt: HostRuntime) {
     for &(options, text, history) in ONE_OWNER {
         play_again(&rt, || runs_to(&rt, options, text, Ok(()), history));
     }
+    expect_equal(&rt, ONE_OWNER.len(), 5);
 }
 
 #[test]
@@ -171,6 +172,7 @@ fn histories_of_two_owners(rt: HostRuntime) {
     for &options in CROWDS {
         play_again(&rt, || plays_legally(&rt, options));
     }
+    expect_equal(&rt, CROWDS.len(), 3);
 }
 
 /// Refuses the nth allocation of a run of two owners, whose cycle begins where the fifth of their

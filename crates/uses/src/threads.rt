@@ -28,13 +28,15 @@ pub fn run<R: Threads + Wait + Sync + AllocGlobal>(rt: &R) -> Result<(i64, u64),
     ensures { IfErr result (λ problem. problem ≢ problems.Refused LogFull) }
 {
     let pace = Pace::filling(WORDS, CELL_WORDS, RATIO)?;
+    // 3 owners, with 2 slots each.
     let heap = PacedHeap::new(rt.alloc(), pace.config(WORDS, RATIO, 3, 2), pace)?;
     let shared = Mutex::new(heap);
     let (one, two) = thread::join(rt, || work(rt, &shared, 1), || work(rt, &shared, 2));
     Ok((one?.wrapping_add(two?), shared.into_inner().stat().flips))
 }
 
-/// A thread pushes ten numbers and pops ten, over and over. Answers the sum of what it popped.
+/// A thread pushes ten numbers and pops ten, over and over. Answers the sum of what it popped, each
+/// read under a later lock: what an owner has in its own slots stays there.
 fn work<R: Wait>(rt: &R, shared: &Mutex<PacedHeap>, owner: u32) -> Result<i64, Problem>
     ensures { IfErr result (λ problem. problem ≢ problems.Refused LogFull) }
 {
@@ -51,7 +53,8 @@ fn work<R: Wait>(rt: &R, shared: &Mutex<PacedHeap>, owner: u32) -> Result<i64, P
     Ok(sum)
 }
 
-/// A new cell stands in front of the list. Where no room is left, `insist` collects at once.
+/// A new cell stands in front of the list. All is done under one lock, so that no other thread sees
+/// the list halfway. Where no room is left, `insist` collects at once.
 fn push(heap: &mut PacedHeap, owner: u32, n: i64) -> Result<(), Refusal>
     ensures { IfErr result (λ refusal. refusal ≢ LogFull) }
 {
@@ -77,7 +80,7 @@ fn push(heap: &mut PacedHeap, owner: u32, n: i64) -> Result<(), Refusal>
     Ok(())
 }
 
-/// The owner's own slot takes the first cell of the list.
+/// The owner's own slot takes the first cell of the list, under one lock too.
 fn pop(heap: &mut PacedHeap, owner: u32) -> Result<(), Refusal>
     ensures { IfErr result (λ refusal. refusal ≢ LogFull) }
 {

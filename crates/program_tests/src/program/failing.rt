@@ -144,6 +144,7 @@ fn devices_that_fail(rt: HostRuntime) {
         expect_equal(&rt, (unflushed, untold, out.len()), (1, 1, 0));
         expect_equal(&rt, err.as_slice(), b"rheap: write failed\n".as_slice());
     }
+    expect_equal(&rt, PLAYED.len(), 11);
 }
 
 /// The first eight reads of a text that comes a byte a time, and the two after its last byte.

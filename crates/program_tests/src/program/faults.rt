@@ -1,6 +1,6 @@
 //! Texts with faults, and what the program tells of them.
 
-use crate::expectations::expect_text;
+use crate::expectations::{expect_equal, expect_text};
 use crate::program::driving::{DUMP, PACED, REPLAY, RUN, THREADS, drives_to};
 use crate::texts::repeated;
 use rh_cli::{Ask, Subcommand};
@@ -334,6 +334,7 @@ fn runs_that_cannot_be_made(rt: HostRuntime) {
     for &(ask, text, told) in NOT_RUN {
         drives_to(&rt, &ask, text, 1, b"", told);
     }
+    expect_equal(&rt, NOT_RUN.len(), 11);
 }
 
 /// What a text begins with, the byte that follows, how often it does, the end, and what is told.
