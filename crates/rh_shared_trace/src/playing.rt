@@ -6,7 +6,7 @@ ghost use Rattle.rh_shared.specs.Start.{IsFresh};
 
 use crate::threads::play_all;
 use rh_layout::OutOfMemory;
-use rh_replicator::{OpenGate, Replicator, crew};
+use rh_replicator::{Replicator, YieldingGate, crew};
 use rh_shared::{Kept, ReplicatorEnds, SharedHeap, Start, close};
 use rh_syntax::Request;
 use std::alloc::Allocator;
@@ -59,16 +59,16 @@ where
     }
 }
 
-/// A replicator for each pair of ends, in order, each with a gate that always passes.
+/// A replicator for each pair of ends, in order, each behind a gate that lets other threads run.
 fn replicators_of<A: Allocator + Copy>(
     alloc: A,
     ends: Vec<ReplicatorEnds<A>, A>,
-) -> Result<Vec<(Replicator<A>, OpenGate), A>, OutOfMemory>
+) -> Result<Vec<(Replicator<A>, YieldingGate), A>, OutOfMemory>
     requires { AllByRecursion IsFresh ends.items }
 {
     let mut replicators = Vec::with_capacity(alloc, ends.len())?;
     for own in ends {
-        replicators.push((Replicator::new(alloc, own), OpenGate))?;
+        replicators.push((Replicator::new(alloc, own), YieldingGate))?;
     }
     Ok(replicators)
 }

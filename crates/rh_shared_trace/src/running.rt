@@ -78,12 +78,13 @@ where
 ///
 /// # Errors
 ///
-/// Of the faults of the input and of what was asked for the first is answered: `Long`, then `Trace`,
-/// then `New`, then `Shared`. `Read` comes where, before more than 16,777,216 bytes came, a read
-/// failed or was one too many, `OutOfMemory` where memory or a thread was refused, `HistoryDiffers`
-/// where the history isn't as is said above. Nothing was written after any of these. `Write` comes
-/// where a write failed or 33,554,432 writes of one line didn't come to its end; then a prefix of
-/// such a text was written. `run_shared_logged` says of Read and Write that they come nowhere else.
+/// Of the faults of the input and of what was asked for the first is answered: `Long`, then
+/// `Trace`, then `New`, then `Shared`. `Read` comes where, before more than 16,777,216 bytes came,
+/// a read failed or was one too many, `OutOfMemory` where memory or a thread was refused,
+/// `HistoryDiffers` where the history isn't as is said above. Nothing was written after any of
+/// these. `Write` comes where a write failed or 33,554,432 writes of one line didn't come to its
+/// end; then a prefix of such a text was written. `run_shared_logged` says of Read and Write that
+/// they come nowhere else.
 pub fn run_shared<A, R, I, W>(
     rt: &R,
     alloc: A,

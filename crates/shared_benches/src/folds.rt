@@ -2,9 +2,8 @@
 
 use crate::figures::FoldFigures;
 use crate::pieces::piece_of;
-use crate::players::YieldingGate;
 use rh_partial::{PartialReplica, Piece};
-use rh_replicator::{Replicator, crew};
+use rh_replicator::{Replicator, YieldingGate, crew};
 use rh_rings::{LINK_PLACES, Link, new_link};
 use std::alloc::Global;
 use std::rt::Clock;
