@@ -139,7 +139,8 @@ pub fn read_words<'a>(alloc: Global, arguments: &'a [&'a str]) -> Result<Ask<'a>
         → (ask : Ask)
         → command_and_file_of (map (λ a. a.now) arguments.now) ≡ Ok (command_and_file ask)
         → fault ≡ LineFault.OutOfMemory) }
-    // What clap takes and is refused is told as what its parse holds instead, or memory was refused.
+    // What clap takes and is refused is told as what its parse holds instead, or memory was
+    // refused.
     ensures due { IfErr result (λ fault. IsTrue (is_taken (map (λ a. a.now) arguments.now))
         → (fault ≡ LineFault.OutOfMemory)
         ⊎ (command_and_file_of (map (λ a. a.now) arguments.now) ≡ Err fault)) }

@@ -23,8 +23,8 @@ use std::thread::Threads;
 
 /// Does what is asked with the file's bytes, which `reader` gives: answers and reports go to `out`,
 /// which is flushed at the end, and one line on failure to `err`. Answers the status that the
-/// program ends with: 0 where it is done, 4 for a wrong history, 3 where memory or a thread was
-/// refused, and else 1. It waits for the threads of `threads`.
+/// program ends with: 0 where it is done, 4 for a wrong history or, of `threads`, one that differs,
+/// 3 where memory or a thread was refused, and else 1. It waits for the threads of `threads`.
 pub fn drive<T, A, R, O, E>(
     rt: &T,
     alloc: A,

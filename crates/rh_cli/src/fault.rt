@@ -76,7 +76,8 @@ pub enum LineFault {
 
 impl LineFault {
     /// The status that the program ends with: 0 for help or the version, 2 for another command line
-    /// that isn't understood, 3 for want of memory, 4 for a history that differs, and else 1.
+    /// that isn't understood, 3 where memory or a thread was refused, 4 for a history that differs,
+    /// and else 1.
     pub fn status(&self) -> u8
         ensures { result ≡ status_of self.now }
     {

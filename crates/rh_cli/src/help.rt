@@ -67,6 +67,7 @@ On failure standard error has one line, as `rheap: line 3: Cut` or `rheap: heap:
   read failed    it is a folder, or its device failed
   write failed   standard output is closed or full, or its device failed
   too long       the file has more than 16777216 bytes
+  out of memory  the status is 3
 
 The tables of lines, answers, refusals and faults are in docs/formats.md.";
 
@@ -113,7 +114,8 @@ The report has a line `owner O calls N` for each owner that has calls, and then 
 AT expected ANSWER` for the first call, counted from 1, whose answer isn't that of a heap that never
 moves its objects.
 
-On failure standard error has one line, as `rheap: line 3: Cut`.
+On failure standard error has one line, as `rheap: line 3: Cut`, or as `run` has it where no line is
+at fault.
 
 Faults of a line, of which the first that holds is told:
   Empty     the file has no byte
@@ -141,7 +143,8 @@ Histories, reports and faults are described in docs/formats.md.";
 
 /// What the help of `dump` ends with.
 pub const DUMP: &str = "\
-On failure standard error has one line, as `rheap: line 3: Order`.
+On failure standard error has one line, as `rheap: line 3: Order`, or as `run` has it where no line
+is at fault.
 
 Faults of a line, of which the first that holds is told, the last three part by part, from left to
 right:

@@ -50,9 +50,9 @@ use rh_dump::laws::what_is_spelled_is_read;
 use rh_dump::limits::MAX_DUMP_BYTES;
 use std::alloc::Global;
 
-/// 0 says that all was done: a run answered its whole trace, a paced run its whole trace of commands
-/// at its pace, the history of one in threads is written, a history is legal and its report is
-/// written, or the counts of a dump's graph are.
+/// 0 says that all was done: a run answered its whole trace, a paced run its whole trace of
+/// commands at its pace, the history of one in threads is written, a history is legal and its
+/// report is written, or the counts of a dump's graph are.
 pub fn status_0_says_done()
     ensures run { (input : List ℕ) (old new : Option (List ℕ))
         → Concludes SubcommandOf.Run input 0 old new
