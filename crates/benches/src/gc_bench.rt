@@ -1,7 +1,7 @@
 //! GCBench (Ellis, Kovac and Boehm): trees of several depths, made from the root down and from the
 //! leaves up, beside a tree and an array that live long: what `bench/trees` times.
 //!
-//! An object has at most 253 fields, so the array of 500,000 numbers is a tree of leaves of 128.
+//! An object has at most 4,095 fields, so the array of 500,000 numbers is a tree, of leaves of 128.
 
 use crate::tree::{count, grow_down, grow_up, heap_of, link, make, root};
 use rh_layout::Operand;
@@ -92,8 +92,8 @@ fn array_of(heap: &mut PacedHeap, slot: u32, depth: u32) -> Option<()> {
     link(heap, slot, 1, half).ok()
 }
 
-/// Makes trees of a depth from the root down and from the leaves up, as many as have twice the nodes
-/// of the greatest tree; nothing where a call was refused.
+/// Makes trees of a depth from the root down and from the leaves up, as many as have twice the
+/// nodes of the greatest tree; nothing where a call was refused.
 fn construct(heap: &mut PacedHeap, depth: u32, stretch: u32) -> Option<u32> {
     let nodes = 2 * u64::from(nodes_of(stretch));
     let trees = u32::try_from(nodes / u64::from(nodes_of(depth)).max(1)).ok()?;
