@@ -12,7 +12,8 @@ const LONG: u32 = 0;
 
 const FIRST: u32 = 1;
 
-/// Makes and counts so many trees of a depth. Answers their nodes; nothing where a call was refused.
+/// Makes and counts so many trees of a depth. Answers their nodes; nothing where a call was
+/// refused.
 fn counted(heap: &mut PacedHeap, trees: u32, depth: u32) -> Option<u32> {
     let mut nodes = 0u32;
     for _ in 0..trees {

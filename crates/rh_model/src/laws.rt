@@ -76,8 +76,8 @@ pub fn same_graph_is_reflexive()
 {}
 
 /// Two graphs are the same where each root holds one value in both, and the objects of a set of
-/// names have the same fields and kinds in both, if the set has each name that a root refers to, and
-/// each that a field of its objects refers to. So how many owners and slots there are, and what
+/// names have the same fields and kinds in both, if the set has each name that a root refers to,
+/// and each that a field of its objects refers to. So how many owners and slots there are, and what
 /// isn't reached, play no part.
 pub fn same_graph_speaks_of_what_is_reached()
     ensures { (g h : Graph) (set : ℕ → Bool)

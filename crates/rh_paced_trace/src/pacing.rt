@@ -7,8 +7,8 @@ use crate::lines::biggest_of;
 use rh_pace::{Pace, PaceError};
 use rh_syntax::{Header, Request};
 
-/// The pace of a run: by the mark, where one is asked for, and else the filling pace for the biggest
-/// object that the requests ask for.
+/// The pace of a run: by the mark, where one is asked for, and else the filling pace for the
+/// biggest object that the requests ask for.
 pub fn pace_of(header: Header, requests: &[Request], mark: Option<u32>) -> Result<Pace, PaceError>
     ensures { IsPaceOf mark (record { header = header; requests = requests.now }) result }
 {

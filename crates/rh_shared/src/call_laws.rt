@@ -1,4 +1,5 @@
-//! Laws of calls, of new mutators and of closing. Each function does nothing: its contract is the law.
+//! Laws of calls, of new mutators and of closing. Each function does nothing: its contract is the
+//! law.
 
 ghost use Rattle.std.specs.Prelude.{◌≡◌, ℕ, ◌<◌, ◌++◌, true, false, List, length, Ok, Err};
 ghost use Rattle.rh_layout.specs.Refusal.{is_limit};
@@ -85,8 +86,8 @@ pub fn new_mutators_are_one_each()
         → IsOneEach owners (first_mutators owners slots limit owners) }
 {}
 
-/// A shared heap has one reason at most why it isn't closed, and none where its mutators are one for
-/// each owner and each share is its owner's calls.
+/// A shared heap has one reason at most why it isn't closed, and none where its mutators are one
+/// for each owner and each share is its owner's calls.
 pub fn one_reason_at_most_keeps_a_heap_open()
     ensures one { (owners : ℕ) (mutators : List MutatorState) (calls : List Call)
         (why other : CloseErrorOf) → WhyNotClosed owners mutators calls why
@@ -96,9 +97,10 @@ pub fn one_reason_at_most_keeps_a_heap_open()
         → ¬ WhyNotClosed owners mutators calls why }
 {}
 
-/// The place that `HistoryDiffers` tells is counted from 1: as many calls as it tells, less one, are
-/// the same in the owner's share and among its calls in the history, and at the place itself the two
-/// have different calls, or one of them has ended. So it is 1 where the first calls differ already.
+/// The place that `HistoryDiffers` tells is counted from 1: as many calls as it tells, less one,
+/// are the same in the owner's share and among its calls in the history, and at the place itself
+/// the two have different calls, or one of them has ended. So it is 1 where the first calls differ
+/// already.
 pub fn a_difference_is_told_by_its_place_from_1()
     ensures { (owners owner at : ℕ) (mutators : List MutatorState) (calls : List Call)
         → WhyNotClosed owners mutators calls (close_errors.HistoryDiffers owner at)

@@ -22,9 +22,9 @@ use std::alloc::Global;
 /// Runs a trace of commands alone on a new heap that collects by itself, as `run_paced` does, and
 /// puts the text that it writes, a line for each answer and the total line, at the front of
 /// `answers`; `length` is how many bytes the text has. The status is 0 then. Otherwise `answers` is
-/// as before: with 5 it is too small, and `length` says how many bytes are due; with 1 the trace has
-/// a fault, or no pace keeps up with it, and with 3 memory was refused, and `length` is 0. A cycle
-/// begins where fewer words are free than `mark`; where that is 0, as `Pace::filling` says.
+/// as before: with 5 it is too small, and `length` says how many bytes are due; with 1 the trace
+/// has a fault, or no pace keeps up with it, and with 3 memory was refused, and `length` is 0. A
+/// cycle begins where fewer words are free than `mark`; where that is 0, as `Pace::filling` says.
 #[unsafe(no_mangle)]
 pub extern "C" fn rheap_run_paced(
     alloc: Global,
