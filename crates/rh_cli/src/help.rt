@@ -43,12 +43,15 @@ ROOT, DST, SRC, OBJ, A and B are roots, OWNER.SLOT, as 1.0; owner 0's slots are 
 from 0. VAL is nil, a root or a whole number. N is 0 to 4294967295. TRAY is a letter a to z and at
 most 15 of a to z, 0 to 9 and _. What can't be done is answered `refused NAME`, changes nothing, and
 the run goes on. Two heaps are the same graph exactly where their dumps are the same text: cut them
-out and use cmp.
+out, from `rheap 2` to `end`, and use cmp.
 
-With --paced the heap collects by itself, a part of a cycle with each command, and the trace has
-commands alone: a line of a cycle or a listing is the fault Word. A cycle begins where fewer than N
-words are free, as --mark N says; without it at a mark that keeps up with the biggest object that
-the trace allocates, where that can be.
+With --paced the heap collects by itself, an increment of a cycle after each accepted allocation,
+and in a cycle after each accepted store. The trace has commands alone: once it has been read a line
+of a cycle or a listing is the fault Word. A cycle begins where fewer than N words are free, as
+--mark N says; 0 begins none. Without it the program takes the lowest mark that keeps up with the
+biggest object that the trace asks for, refused ones too. It keeps up while no more is reached, as a
+cycle begins, than about 45, 68, 83 or 91 % of WORDS at RATIO 8, 16, 32 or 64, where objects are
+small; above that SpaceFull can come, and with a LOG below half of WORDS LogFull.
 
 Statuses:
   0  done; a refused line is an answer, and no failure
@@ -75,8 +78,9 @@ The tables of lines, answers, refusals and faults are in docs/formats.md.";
 pub const THREADS: &str = "\
 A trace of commands alone, as `rheap run --help` has it. Each owner's lines are played in their
 order, in a thread of its own, on one heap that the threads share and that collects by itself: a
-cycle begins where fewer than half of the words are free. With each accepted command goes a part of
-a cycle; replicators, in threads of their own, fold what is to be copied beside the heap's lock.
+cycle begins where fewer than half of the words are free. After each accepted command comes an
+increment of a cycle; replicators, in threads of their own, fold what is to be copied beside the
+heap's lock.
 
 The history of the calls is printed, in the order in which they were made; `rheap replay` reads it:
 
@@ -91,8 +95,8 @@ in another order and, as replicators fold sooner or later, leave out other lines
 owner prints the same lines each time with --replicators 0.
 
   --replicators N  0 to 8, 2 where it isn't said. With 0 pieces are folded under the lock
-  --idle N         0 to 65535, 0 where it isn't said: units of collector work that each part of a
-                   cycle has beside those of allocation, so that a cycle ends with fewer allocations
+  --idle N         0 to 65535, 0 where it isn't said: units of collector work that each increment in
+                   a cycle has beside those of allocation, so that a cycle ends with fewer of these
 
 Statuses:
   0  done; a refused line is an answer, and no failure
@@ -110,6 +114,15 @@ Traces and histories are described in docs/formats.md.";
 
 /// What the help of `replay` ends with.
 pub const REPLAY: &str = "\
+A history is the calls of a heap with their answers, in the order in which they were made:
+
+  history OWNERS SLOTS
+  COMMAND LINE = ANSWER     for each call; a command line is one of a trace
+  end N                     N is the number of calls
+
+ANSWER is that of a trace, or `refused` and a name; calls that a limit refused (SpaceFull, LogFull,
+NumbersSpent) are left out, so these names are the fault Answer.
+
 The report has a line `owner O calls N` for each owner that has calls, and then `legal N`, or `wrong
 AT expected ANSWER` for the first call, counted from 1, whose answer isn't that of a heap that never
 moves its objects.
@@ -143,8 +156,20 @@ Histories, reports and faults are described in docs/formats.md.";
 
 /// What the help of `dump` ends with.
 pub const DUMP: &str = "\
-On failure standard error has one line, as `rheap: line 3: Order`, or as `run` has it where no line
-is at fault.
+A dump is what the roots of a heap reach, as `dump` in a trace prints it:
+
+  rheap 2
+  roots R
+  OWNER.SLOT VALUE          for each of R roots that aren't nil, in order
+  objects N
+  @K FIELDS VALUE ..        for each of N objects, K from 0 on; `@K raw FIELDS VALUE ..` where it is
+                            raw
+  end
+
+VALUE is nil (in objects alone), a whole number, or @K.
+
+On failure standard error has one line, as `rheap: line 3: Order`, or `rheap: ` and open failed, read
+failed, write failed or out of memory, as `rheap run --help` tells them.
 
 Faults of a line, of which the first that holds is told, the last three part by part, from left to
 right:
