@@ -22,7 +22,8 @@ pub enum RunFault {
     /// The numbers of the first line make no heap.
     #[error("heap: {0}")]
     New(ConfigFault),
-    /// A write failed or took no byte, or 33,554,432 writes of one line didn't come to its end.
+    /// A write failed or took no byte, or 33,554,432 writes of one line, or of a part of a dump's,
+    /// didn't come to its end.
     #[error("write failed")]
     Write,
     /// The allocator refused memory.
