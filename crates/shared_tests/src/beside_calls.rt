@@ -124,5 +124,6 @@ fn meet<R: Threads + Wait + Sync + AllocGlobal + Abort>(rt: &R) -> Result<(), &'
 
 #[test]
 fn replicators_fold_beside_calls(rt: HostRuntime) {
-    play_again(&rt, || expect_equal(&rt, meet(&rt), Ok(())));
+    let played = play_again(|| expect_equal(&rt, meet(&rt), Ok(())));
+    expect_equal(&rt, played, 200);
 }

@@ -8,8 +8,8 @@ pub fn expect_equal<T: PartialEq + Debug + Drop>(rt: &impl Abort, left: T, right
     assert_eq!(rt; left, right);
 }
 
-/// Plays what threads do two hundred times.
-pub fn play_again<F>(rt: &impl Abort, once: F)
+/// Plays what threads do two hundred times. Answers how often it was played.
+pub fn play_again<F>(once: F) -> u32
 where
     F: Fn(),
     requires { F.IsAlwaysCallable once }
@@ -19,7 +19,7 @@ where
         once();
         played = played.saturating_add(1);
     }
-    expect_equal(rt, played, 200);
+    played
 }
 
 /// Ends the test unless each value is shown as the text beside it.

@@ -263,5 +263,5 @@ fn play_new<R: Threads + Wait + Sync + AllocGlobal + Abort>(rt: &R) {
 
 #[test]
 fn what_went_through_four_rings_is_settled(rt: HostRuntime) {
-    play_again(&rt, || play_new(&rt));
+    expect_equal(&rt, play_again(|| play_new(&rt)), 200);
 }

@@ -140,10 +140,12 @@ const PLAYED: &[(bool, bool, (bool, bool, Told))] = &[
 
 #[test]
 fn two_threads_call_one_heap(rt: HostRuntime) {
+    let mut played: u32 = 0;
     for &(elsewhere, leaves, told) in PLAYED {
-        play_again(&rt, || {
+        let again = play_again(|| {
             expect_equal(&rt, play_two(&rt, elsewhere, leaves), told);
         });
+        played = played.saturating_add(again);
     }
-    expect_equal(&rt, PLAYED.len(), 3);
+    expect_equal(&rt, played, 600);
 }

@@ -130,10 +130,12 @@ const ONE_OWNER: &[(RunOptions, &[u8], &[u8])] = &[
 
 #[test]
 fn histories_of_one_owner(rt: HostRuntime) {
+    let mut played: u32 = 0;
     for &(options, text, history) in ONE_OWNER {
-        play_again(&rt, || runs_to(&rt, options, text, Ok(()), history));
+        let again = play_again(|| runs_to(&rt, options, text, Ok(()), history));
+        played = played.saturating_add(again);
     }
-    expect_equal(&rt, ONE_OWNER.len(), 5);
+    expect_equal(&rt, played, 1000);
 }
 
 #[test]
@@ -169,10 +171,12 @@ fn plays_legally<R: AllocGlobal + Abort + Threads + Wait + Sync>(rt: &R, options
 
 #[test]
 fn histories_of_two_owners(rt: HostRuntime) {
+    let mut played: u32 = 0;
     for &options in CROWDS {
-        play_again(&rt, || plays_legally(&rt, options));
+        let again = play_again(|| plays_legally(&rt, options));
+        played = played.saturating_add(again);
     }
-    expect_equal(&rt, CROWDS.len(), 3);
+    expect_equal(&rt, played, 600);
 }
 
 /// Refuses the nth allocation of a run of two owners, whose cycle begins where the fifth of their
