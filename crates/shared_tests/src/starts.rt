@@ -1,5 +1,6 @@
 //! What a shared heap starts with.
 
+use crate::closing::shared_of;
 use crate::expectations::{expect_equal, expect_texts};
 use rh_core::{Config, ConfigFault};
 use rh_layout::Refusal;
@@ -35,7 +36,8 @@ pub const GATE: SharedConfig = SharedConfig {
     ..EAGER
 };
 
-/// Each configuration with one fault more than the one after it, and the fault that is told.
+/// Configurations with the fault that is told. The first four each have one fault more than the one
+/// after it; the fifth and the others have one.
 const FAULTY: &[(Config, SharedConfig, StartError)] = &[
     (
         Config { words: 7, ..SMALL },
@@ -124,6 +126,15 @@ fn the_first_fault_is_told(rt: HostRuntime) {
 }
 
 /// The greatest sizes.
+const WIDEST: Config = Config {
+    words: 16_777_216,
+    ratio: 64,
+    owners: 16,
+    slots: 256,
+    log_limit: 1_048_576,
+    ..SMALL
+};
+
 const GREATEST: SharedConfig = SharedConfig {
     replicators: 8,
     copies: 8,
@@ -136,7 +147,8 @@ const GREATEST: SharedConfig = SharedConfig {
 
 #[test]
 fn the_greatest_sizes_start(rt: HostRuntime) {
-    assert!(rt; Start::new(rt.alloc(), SMALL, GREATEST).is_ok());
+    let (_shared, mutators) = shared_of(&rt, WIDEST, GREATEST);
+    expect_equal(&rt, mutators.len(), 16);
 }
 
 /// The texts of the errors.
