@@ -8,6 +8,16 @@ pub fn expect_equal<T: PartialEq + Debug + Drop>(rt: &impl Abort, left: T, right
     assert_eq!(rt; left, right);
 }
 
+/// Ends the test unless the two are equal, and shows both as texts then.
+pub fn expect_bytes(rt: &impl Abort, got: &[u8], wanted: &[u8]) {
+    assert!(rt;
+        got == wanted,
+        "got {} wanted {}",
+        got.escape_ascii(),
+        wanted.escape_ascii()
+    );
+}
+
 /// Plays what threads do two hundred times. Answers how often it was played.
 pub fn play_again<F>(once: F) -> u32
 where

@@ -1,6 +1,6 @@
 //! Traces that are played on a shared heap, with mutators and replicators in threads.
 
-use crate::expectations::{expect_equal, expect_texts, play_again};
+use crate::expectations::{expect_bytes, expect_equal, expect_texts, play_again};
 use refusing::RefusingAllocator;
 use rh_core::ConfigFault;
 use rh_replay::{Verdict, check, read_history};
@@ -116,7 +116,7 @@ fn runs_to<R: AllocGlobal + Abort + Threads + Wait + Sync>(
     let mut written = Vec::new(rt.alloc());
     let outcome = run_shared(rt, rt.alloc(), &mut reader, &mut written, options);
     expect_equal(rt, outcome, end);
-    expect_equal(rt, written.as_slice(), history);
+    expect_bytes(rt, &written, history);
 }
 
 /// Traces of one owner, with their histories, and what they are played with.
