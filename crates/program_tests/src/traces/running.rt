@@ -6,7 +6,7 @@ use crate::texts::{
     DUMPS, DUMPS_ANSWERS, FOUR_CYCLES, FOUR_CYCLES_ANSWERS, JOINED, JOINED_ANSWERS, LARGE_TRAYS,
     LARGE_TRAYS_ANSWERS, LONG_ANSWER, LONG_HEADER, LONG_LINE, RAW_OBJECT, RAW_OBJECT_ANSWERS,
     TOO_MANY, TOO_MANY_ANSWERS, TWO_EPOCHS, TWO_EPOCHS_ANSWERS, WHOLE_CYCLE, WHOLE_CYCLE_ANSWERS,
-    WITHOUT_FIELDS, WITHOUT_FIELDS_ANSWERS, add_numbered, repeated,
+    WITHOUT_FIELDS, WITHOUT_FIELDS_ANSWERS, add_numbered, repeated, without_last_line,
 };
 use refusing::refused_in_turn;
 use rh_core::ConfigFault;
@@ -223,7 +223,8 @@ fn failing_writer(rt: HostRuntime) {
     }
 }
 
-/// Runs a trace. Answers how many writes were made before memory was refused, if it was.
+/// Runs a trace. Answers how many writes were made before memory was refused, if it was: then what
+/// is written is a prefix of the answers before their total line.
 fn writes_before_refusal<A: Allocator + Copy>(
     rt: &(impl AllocGlobal + Abort),
     memory: A,
@@ -233,12 +234,12 @@ fn writes_before_refusal<A: Allocator + Copy>(
     let mut reader = SlowReader::new(input, 0);
     let mut writer = SlowWriter::new(rt, 1000, 0);
     let outcome = run_trace(memory, &mut reader, &mut writer);
-    expect_prefix(rt, answers, &writer.text);
     if outcome.is_ok() {
-        expect_equal(rt, writer.text.len(), answers.len());
+        expect_equal(rt, writer.text.as_slice(), answers);
         return None;
     }
     expect_equal(rt, outcome, Err(RunFault::OutOfMemory));
+    expect_prefix(rt, without_last_line(answers), &writer.text);
     Some(writer.writes)
 }
 
@@ -272,8 +273,11 @@ fn refused_memory(rt: HostRuntime) -> Result<(), Fail> {
     // Commands want no memory.
     let seen = writes_before_refusals(&rt, (&text, &answers), 12);
     expect_equal(&rt, seen, 0b1);
-    writes_before_refusals(&rt, (DUMPS, DUMPS_ANSWERS), 8);
-    writes_before_refusals(&rt, (RAW_OBJECT, RAW_OBJECT_ANSWERS), 8);
+    // A dump wants some: one comes after the first answer, and one after sixteen.
+    let seen = writes_before_refusals(&rt, (DUMPS, DUMPS_ANSWERS), 8);
+    expect_equal(&rt, seen & 0b11, 0b11);
+    let seen = writes_before_refusals(&rt, (RAW_OBJECT, RAW_OBJECT_ANSWERS), 8);
+    expect_equal(&rt, (seen >> 16) & 1, 1);
     Ok(())
 }
 
