@@ -131,12 +131,11 @@ fn expect_dump<A: Allocator>(rt: &(impl AllocGlobal + Abort), graph: &Graph<A>, 
 fn expect_dumps(rt: &(impl AllocGlobal + Abort), heap: &Heap, plain: &Plain, text: &[u8]) {
     let moving = graph(rt.alloc(), heap).ok().expect(rt, "memory is ample");
     expect_dump(rt, &moving, text);
-    if plain.objects() <= MAX_OBJECTS as usize {
-        let still = plain_graph(rt.alloc(), plain);
-        let still = still.ok().expect(rt, "memory is ample");
-        expect_dump(rt, &still, text);
-        assert!(rt; same_text(&moving, &still));
-    }
+    assert!(rt; plain.objects() <= MAX_OBJECTS as usize);
+    let still = plain_graph(rt.alloc(), plain);
+    let still = still.ok().expect(rt, "memory is ample");
+    expect_dump(rt, &still, text);
+    assert!(rt; same_text(&moving, &still));
 }
 
 #[test]
