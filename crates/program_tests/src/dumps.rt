@@ -140,12 +140,14 @@ fn expect_dumps(rt: &(impl AllocGlobal + Abort), heap: &Heap, plain: &Plain, tex
 
 #[test]
 fn heaps_answer_as_plain_heaps_and_have_their_dumps(rt: HostRuntime) {
+    let mut played: u32 = 0;
     for &(text, answers, dump) in PLAYED {
         let (heap, plain, answered) = play(&rt, text);
         expect_equal(&rt, answered.as_slice(), answers);
         expect_dumps(&rt, &heap, &plain, dump);
+        played = played.saturating_add(1);
     }
-    expect_equal(&rt, PLAYED.len(), 8);
+    expect_equal(&rt, played, 8);
 }
 
 /// A trace that places an object at word 0, and the dump after it.

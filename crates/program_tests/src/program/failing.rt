@@ -134,6 +134,7 @@ fn each_write_fails_in_turn(rt: HostRuntime) {
 
 #[test]
 fn devices_that_fail(rt: HostRuntime) {
+    let mut failed: u32 = 0;
     for &(ask, text, ..) in PLAYED {
         let mut out = Vec::new(rt.alloc());
         let mut err = Vec::new(rt.alloc());
@@ -143,8 +144,9 @@ fn devices_that_fail(rt: HostRuntime) {
         let untold = drive(&rt, rt.alloc(), &ask, &mut Broken, &mut out, &mut Broken);
         expect_equal(&rt, (unflushed, untold, out.len()), (1, 1, 0));
         expect_equal(&rt, err.as_slice(), b"rheap: write failed\n".as_slice());
+        failed = failed.saturating_add(1);
     }
-    expect_equal(&rt, PLAYED.len(), 11);
+    expect_equal(&rt, failed, 11);
 }
 
 /// The first eight reads of a text that comes a byte a time, and the two after its last byte.
@@ -156,7 +158,7 @@ fn some_reads(text: &[u8]) -> [u32; 10] {
 
 #[test]
 fn first_and_last_reads_fail(rt: HostRuntime) {
-    let mut failed: usize = 0;
+    let mut failed: u32 = 0;
     for played in PLAYED {
         for nth in some_reads(played.1) {
             let (status, out, err) = play(&rt, &played.0, played.1, (nth, 0, 1000));
@@ -165,7 +167,7 @@ fn first_and_last_reads_fail(rt: HostRuntime) {
             failed = failed.saturating_add(1);
         }
     }
-    expect_equal(&rt, failed, PLAYED.len().saturating_mul(10));
+    expect_equal(&rt, failed, 110);
 }
 
 /// What is asked, of which text, what is wrong with it where it is cut: before its first byte, within

@@ -331,10 +331,12 @@ const NOT_RUN: &[(Ask<'static>, &[u8], &[u8])] = &[
 
 #[test]
 fn runs_that_cannot_be_made(rt: HostRuntime) {
+    let mut tried: u32 = 0;
     for &(ask, text, told) in NOT_RUN {
         drives_to(&rt, &ask, text, 1, b"", told);
+        tried = tried.saturating_add(1);
     }
-    expect_equal(&rt, NOT_RUN.len(), 11);
+    expect_equal(&rt, tried, 11);
 }
 
 /// What a text begins with, the byte that follows, how often it does, the end, and what is told.
