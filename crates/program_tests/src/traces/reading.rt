@@ -31,8 +31,8 @@ const BOUNDARY: &[u8] =
     b"heap 16 8 4 2 2\n1 alloc 1.0 2\n1 alloc 1.1 1\n1 alloc 0.0 4096\n1 alloc 0.0 8\n\
         1 alloc 0.0 7\n1 alloc 0.1 0\n";
 
-/// What shows the first line of a text, and its other lines, a variant for each keyword: how each
-/// begins.
+/// What shows the first line of a text, and so many lines after it, a variant for each keyword and
+/// each kind of operand: how each begins. The second text's last lines are only printed.
 const SHOWN: &[(&[u8], &str, &[&str])] = &[
     (
         KEYWORDS,
