@@ -1,6 +1,6 @@
 //! Dumps of heaps and of plain heaps, which answer the same.
 
-use crate::expectations::expect_equal;
+use crate::expectations::{expect_bytes, expect_equal};
 use crate::texts::WITHOUT_FIELDS;
 use rh_core::{GiveError, Heap};
 use rh_dump::limits::MAX_OBJECTS;
@@ -124,7 +124,7 @@ fn play(rt: &(impl AllocGlobal + Abort), text: &[u8]) -> (Heap, Plain, Vec<u8>) 
 fn expect_dump<A: Allocator>(rt: &(impl AllocGlobal + Abort), graph: &Graph<A>, text: &[u8]) {
     let mut written = Vec::new(rt.alloc());
     expect_equal(rt, write_dump(graph, &mut written), Ok(()));
-    expect_equal(rt, written.as_slice(), text);
+    expect_bytes(rt, &written, text);
 }
 
 /// Expects a heap and a plain heap to have the same dump.
@@ -143,7 +143,7 @@ fn heaps_answer_as_plain_heaps_and_have_their_dumps(rt: HostRuntime) {
     let mut played: u32 = 0;
     for &(text, answers, dump) in PLAYED {
         let (heap, plain, answered) = play(&rt, text);
-        expect_equal(&rt, answered.as_slice(), answers);
+        expect_bytes(&rt, &answered, answers);
         expect_dumps(&rt, &heap, &plain, dump);
         played = played.saturating_add(1);
     }

@@ -9,14 +9,32 @@ pub fn expect_equal<T: PartialEq + Debug + Drop>(rt: &impl Abort, left: T, right
     assert_eq!(rt; left, right);
 }
 
-/// Ends the test unless so many allocations or more were refused in turn.
-pub fn expect_refusals(rt: &impl Abort, refused: Result<u64, u64>, least: u64) {
-    assert!(rt; refused.is_ok_and(|n| n >= least), "{refused:?}");
+/// Ends the test unless the two are equal, and shows both as texts then.
+pub fn expect_bytes(rt: &impl Abort, got: &[u8], wanted: &[u8]) {
+    assert!(rt;
+        got == wanted,
+        "got {} wanted {}",
+        got.escape_ascii(),
+        wanted.escape_ascii()
+    );
 }
 
-/// Ends the test unless the text begins so.
+/// Ends the test unless so many allocations or more were refused in turn.
+pub fn expect_refusals(rt: &impl Abort, refused: Result<u64, u64>, least: u64) {
+    assert!(rt;
+        refused.is_ok_and(|n| n >= least),
+        "{refused:?}, wanted {least} or more"
+    );
+}
+
+/// Ends the test unless the text begins so, and shows both then.
 pub fn expect_prefix(rt: &impl Abort, text: &[u8], prefix: &[u8]) {
-    assert!(rt; text.starts_with(prefix), "{text:?}");
+    assert!(rt;
+        text.starts_with(prefix),
+        "{} doesn't begin with {}",
+        text.escape_ascii(),
+        prefix.escape_ascii()
+    );
 }
 
 /// Ends the test unless the value is shown as this text.

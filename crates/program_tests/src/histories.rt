@@ -1,7 +1,7 @@
 //! Histories: recorded, checked, reported, written and read.
 
 use crate::devices::SlowWriter;
-use crate::expectations::expect_equal;
+use crate::expectations::{expect_bytes, expect_equal};
 use crate::texts::{
     RAW_HISTORY, RAW_HISTORY_REPORT, RIGHT, RIGHT_REPORT, WRONG, WRONG_REPORT, repeated,
 };
@@ -84,10 +84,10 @@ fn replays_a_history(rt: HostRuntime) -> Result<(), Fail> {
         expect_equal(&rt, found, Some(verdict));
         let mut writer = SlowWriter::new(&rt, 1, 0);
         expect_equal(&rt, report(&history, &verdict, &mut writer), Ok(()));
-        expect_equal(&rt, writer.text.as_slice(), told);
+        expect_bytes(&rt, &writer.text, told);
         let mut writer = SlowWriter::new(&rt, 1000, 0);
         expect_equal(&rt, write_history(&history, &mut writer), Ok(()));
-        expect_equal(&rt, writer.text.as_slice(), text);
+        expect_bytes(&rt, &writer.text, text);
     }
     Ok(())
 }
@@ -166,7 +166,7 @@ fn single_lines_have_no_line_end(rt: HostRuntime) {
         write_answer(&Ok(Reply::Same(true)), &mut writer),
         Ok(()),
     );
-    expect_equal(&rt, writer.text.as_slice(), b"1 alloc 1.0 1same yes");
+    expect_bytes(&rt, &writer.text, b"1 alloc 1.0 1same yes");
     let mut writer = SlowWriter::new(&rt, 1000, 1);
     expect_equal(
         &rt,

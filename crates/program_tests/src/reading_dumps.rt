@@ -1,7 +1,7 @@
 //! Dumps read from their texts, and written.
 
 use crate::devices::{SlowReader, SlowWriter};
-use crate::expectations::expect_equal;
+use crate::expectations::{expect_bytes, expect_equal};
 use crate::texts::repeated;
 use rh_dump::{
     DumpFault, DumpKind, DumpReadError, read_dump, read_dump_logged, same_text, write_dump,
@@ -56,7 +56,7 @@ fn a_text_of_the_version_before_is_read(rt: HostRuntime) -> Result<(), Fail> {
         let graph = read_dump(rt.alloc(), &mut { text }).ok().ok_or("a dump")?;
         let mut written = Vec::new(rt.alloc());
         expect_equal(&rt, write_dump(&graph, &mut written), Ok(()));
-        expect_equal(&rt, written.as_slice(), dump);
+        expect_bytes(&rt, &written, dump);
         let other = read_dump(rt.alloc(), &mut { dump }).ok().ok_or("a dump")?;
         assert!(rt; same_text(&graph, &other));
     }

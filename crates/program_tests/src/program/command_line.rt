@@ -1,6 +1,6 @@
 //! The program, from its arguments to its status.
 
-use crate::expectations::{expect_equal, expect_prefix};
+use crate::expectations::{expect_bytes, expect_equal, expect_prefix};
 use crate::program::terminal::Terminal;
 use crate::texts::{WITHOUT_FIELDS, WITHOUT_FIELDS_ANSWERS};
 use rh_cli::{Ask, LineFault, Subcommand, play, read_words, tell};
@@ -36,7 +36,7 @@ fn arguments_that_ask_for_each_command(rt: HostRuntime) {
 /// Expects a text: whole, where what is due is empty or ends a line, and else as a beginning.
 fn expect_written(rt: &impl Abort, text: &[u8], due: &[u8]) {
     if due.is_empty() || due.ends_with(b"\n") {
-        expect_equal(rt, text, due);
+        expect_bytes(rt, text, due);
     } else {
         expect_prefix(rt, text, due);
     }
@@ -278,6 +278,6 @@ fn faults_before_a_run_are_told(rt: HostRuntime) {
     for (fault, status, text) in table {
         let mut err = Vec::new(rt.alloc());
         expect_equal(&rt, tell(&fault, &mut err), status);
-        expect_equal(&rt, err.as_slice(), text);
+        expect_bytes(&rt, &err, text);
     }
 }

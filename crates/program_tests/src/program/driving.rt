@@ -1,7 +1,7 @@
 //! The program's commands, over a text and two writers.
 
 use crate::devices::InterruptedReader;
-use crate::expectations::{expect_equal, expect_prefix};
+use crate::expectations::{expect_bytes, expect_equal, expect_prefix};
 use crate::texts::without_last_line;
 use rh_cli::{Ask, Subcommand, drive};
 use std::alloc::Allocator;
@@ -51,8 +51,8 @@ pub fn drives_to<R: AllocGlobal + Abort + Threads + Wait + Sync>(
     let mut err = Vec::new(rt.alloc());
     let answer = drive(rt, rt.alloc(), ask, &mut reader, &mut out, &mut err);
     expect_equal(rt, answer, status);
-    expect_equal(rt, out.as_slice(), answers);
-    expect_equal(rt, err.as_slice(), told);
+    expect_bytes(rt, &out, answers);
+    expect_bytes(rt, &err, told);
 }
 
 /// Does what is asked where the read of this number, counted from 1, comes to the end, and each other
@@ -69,7 +69,7 @@ fn expect_reads<R: AllocGlobal + Abort + Threads + Wait + Sync>(
     let mut err = Vec::new(rt.alloc());
     let status = drive(rt, rt.alloc(), ask, &mut reader, &mut out, &mut err);
     expect_equal(rt, (status, reader.reads, out.len()), (1, reads, 0));
-    expect_equal(rt, err.as_slice(), told);
+    expect_bytes(rt, &err, told);
 }
 
 #[test]
@@ -106,11 +106,11 @@ pub fn is_refused<R: AllocGlobal + Abort + Threads + Wait + Sync, A: Allocator +
     let ended = drive(rt, memory, &ask, &mut { text }, &mut out, &mut err);
     if ended != 3 {
         expect_equal(rt, ended, status);
-        expect_equal(rt, out.as_slice(), answers);
-        expect_equal(rt, err.as_slice(), told);
+        expect_bytes(rt, &out, answers);
+        expect_bytes(rt, &err, told);
         return false;
     }
-    expect_equal(rt, err.as_slice(), b"rheap: out of memory\n".as_slice());
+    expect_bytes(rt, &err, b"rheap: out of memory\n");
     let written: &[u8] = match ask.subcommand {
         Subcommand::Run => without_last_line(answers),
         _ => b"",

@@ -2,7 +2,7 @@
 //! refused, at each place in turn.
 
 use crate::devices::{Broken, SlowReader, SlowWriter, Unflushed};
-use crate::expectations::{expect_equal, expect_prefix, expect_refusals};
+use crate::expectations::{expect_bytes, expect_equal, expect_prefix, expect_refusals};
 use crate::program::driving::{DUMP, PACED, REPLAY, RUN, THREADS, drives_to, is_refused};
 use crate::texts::{
     JOINED, JOINED_ANSWERS, RIGHT, RIGHT_REPORT, STORED, STORED_HISTORY, TWO_FLIPS,
@@ -98,12 +98,12 @@ fn fail_writes<R: AllocGlobal + Abort + Threads + Wait + Sync>(
         let (ended, out, err) = play(rt, &ask, text, (0, nth, most));
         if out.writes < nth {
             expect_equal(rt, (ended, err.len()), (status, 0));
-            expect_equal(rt, out.text.as_slice(), answers);
+            expect_bytes(rt, &out.text, answers);
             return out.writes;
         }
         expect_equal(rt, (ended, out.writes), (1, nth));
         assert!(rt; answers.starts_with(&out.text) && out.text.len() < answers.len());
-        expect_equal(rt, err.as_slice(), b"rheap: write failed\n".as_slice());
+        expect_bytes(rt, &err, b"rheap: write failed\n");
         if ask.subcommand == Subcommand::Run && most > 1 {
             expect_lines_before(rt, &out.text, nth);
         }
@@ -125,7 +125,7 @@ fn each_write_fails_in_turn(rt: HostRuntime) {
         expect_equal(&rt, fail_writes(&rt, played, 1) as usize, played.3.len());
         let (status, out, err) = play(&rt, &played.0, played.1, (0, 0, 0));
         expect_equal(&rt, (status, out.writes, out.text.len()), (1, 1, 0));
-        expect_equal(&rt, err.as_slice(), b"rheap: write failed\n".as_slice());
+        expect_bytes(&rt, &err, b"rheap: write failed\n");
     }
     // The lines of a run each come in one write.
     let [run, ..] = PLAYED else { return };
@@ -143,7 +143,7 @@ fn devices_that_fail(rt: HostRuntime) {
         // What can't be told still has its status.
         let untold = drive(&rt, rt.alloc(), &ask, &mut Broken, &mut out, &mut Broken);
         expect_equal(&rt, (unflushed, untold, out.len()), (1, 1, 0));
-        expect_equal(&rt, err.as_slice(), b"rheap: write failed\n".as_slice());
+        expect_bytes(&rt, &err, b"rheap: write failed\n");
         failed = failed.saturating_add(1);
     }
     expect_equal(&rt, failed, 11);
@@ -163,7 +163,7 @@ fn first_and_last_reads_fail(rt: HostRuntime) {
         for nth in some_reads(played.1) {
             let (status, out, err) = play(&rt, &played.0, played.1, (nth, 0, 1000));
             expect_equal(&rt, (status, out.writes), (1, 0));
-            expect_equal(&rt, err.as_slice(), b"rheap: read failed\n".as_slice());
+            expect_bytes(&rt, &err, b"rheap: read failed\n");
             failed = failed.saturating_add(1);
         }
     }

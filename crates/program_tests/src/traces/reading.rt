@@ -1,7 +1,7 @@
 //! Reading and printing traces.
 
 use crate::devices::SlowWriter;
-use crate::expectations::{expect_equal, expect_prefix};
+use crate::expectations::{expect_bytes, expect_equal, expect_prefix};
 use crate::texts::{
     DUMPS, FOUR_CYCLES, JOINED, LARGE_TRAYS, LONG_HEADER, LONG_LINE, RAW_OBJECT, TOO_MANY,
     TWO_EPOCHS, WHOLE_CYCLE, WITHOUT_FIELDS, repeated,
@@ -130,14 +130,10 @@ fn prints_what_was_parsed(rt: HostRuntime) -> Result<(), Fail> {
         let trace = parse(rt.alloc(), text).ok().ok_or("a trace")?;
         let mut printed = Vec::new(rt.alloc());
         expect_equal(&rt, print(&trace, &mut printed), Ok(()));
-        expect_equal(&rt, printed.as_slice(), text);
+        expect_bytes(&rt, &printed, text);
         let mut writer = SlowWriter::new(&rt, 3, 4);
         expect_equal(&rt, print(&trace, &mut writer), Err(Write));
-        expect_equal(
-            &rt,
-            writer.text.as_slice(),
-            text.split_at(9.min(text.len())).0,
-        );
+        expect_bytes(&rt, &writer.text, text.split_at(9.min(text.len())).0);
     }
     Ok(())
 }

@@ -61,8 +61,14 @@ fn interrupted(
 fn expect_last(rt: &(impl AllocGlobal + Abort), text: &[u8]) {
     let mut written = Vec::new(rt.alloc());
     let outcome = run_trace(rt.alloc(), &mut { text }, &mut written);
-    assert!(rt; outcome.is_ok());
-    assert!(rt; written.as_slice().ends_with(LAST), "{written:?}");
+    assert!(rt; outcome.is_ok(), "{outcome:?}");
+    let written = written.as_slice();
+    assert!(rt;
+        written.ends_with(LAST),
+        "{} doesn't end with {}",
+        written.escape_ascii(),
+        LAST.escape_ascii()
+    );
 }
 
 #[test]

@@ -1,7 +1,7 @@
 //! Runs of traces.
 
 use crate::devices::{SlowReader, SlowWriter};
-use crate::expectations::{expect_equal, expect_prefix, expect_refusals};
+use crate::expectations::{expect_bytes, expect_equal, expect_prefix, expect_refusals};
 use crate::texts::{
     DUMPS, DUMPS_ANSWERS, FOUR_CYCLES, FOUR_CYCLES_ANSWERS, JOINED, JOINED_ANSWERS, LARGE_TRAYS,
     LARGE_TRAYS_ANSWERS, LONG_ANSWER, LONG_HEADER, LONG_LINE, RAW_OBJECT, RAW_OBJECT_ANSWERS,
@@ -27,7 +27,7 @@ fn expect_run(
     let mut reader = SlowReader::new(input, 0);
     let mut writer = SlowWriter::new(rt, most, 0);
     let outcome = run_trace(rt.alloc(), &mut reader, &mut writer);
-    expect_equal(rt, writer.text.as_slice(), answers);
+    expect_bytes(rt, &writer.text, answers);
     let Summary {
         commands,
         refused,
@@ -174,7 +174,7 @@ fn interrupted_writes_are_made_again(rt: HostRuntime) {
         writer.interrupted = interrupted;
         let outcome = run_trace(rt.alloc(), &mut reader, &mut writer);
         expect_equal(&rt, outcome.err(), fault);
-        expect_equal(&rt, writer.text.as_slice(), answers);
+        expect_bytes(&rt, &writer.text, answers);
         expect_equal(&rt, writer.writes, writes);
     }
 }
@@ -204,7 +204,7 @@ fn expect_failed(
     let mut writer = SlowWriter::new(rt, most, nth);
     let outcome = run_trace(rt.alloc(), &mut reader, &mut writer);
     expect_equal(rt, outcome, Err(RunFault::Write));
-    expect_equal(rt, writer.text.as_slice(), written);
+    expect_bytes(rt, &writer.text, written);
     expect_equal(rt, writer.writes, writes);
 }
 
@@ -235,7 +235,7 @@ fn writes_before_refusal<A: Allocator + Copy>(
     let mut writer = SlowWriter::new(rt, 1000, 0);
     let outcome = run_trace(memory, &mut reader, &mut writer);
     if outcome.is_ok() {
-        expect_equal(rt, writer.text.as_slice(), answers);
+        expect_bytes(rt, &writer.text, answers);
         return None;
     }
     expect_equal(rt, outcome, Err(RunFault::OutOfMemory));
