@@ -109,8 +109,8 @@ fn play(rt: &(impl AllocGlobal + Abort), text: &[u8]) -> (Heap, Plain, Vec<u8>) 
     for request in trace.requests() {
         if let Request::Command { owner, command } = *request {
             let answer = heap.command(owner, &command);
-            let due = answer.map_err(CommandError::Refused);
-            expect_equal(rt, plain.command(owner, &command), due);
+            let got = answer.map_err(CommandError::Refused);
+            expect_equal(rt, got, plain.command(owner, &command));
             expect_equal(rt, write_answer(&answer, &mut answers), Ok(()));
             answers.push(b'\n').ok().expect(rt, "memory is ample");
         } else {

@@ -4,9 +4,10 @@
 use std::fmt::{Debug, Display};
 use std::process::Abort;
 
-/// Ends the test unless the two are equal, and shows both then.
-pub fn expect_equal<T: PartialEq + Debug + Drop>(rt: &impl Abort, left: T, right: T) {
-    assert_eq!(rt; left, right);
+/// Ends the test unless the two are equal, and shows both then: left what was got, right what was
+/// wanted.
+pub fn expect_equal<T: PartialEq + Debug + Drop>(rt: &impl Abort, got: T, wanted: T) {
+    assert_eq!(rt; got, wanted);
 }
 
 /// Ends the test unless the two are equal, and shows both as texts then.

@@ -86,7 +86,7 @@ fn a_chain_of_a_million_objects(rt: HostRuntime) -> Result<(), Fail> {
     for _ in 0..1_100_000u32 {
         for command in LINK {
             let answer = heap.command(1, command).ok();
-            expect_equal(&rt, plain.command(1, command).ok(), answer);
+            expect_equal(&rt, answer, plain.command(1, command).ok());
         }
     }
     let moving = graph(rt.alloc(), &heap).ok().ok_or("a graph")?;
