@@ -1,6 +1,6 @@
 //! Dumps of heaps and of plain heaps, which answer the same.
 
-use crate::expectations::{expect_bytes, expect_equal};
+use crate::expectations::{Row, expect_bytes, expect_equal};
 use crate::texts::WITHOUT_FIELDS;
 use rh_core::{GiveError, Heap};
 use rh_dump::limits::MAX_OBJECTS;
@@ -106,7 +106,8 @@ fn play(rt: &(impl AllocGlobal + Abort), text: &[u8]) -> (Heap, Plain, Vec<u8>) 
     let plain = Plain::new(rt.alloc(), config.owners, config.slots);
     let mut plain = plain.ok().expect(rt, "a plain heap");
     let mut answers = Vec::new(rt.alloc());
-    for request in trace.requests() {
+    for (row, request) in trace.requests().iter().enumerate() {
+        let rt = &Row { rt, row };
         if let Request::Command { owner, command } = *request {
             let answer = heap.command(owner, &command);
             let got = answer.map_err(CommandError::Refused);
@@ -141,7 +142,8 @@ fn expect_dumps(rt: &(impl AllocGlobal + Abort), heap: &Heap, plain: &Plain, tex
 #[test]
 fn heaps_answer_as_plain_heaps_and_have_their_dumps(rt: HostRuntime) {
     let mut played: u32 = 0;
-    for &(text, answers, dump) in PLAYED {
+    for (row, &(text, answers, dump)) in PLAYED.iter().enumerate() {
+        let rt = Row { rt: &rt, row };
         let (heap, plain, answered) = play(&rt, text);
         expect_bytes(&rt, &answered, answers);
         expect_dumps(&rt, &heap, &plain, dump);
@@ -192,9 +194,11 @@ const INVENTED: &[(u32, u64, Value, GiveError)] = &[
 fn invented_replicas_leave_the_dump(rt: HostRuntime) {
     let (mut heap, plain, _) = play(&rt, PLACED.0);
     let mut refused: u32 = 0;
-    for epoch in [1, 2] {
+    for (row, &epoch) in [1, 2].iter().enumerate() {
+        let rt = Row { rt: &rt, row };
         expect_equal(&rt, heap.epoch(), epoch);
-        for &(object, number, value, fault) in INVENTED {
+        for (row, &(object, number, value, fault)) in INVENTED.iter().enumerate() {
+            let rt = Row { rt: &rt, row };
             let mut piece = Piece::new(epoch);
             let field = 0;
             let item = Item {

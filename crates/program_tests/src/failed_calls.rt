@@ -1,7 +1,7 @@
 //! The logs of reads and writes, which tell whether one failed.
 
 use crate::devices::{InterruptedReader, SlowReader, SlowWriter};
-use crate::expectations::expect_equal;
+use crate::expectations::{Row, expect_equal};
 use crate::texts::WITHOUT_FIELDS;
 use rh_text::{IoLog, send};
 use rh_trace::{RunFault, Write, parse, print_logged, run_trace_logged};
@@ -10,11 +10,13 @@ use std::test::Fail;
 #[test]
 fn runs_tell_which_call_failed(rt: HostRuntime) {
     // The read and the write that fail, how the run ends, and whether each log tells a failed call.
-    for &(read, write, fault, told) in &[
+    let table = [
         (0, 0, None, (false, false)),
         (3, 0, Some(RunFault::Read), (true, false)),
         (0, 2, Some(RunFault::Write), (false, true)),
-    ] {
+    ];
+    for (row, &(read, write, fault, told)) in table.iter().enumerate() {
+        let rt = Row { rt: &rt, row };
         let mut reader = SlowReader::new(WITHOUT_FIELDS, read);
         let mut writer = SlowWriter::new(&rt, 1000, write);
         let (mut reads, mut writes) = (IoLog::new(), IoLog::new());
@@ -53,7 +55,9 @@ fn reads_that_run_out_are_no_failed_read(rt: HostRuntime) {
 #[test]
 fn prints_tell_a_failed_write(rt: HostRuntime) -> Result<(), Fail> {
     let trace = parse(rt.alloc(), WITHOUT_FIELDS).ok().ok_or("a trace")?;
-    for &(most, nth, outcome) in &[(1000, 0, Ok(())), (1000, 2, Err(Write)), (0, 0, Err(Write))] {
+    let table = [(1000, 0, Ok(())), (1000, 2, Err(Write)), (0, 0, Err(Write))];
+    for (row, &(most, nth, outcome)) in table.iter().enumerate() {
+        let rt = Row { rt: &rt, row };
         let mut writer = SlowWriter::new(&rt, most, nth);
         let mut writes = IoLog::new();
         expect_equal(&rt, print_logged(&trace, &mut writer, &mut writes), outcome);

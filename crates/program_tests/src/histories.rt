@@ -1,7 +1,7 @@
 //! Histories: recorded, checked, reported, written and read.
 
 use crate::devices::SlowWriter;
-use crate::expectations::{expect_bytes, expect_equal};
+use crate::expectations::{Row, expect_bytes, expect_equal};
 use crate::texts::{
     RAW_HISTORY, RAW_HISTORY_REPORT, RIGHT, RIGHT_REPORT, WRONG, WRONG_REPORT, repeated,
 };
@@ -77,9 +77,10 @@ const HISTORIES: &[(&[u8], Verdict, &[u8])] = &[
 ];
 
 #[test]
-fn replays_a_history(rt: HostRuntime) -> Result<(), Fail> {
-    for &(text, verdict, told) in HISTORIES {
-        let history = read_history(rt.alloc(), text).ok().ok_or("a history")?;
+fn replays_a_history(rt: HostRuntime) {
+    for (row, &(text, verdict, told)) in HISTORIES.iter().enumerate() {
+        let rt = Row { rt: &rt, row };
+        let history = read_history(rt.alloc(), text).expect(&rt, "a history");
         let found = check(rt.alloc(), &history).ok();
         expect_equal(&rt, found, Some(verdict));
         let mut writer = SlowWriter::new(&rt, 1, 0);
@@ -89,7 +90,6 @@ fn replays_a_history(rt: HostRuntime) -> Result<(), Fail> {
         expect_equal(&rt, write_history(&history, &mut writer), Ok(()));
         expect_bytes(&rt, &writer.text, text);
     }
-    Ok(())
 }
 
 /// Owners, slots and a limit with which no recorder is made, each with why.
@@ -114,7 +114,8 @@ fn a_recorder_takes_as_many_calls_as_its_limit(rt: HostRuntime) -> Result<(), Fa
         check(rt.alloc(), recorder.history()).ok(),
         Some(Verdict::Legal(1)),
     );
-    for &(owners, slots, limit, error) in NO_RECORDERS {
+    for (row, &(owners, slots, limit, error)) in NO_RECORDERS.iter().enumerate() {
+        let rt = Row { rt: &rt, row };
         let made = Recorder::new(rt.alloc(), owners, slots, limit);
         expect_equal(&rt, made.err(), Some(error));
     }

@@ -1,7 +1,7 @@
 //! Dumps read from their texts, and written.
 
 use crate::devices::{SlowReader, SlowWriter};
-use crate::expectations::{expect_bytes, expect_equal};
+use crate::expectations::{Row, expect_bytes, expect_equal};
 use crate::texts::repeated;
 use rh_dump::{
     DumpFault, DumpKind, DumpReadError, read_dump, read_dump_logged, same_text, write_dump,
@@ -45,22 +45,24 @@ fn expect_dump<R: AllocGlobal + Abort>(rt: &R, reader: &mut impl io::Read, text:
 
 #[test]
 fn what_is_read_is_written_again(rt: HostRuntime) {
-    for &text in &[EMPTY, EACH_KIND, RAW] {
+    for (row, &text) in [EMPTY, EACH_KIND, RAW].iter().enumerate() {
+        let rt = Row { rt: &rt, row };
         expect_dump(&rt, &mut { text }, text);
     }
 }
 
 #[test]
-fn a_text_of_the_version_before_is_read(rt: HostRuntime) -> Result<(), Fail> {
-    for &(text, dump) in &[(EMPTY_BEFORE, EMPTY), (EACH_KIND_BEFORE, EACH_KIND)] {
-        let graph = read_dump(rt.alloc(), &mut { text }).ok().ok_or("a dump")?;
+fn a_text_of_the_version_before_is_read(rt: HostRuntime) {
+    let texts = [(EMPTY_BEFORE, EMPTY), (EACH_KIND_BEFORE, EACH_KIND)];
+    for (row, &(text, dump)) in texts.iter().enumerate() {
+        let rt = Row { rt: &rt, row };
+        let graph = read_dump(rt.alloc(), &mut { text }).expect(&rt, "a dump");
         let mut written = Vec::new(rt.alloc());
         expect_equal(&rt, write_dump(&graph, &mut written), Ok(()));
         expect_bytes(&rt, &written, dump);
-        let other = read_dump(rt.alloc(), &mut { dump }).ok().ok_or("a dump")?;
+        let other = read_dump(rt.alloc(), &mut { dump }).expect(&rt, "a dump");
         assert!(rt; same_text(&graph, &other));
     }
-    Ok(())
 }
 
 /// Texts that differ in a kind, in a count of fields, in a value or in a root.
@@ -73,15 +75,16 @@ const APART: &[&[u8]] = &[
 ];
 
 #[test]
-fn graphs_have_one_text(rt: HostRuntime) -> Result<(), Fail> {
+fn graphs_have_one_text(rt: HostRuntime) {
     for (i, &text) in APART.iter().enumerate() {
+        let rt = Row { rt: &rt, row: i };
         for (k, &other) in APART.iter().enumerate() {
-            let graph = read_dump(rt.alloc(), &mut { text }).ok().ok_or("a dump")?;
-            let second = read_dump(rt.alloc(), &mut { other }).ok().ok_or("a dump")?;
+            let rt = Row { rt: &rt, row: k };
+            let graph = read_dump(rt.alloc(), &mut { text }).expect(&rt, "a dump");
+            let second = read_dump(rt.alloc(), &mut { other }).expect(&rt, "a dump");
             expect_equal(&rt, same_text(&graph, &second), i == k);
         }
     }
-    Ok(())
 }
 
 #[test]
@@ -125,11 +128,13 @@ fn the_most_roots(rt: HostRuntime) -> Result<(), Fail> {
 #[test]
 fn reads_tell_which_failed(rt: HostRuntime) {
     // The read that fails, how many may be made, how reading ends, and what the log tells.
-    for &(nth, limit, error, told) in &[
+    let table = [
         (0, 1000, None, false),
         (9, 1000, Some(DumpReadError::Read), true),
         (0, 9, Some(DumpReadError::Read), false),
-    ] {
+    ];
+    for (row, &(nth, limit, error, told)) in table.iter().enumerate() {
+        let rt = Row { rt: &rt, row };
         let mut reader = SlowReader::new(EMPTY, nth);
         let mut reads = IoLog::limited(limit);
         let outcome = read_dump_logged(rt.alloc(), &mut reader, &mut reads);

@@ -1,6 +1,6 @@
 //! The program, from its arguments to its status.
 
-use crate::expectations::{expect_bytes, expect_equal, expect_prefix};
+use crate::expectations::{Row, expect_bytes, expect_equal, expect_prefix};
 use crate::program::terminal::Terminal;
 use crate::texts::{WITHOUT_FIELDS, WITHOUT_FIELDS_ANSWERS};
 use rh_cli::{Ask, LineFault, Subcommand, play, read_words, tell};
@@ -25,7 +25,8 @@ const COMMANDS: &[(&str, Subcommand)] = &[
 
 #[test]
 fn arguments_that_ask_for_each_command(rt: HostRuntime) {
-    for &(name, subcommand) in COMMANDS {
+    for (row, &(name, subcommand)) in COMMANDS.iter().enumerate() {
+        let rt = Row { rt: &rt, row };
         let file = "first";
         let words = ["rheap", name, file];
         let ask = read_words(rt.alloc(), &words);
@@ -246,17 +247,17 @@ const CLOSED: &[(&[&[u8]], u8, &[u8], &[u8])] = &[
 
 #[test]
 fn calls_of_the_program(rt: HostRuntime) {
-    for call in CALLS {
-        expect_played(&rt, &rt, false, call);
+    for (row, call) in CALLS.iter().enumerate() {
+        expect_played(&Row { rt: &rt, row }, &rt, false, call);
     }
-    for call in PACED {
-        expect_played(&rt, &rt, false, call);
+    for (row, call) in PACED.iter().enumerate() {
+        expect_played(&Row { rt: &rt, row }, &rt, false, call);
     }
-    for call in THREADS {
-        expect_played(&rt, &rt, false, call);
+    for (row, call) in THREADS.iter().enumerate() {
+        expect_played(&Row { rt: &rt, row }, &rt, false, call);
     }
-    for call in CLOSED {
-        expect_played(&rt, &rt, true, call);
+    for (row, call) in CLOSED.iter().enumerate() {
+        expect_played(&Row { rt: &rt, row }, &rt, true, call);
     }
 }
 
@@ -275,9 +276,10 @@ fn faults_before_a_run_are_told(rt: HostRuntime) {
         (LineFault::Idle, 2, IDLE_FAULT),
         (LineFault::HistoryDiffers, 4, b"rheap: history differs\n"),
     ];
-    for (fault, status, text) in table {
+    for (row, (fault, status, text)) in table.iter().enumerate() {
+        let rt = Row { rt: &rt, row };
         let mut err = Vec::new(rt.alloc());
-        expect_equal(&rt, tell(&fault, &mut err), status);
+        expect_equal(&rt, tell(fault, &mut err), *status);
         expect_bytes(&rt, &err, text);
     }
 }

@@ -1,7 +1,7 @@
 //! The program's commands, over a text and two writers.
 
 use crate::devices::InterruptedReader;
-use crate::expectations::{expect_bytes, expect_equal, expect_prefix};
+use crate::expectations::{Row, expect_bytes, expect_equal, expect_prefix};
 use crate::texts::without_last_line;
 use rh_cli::{Ask, Subcommand, drive};
 use std::alloc::Allocator;
@@ -74,7 +74,8 @@ fn expect_reads<R: AllocGlobal + Abort + Threads + Wait + Sync>(
 
 #[test]
 fn reads_of_traces_and_histories_end(rt: HostRuntime) {
-    for ask in &[RUN, PACED, THREADS, REPLAY] {
+    for (row, ask) in [RUN, PACED, THREADS, REPLAY].iter().enumerate() {
+        let rt = Row { rt: &rt, row };
         expect_reads(&rt, ask, 33_554_432, 33_554_432, b"rheap: line 1: Empty\n");
         expect_reads(&rt, ask, 33_554_433, 33_554_432, b"rheap: read failed\n");
     }

@@ -2,7 +2,7 @@
 //! refused, at each place in turn.
 
 use crate::devices::{Broken, SlowReader, SlowWriter, Unflushed};
-use crate::expectations::{expect_bytes, expect_equal, expect_prefix, expect_refusals};
+use crate::expectations::{Row, expect_bytes, expect_equal, expect_prefix, expect_refusals};
 use crate::program::driving::{DUMP, PACED, REPLAY, RUN, THREADS, drives_to, is_refused};
 use crate::texts::{
     JOINED, JOINED_ANSWERS, RIGHT, RIGHT_REPORT, STORED, STORED_HISTORY, TWO_FLIPS,
@@ -95,6 +95,8 @@ fn fail_writes<R: AllocGlobal + Abort + Threads + Wait + Sync>(
     most: usize,
 ) -> u32 {
     for nth in 1..1000u32 {
+        let row = nth as usize;
+        let rt = &Row { rt, row };
         let (ended, out, err) = play(rt, &ask, text, (0, nth, most));
         if out.writes < nth {
             expect_equal(rt, (ended, err.len()), (status, 0));
@@ -119,7 +121,8 @@ fn expect_lines_before(rt: &impl Abort, text: &[u8], line: u32) {
 
 #[test]
 fn each_write_fails_in_turn(rt: HostRuntime) {
-    for played in PLAYED {
+    for (row, played) in PLAYED.iter().enumerate() {
+        let rt = Row { rt: &rt, row };
         let writes = fail_writes(&rt, played, 1000);
         assert!(rt; 0 < writes);
         expect_equal(&rt, fail_writes(&rt, played, 1) as usize, played.3.len());
@@ -135,7 +138,8 @@ fn each_write_fails_in_turn(rt: HostRuntime) {
 #[test]
 fn devices_that_fail(rt: HostRuntime) {
     let mut failed: u32 = 0;
-    for &(ask, text, ..) in PLAYED {
+    for (row, &(ask, text, ..)) in PLAYED.iter().enumerate() {
+        let rt = Row { rt: &rt, row };
         let mut out = Vec::new(rt.alloc());
         let mut err = Vec::new(rt.alloc());
         let mut reader = text;
@@ -159,8 +163,11 @@ fn some_reads(text: &[u8]) -> [u32; 10] {
 #[test]
 fn first_and_last_reads_fail(rt: HostRuntime) {
     let mut failed: u32 = 0;
-    for played in PLAYED {
+    for (row, played) in PLAYED.iter().enumerate() {
+        let rt = Row { rt: &rt, row };
         for nth in some_reads(played.1) {
+            let row = nth as usize;
+            let rt = Row { rt: &rt, row };
             let (status, out, err) = play(&rt, &played.0, played.1, (nth, 0, 1000));
             expect_equal(&rt, (status, out.writes), (1, 0));
             expect_bytes(&rt, &err, b"rheap: read failed\n");
@@ -212,12 +219,14 @@ fn is_cut<R: AllocGlobal + Abort + Threads + Wait + Sync>(
 
 #[test]
 fn texts_are_cut_after_each_byte(rt: HostRuntime) {
-    for asked in CUT {
+    for (row, asked) in CUT.iter().enumerate() {
+        let rt = Row { rt: &rt, row };
         let text = asked.1;
         let mut cut: usize = 0;
         let mut whole: usize = 0;
-        for count in 0..text.len() {
-            if is_cut(&rt, asked, &text[..count]) {
+        for row in 0..text.len() {
+            let rt = Row { rt: &rt, row };
+            if is_cut(&rt, asked, &text[..row]) {
                 cut = cut.saturating_add(1);
             } else {
                 whole = whole.saturating_add(1);
@@ -286,11 +295,13 @@ const FAULTY: &[(Ask<'static>, &[u8], &[u8])] = &[
 #[test]
 fn each_allocation_is_refused(rt: HostRuntime) {
     let mut refused: u32 = 0;
-    for played in PLAYED {
+    for (row, played) in PLAYED.iter().enumerate() {
+        let rt = Row { rt: &rt, row };
         refuse(&rt, played, b"", 3);
         refused = refused.saturating_add(1);
     }
-    for &(ask, text, told) in FAULTY {
+    for (row, &(ask, text, told)) in FAULTY.iter().enumerate() {
+        let rt = Row { rt: &rt, row };
         refuse(&rt, &(ask, text, 1, b""), told, 1);
         refused = refused.saturating_add(1);
     }
@@ -351,7 +362,8 @@ fn refuse_dump<R: AllocGlobal + Abort + Threads + Wait + Sync>(
 #[test]
 fn each_allocation_is_refused_at_sizes(rt: HostRuntime) -> Result<(), Fail> {
     let mut sizes: u32 = 0;
-    for &size in SIZES {
+    for (row, &size) in SIZES.iter().enumerate() {
+        let rt = Row { rt: &rt, row };
         refuse_lines(&rt, size)?;
         refuse_dump(&rt, size)?;
         sizes = sizes.saturating_add(1);
@@ -369,6 +381,8 @@ where
     requires { F.IsAlwaysCallable write }
 {
     for nth in 1..1000u32 {
+        let row = nth as usize;
+        let rt = &Row { rt, row };
         let mut writer = SlowWriter::new(rt, 3, nth);
         let outcome = write(&mut writer);
         expect_prefix(rt, text, &writer.text);
@@ -410,14 +424,16 @@ fn texts_are_written_up_to_a_failed_write(rt: HostRuntime) -> Result<(), Fail> {
         write_command(1, &COMMAND, writer)
     });
     let answers = fail_texts(&rt, ANSWER_TEXT, |writer| write_answer(&ANSWER, writer));
-    for (writes, length) in [
+    let table = [
         (prints, WHOLE_CYCLE.len()),
         (histories, RIGHT.len()),
         (reports, RIGHT_REPORT.len()),
         (dumps, BESIDE_RAW.len()),
         (commands, COMMAND_TEXT.len()),
         (answers, ANSWER_TEXT.len()),
-    ] {
+    ];
+    for (row, &(writes, length)) in table.iter().enumerate() {
+        let rt = Row { rt: &rt, row };
         assert!(rt; writes as usize >= length / 3);
     }
     Ok(())

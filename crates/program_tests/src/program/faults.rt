@@ -1,6 +1,6 @@
 //! Texts with faults, and what the program tells of them.
 
-use crate::expectations::{expect_equal, expect_text};
+use crate::expectations::{Row, expect_equal, expect_text};
 use crate::program::driving::{DUMP, PACED, REPLAY, RUN, THREADS, drives_to};
 use crate::texts::repeated;
 use rh_cli::{Ask, Subcommand};
@@ -264,7 +264,8 @@ fn expect_faults<R: AllocGlobal + Abort + Threads + Wait + Sync>(
     first: &[u8],
     faults: &[(&[u8], u32, &str)],
 ) -> Result<(), Fail> {
-    for &(rest, line, kind) in faults {
+    for (row, &(rest, line, kind)) in faults.iter().enumerate() {
+        let rt = &Row { rt, row };
         let text = repeated(rt, first, rest, 1)?;
         let told = format!(in rt.alloc(); "rheap: line {line}: {kind}\n")?;
         drives_to(rt, ask, &text, 1, b"", told.as_bytes());
@@ -282,7 +283,8 @@ fn first_faults(rt: HostRuntime) -> Result<(), Fail> {
 #[test]
 fn first_faults_of_dumps(rt: HostRuntime) -> Result<(), Fail> {
     expect_faults(&rt, &DUMP, b"", HEADERS)?;
-    for &(version, raw) in VERSIONS {
+    for (row, &(version, raw)) in VERSIONS.iter().enumerate() {
+        let rt = Row { rt: &rt, row };
         expect_faults(&rt, &DUMP, version, DUMPS)?;
         let first = repeated(&rt, version, ONE_ROOT, 1)?;
         expect_faults(&rt, &DUMP, &first, OBJECTS)?;
@@ -332,7 +334,8 @@ const NOT_RUN: &[(Ask<'static>, &[u8], &[u8])] = &[
 #[test]
 fn runs_that_cannot_be_made(rt: HostRuntime) {
     let mut tried: u32 = 0;
-    for &(ask, text, told) in NOT_RUN {
+    for (row, &(ask, text, told)) in NOT_RUN.iter().enumerate() {
+        let rt = Row { rt: &rt, row };
         drives_to(&rt, &ask, text, 1, b"", told);
         tried = tried.saturating_add(1);
     }
@@ -356,12 +359,14 @@ const LONG_HISTORIES: &[(&[u8], &[u8])] = &[
 
 #[test]
 fn long_lines(rt: HostRuntime) -> Result<(), Fail> {
-    for &(first, byte, bytes, end, told) in LONG {
+    for (row, &(first, byte, bytes, end, told)) in LONG.iter().enumerate() {
+        let rt = Row { rt: &rt, row };
         let mut text = repeated(&rt, first, byte, bytes)?;
         text.extend_from_slice(end)?;
         drives_to(&rt, &RUN, &text, 1, b"", told);
     }
-    for &(first, told) in LONG_HISTORIES {
+    for (row, &(first, told)) in LONG_HISTORIES.iter().enumerate() {
+        let rt = Row { rt: &rt, row };
         let text = repeated(&rt, first, b"9", 257)?;
         drives_to(&rt, &REPLAY, &text, 1, b"", told);
     }
@@ -371,7 +376,8 @@ fn long_lines(rt: HostRuntime) -> Result<(), Fail> {
 #[test]
 fn files_that_are_too_long(rt: HostRuntime) -> Result<(), Fail> {
     let text = vec![in rt.alloc(); b'9'; 16_777_217]?;
-    for ask in &[RUN, PACED, THREADS, REPLAY] {
+    for (row, ask) in [RUN, PACED, THREADS, REPLAY].iter().enumerate() {
+        let rt = Row { rt: &rt, row };
         drives_to(&rt, ask, &text, 1, b"", b"rheap: too long\n");
     }
     Ok(())

@@ -1,6 +1,6 @@
 //! What a text begins with.
 
-use crate::expectations::expect_equal;
+use crate::expectations::{Row, expect_equal};
 use rh_layout::RootId;
 use rh_text::{after_byte, after_bytes, leading_number, leading_root};
 
@@ -19,7 +19,8 @@ const NUMBERS: &[(&[u8], Option<(u32, &[u8])>)] = &[
 
 #[test]
 fn leading_numbers(rt: HostRuntime) {
-    for &(text, found) in NUMBERS {
+    for (row, &(text, found)) in NUMBERS.iter().enumerate() {
+        let rt = Row { rt: &rt, row };
         expect_equal(&rt, leading_number(text), found);
     }
 }
@@ -31,7 +32,8 @@ const NO_ROOTS: &[&[u8]] = &[b"1.x", b"1 0", b"1.", b"x.0 "];
 fn leading_roots(rt: HostRuntime) {
     let root = RootId { owner: 1, slot: 0 };
     expect_equal(&rt, leading_root(b"1.0 "), Some((root, b" ".as_slice())));
-    for &text in NO_ROOTS {
+    for (row, &text) in NO_ROOTS.iter().enumerate() {
+        let rt = Row { rt: &rt, row };
         expect_equal(&rt, leading_root(text), None);
     }
 }

@@ -1,7 +1,7 @@
 //! Reading and printing traces.
 
 use crate::devices::SlowWriter;
-use crate::expectations::{expect_bytes, expect_equal, expect_prefix};
+use crate::expectations::{Row, expect_bytes, expect_equal, expect_prefix};
 use crate::texts::{
     DUMPS, FOUR_CYCLES, JOINED, LARGE_TRAYS, LONG_HEADER, LONG_LINE, RAW_OBJECT, TOO_MANY,
     TWO_EPOCHS, WHOLE_CYCLE, WITHOUT_FIELDS, repeated,
@@ -75,37 +75,29 @@ const SHOWN: &[(&[u8], &str, &[&str])] = &[
 ];
 
 /// Expects the line `i` of a trace to be shown so.
-fn expect_line(
-    rt: &(impl AllocGlobal + Abort),
-    trace: &Trace,
-    i: usize,
-    text: &str,
-) -> Result<(), Fail> {
-    if i >= trace.len() {
-        return Err(Fail::from("there is no such line"));
-    }
+fn expect_line(rt: &(impl AllocGlobal + Abort), trace: &Trace, i: usize, text: &str) {
+    assert!(rt; i < trace.len());
     let line = trace.line(i);
-    let shown = format!(in rt.alloc(); "{line:?}")?;
+    let shown = format!(in rt.alloc(); "{line:?}").expect(rt, "memory is ample");
     expect_prefix(rt, shown.as_bytes(), text.as_bytes());
-    Ok(())
 }
 
 #[test]
-fn reads_each_keyword(rt: HostRuntime) -> Result<(), Fail> {
+fn reads_each_keyword(rt: HostRuntime) {
     let mut lines: u32 = 0;
-    for &(text, first, others) in SHOWN {
-        let trace = parse(rt.alloc(), text).ok().ok_or("a trace")?;
+    for (row, &(text, first, others)) in SHOWN.iter().enumerate() {
+        let rt = Row { rt: &rt, row };
+        let trace = parse(rt.alloc(), text).expect(&rt, "a trace");
         let header = trace.header();
-        let shown = format!(in rt.alloc(); "{header:?}")?;
+        let shown = format!(in rt.alloc(); "{header:?}").expect(&rt, "memory is ample");
         expect_equal(&rt, shown.as_str(), first);
         for (i, line) in others.iter().enumerate() {
-            expect_line(&rt, &trace, i, line)?;
+            expect_line(&rt, &trace, i, line);
             lines = lines.saturating_add(1);
         }
     }
     expect_equal(&rt, lines, 26);
     assert!(rt; size_of::<Line>() <= 40 && size_of::<Request>() <= 40);
-    Ok(())
 }
 
 /// Traces that are parsed and printed.
@@ -125,9 +117,10 @@ const PRINTED: &[&[u8]] = &[
 ];
 
 #[test]
-fn prints_what_was_parsed(rt: HostRuntime) -> Result<(), Fail> {
-    for &text in PRINTED {
-        let trace = parse(rt.alloc(), text).ok().ok_or("a trace")?;
+fn prints_what_was_parsed(rt: HostRuntime) {
+    for (row, &text) in PRINTED.iter().enumerate() {
+        let rt = Row { rt: &rt, row };
+        let trace = parse(rt.alloc(), text).expect(&rt, "a trace");
         let mut printed = Vec::new(rt.alloc());
         expect_equal(&rt, print(&trace, &mut printed), Ok(()));
         expect_bytes(&rt, &printed, text);
@@ -135,7 +128,6 @@ fn prints_what_was_parsed(rt: HostRuntime) -> Result<(), Fail> {
         expect_equal(&rt, print(&trace, &mut writer), Err(Write));
         expect_bytes(&rt, &writer.text, text.split_at(9.min(text.len())).0);
     }
-    Ok(())
 }
 
 #[test]

@@ -1,5 +1,6 @@
 //! Cycles that are recalled or abandoned at each moment, and then brought to their end.
 
+use crate::expectations::Row;
 use crate::texts::repeated;
 use rh_trace::run_trace;
 use std::alloc::AllocError;
@@ -33,6 +34,9 @@ const CYCLE: &[&[u8]] = &[
 const FINISH: &[u8] =
     b"idle 1000\nshade 0.0\nshade 1.0\nshade 1.1\ndeal entries 9 w\ngive w\ndeal copies 9 x\n\
         give x\ndeal copies 9 y\ngive y\nflip\ndump\n";
+
+/// What comes within the cycle, and what after it.
+const ENDS: &[(&[u8], &[u8])] = &[(b"recall\n", b""), (b"abandon\n", b"begin\n")];
 
 /// What is answered last, whatever came between: one flip was done, and the graph is the same.
 const LAST: &[u8] = b"\nrheap 2\nroots 2\n1.0 @0\n1.1 @1\nobjects 2\n@0 2 6 @1\n@1 1 @0\nend\n\
@@ -74,10 +78,15 @@ fn expect_last(rt: &(impl AllocGlobal + Abort), text: &[u8]) {
 #[test]
 fn a_cycle_is_recalled_or_abandoned_at_each_moment(rt: HostRuntime) -> Result<(), Fail> {
     for moment in 1..CYCLE.len() {
-        let recalled = interrupted(&rt, moment, b"recall\n", b"")?;
-        expect_last(&rt, recalled.as_slice());
-        let abandoned = interrupted(&rt, moment, b"abandon\n", b"begin\n")?;
-        expect_last(&rt, abandoned.as_slice());
+        let rt = Row {
+            rt: &rt,
+            row: moment,
+        };
+        for (row, &(line, end)) in ENDS.iter().enumerate() {
+            let rt = Row { rt: &rt, row };
+            let text = interrupted(&rt, moment, line, end)?;
+            expect_last(&rt, text.as_slice());
+        }
     }
     Ok(())
 }

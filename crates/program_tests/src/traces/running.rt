@@ -1,7 +1,7 @@
 //! Runs of traces.
 
 use crate::devices::{SlowReader, SlowWriter};
-use crate::expectations::{expect_bytes, expect_equal, expect_prefix, expect_refusals};
+use crate::expectations::{Row, expect_bytes, expect_equal, expect_prefix, expect_refusals};
 use crate::texts::{
     DUMPS, DUMPS_ANSWERS, FOUR_CYCLES, FOUR_CYCLES_ANSWERS, JOINED, JOINED_ANSWERS, LARGE_TRAYS,
     LARGE_TRAYS_ANSWERS, LONG_ANSWER, LONG_HEADER, LONG_LINE, RAW_OBJECT, RAW_OBJECT_ANSWERS,
@@ -23,7 +23,7 @@ fn expect_run(
     rt: &(impl AllocGlobal + Abort),
     (input, answers): (&[u8], &[u8]),
     most: usize,
-) -> Result<u32, Fail> {
+) -> u32 {
     let mut reader = SlowReader::new(input, 0);
     let mut writer = SlowWriter::new(rt, most, 0);
     let outcome = run_trace(rt.alloc(), &mut reader, &mut writer);
@@ -33,12 +33,12 @@ fn expect_run(
         refused,
         flips,
         root_words,
-    } = outcome.ok().ok_or("a run")?;
+    } = outcome.expect(rt, "a run");
     let total = format!(in rt.alloc();
         "\ntotal commands {commands} refused {refused} flips {flips} rootwords {root_words}\n"
-    )?;
+    ).expect(rt, "memory is ample");
     assert!(rt; answers.ends_with(total.as_bytes()));
-    Ok(writer.writes)
+    writer.writes
 }
 
 /// Traces, each with its answers, and how many lines these are.
@@ -52,18 +52,20 @@ const RUNS: &[(&[u8], &[u8], u32)] = &[
 ];
 
 #[test]
-fn answers_each_in_one_write(rt: HostRuntime) -> Result<(), Fail> {
-    for &(input, answers, lines) in RUNS {
+fn answers_each_in_one_write(rt: HostRuntime) {
+    for (row, &(input, answers, lines)) in RUNS.iter().enumerate() {
+        let rt = Row { rt: &rt, row };
         let run = (input, answers);
-        expect_equal(&rt, expect_run(&rt, run, 1000)?, lines);
-        expect_run(&rt, run, 1)?;
+        expect_equal(&rt, expect_run(&rt, run, 1000), lines);
+        expect_run(&rt, run, 1);
     }
     // A dump may come in any number of writes.
-    for &run in &[(DUMPS, DUMPS_ANSWERS), (RAW_OBJECT, RAW_OBJECT_ANSWERS)] {
-        expect_run(&rt, run, 1000)?;
-        expect_run(&rt, run, 1)?;
+    let dumps = [(DUMPS, DUMPS_ANSWERS), (RAW_OBJECT, RAW_OBJECT_ANSWERS)];
+    for (row, &run) in dumps.iter().enumerate() {
+        let rt = Row { rt: &rt, row };
+        expect_run(&rt, run, 1000);
+        expect_run(&rt, run, 1);
     }
-    Ok(())
 }
 
 #[test]
@@ -77,7 +79,7 @@ fn a_hundred_cycles(rt: HostRuntime) -> Result<(), Fail> {
         ("cycle ", "\nflipped roots 0 live 0\n"),
     )?;
     answers.extend_from_slice(b"total commands 0 refused 0 flips 100 rootwords 0\n")?;
-    expect_equal(&rt, expect_run(&rt, (&text, &answers), 1000)?, 201);
+    expect_equal(&rt, expect_run(&rt, (&text, &answers), 1000), 201);
     Ok(())
 }
 
@@ -109,7 +111,7 @@ fn a_trace_has_64_trays(rt: HostRuntime) -> Result<(), Fail> {
     answers.extend_from_slice(BEYOND_ANSWERS)?;
     add_numbered(&rt, &mut answers, 63, ("tray t", " epoch 1 entries 0\n"))?;
     answers.extend_from_slice(BEYOND_LAST)?;
-    expect_run(&rt, (&text, &answers), 1000)?;
+    expect_run(&rt, (&text, &answers), 1000);
     Ok(())
 }
 
@@ -153,7 +155,8 @@ const NOT_RUN: &[(&[u8], u32, RunFault)] = &[
 
 #[test]
 fn what_is_not_run_writes_nothing(rt: HostRuntime) {
-    for &(text, nth, fault) in NOT_RUN {
+    for (row, &(text, nth, fault)) in NOT_RUN.iter().enumerate() {
+        let rt = Row { rt: &rt, row };
         let mut reader = SlowReader::new(text, nth);
         let mut written = Vec::new(rt.alloc());
         let outcome = run_trace(rt.alloc(), &mut reader, &mut written);
@@ -165,10 +168,12 @@ fn what_is_not_run_writes_nothing(rt: HostRuntime) {
 #[test]
 fn interrupted_writes_are_made_again(rt: HostRuntime) {
     // How many of two writes each are interrupted, and what that comes to.
-    for &(interrupted, fault, answers, writes) in &[
+    let table = [
         (1, None, WITHOUT_FIELDS_ANSWERS, 6),
         (2, Some(RunFault::Write), b"".as_slice(), 33_554_432),
-    ] {
+    ];
+    for (row, &(interrupted, fault, answers, writes)) in table.iter().enumerate() {
+        let rt = Row { rt: &rt, row };
         let mut reader = WITHOUT_FIELDS;
         let mut writer = SlowWriter::new(&rt, 1000, 0);
         writer.interrupted = interrupted;
@@ -210,14 +215,17 @@ fn expect_failed(
 
 #[test]
 fn failing_writer(rt: HostRuntime) {
-    for &(input, most, nth, written, writes) in FAILING {
+    for (row, &(input, most, nth, written, writes)) in FAILING.iter().enumerate() {
+        let rt = Row { rt: &rt, row };
         expect_failed(&rt, input, (most, nth), written, writes);
     }
     // The write of the total line.
-    for &(input, answers, writes) in &[
+    let totals = [
         (TWO_EPOCHS, TWO_EPOCHS_ANSWERS, 23),
         (WHOLE_CYCLE, WHOLE_CYCLE_ANSWERS, 11),
-    ] {
+    ];
+    for (row, &(input, answers, writes)) in totals.iter().enumerate() {
+        let rt = Row { rt: &rt, row };
         let written = answers.split_at(answers.len().saturating_sub(47)).0;
         expect_failed(&rt, input, (1000, writes), written, writes);
     }
@@ -297,7 +305,8 @@ const TRAYS: &[(&[u8], &[u8], u64, u32)] = &[
 
 #[test]
 fn refused_memory_of_trays(rt: HostRuntime) {
-    for &(input, answers, least, writes) in TRAYS {
+    for (row, &(input, answers, least, writes)) in TRAYS.iter().enumerate() {
+        let rt = Row { rt: &rt, row };
         let seen = writes_before_refusals(&rt, (input, answers), least);
         expect_equal(&rt, seen, writes);
     }

@@ -1,6 +1,6 @@
 //! The names of trays, and their laws.
 
-use crate::expectations::expect_equal;
+use crate::expectations::{Row, expect_equal};
 use rh_trace::laws::trays::{
     a_tray_takes_its_name_alone, deals_into_trays_are_refused_in_order,
     joined_items_are_the_newest, the_names_of_trays_are_read,
@@ -34,7 +34,8 @@ fn names(rt: HostRuntime) {
     a_tray_takes_its_name_alone();
     joined_items_are_the_newest();
     deals_into_trays_are_refused_in_order();
-    for &(part, is_name) in NAMES {
+    for (row, &(part, is_name)) in NAMES.iter().enumerate() {
+        let rt = Row { rt: &rt, row };
         expect_equal(&rt, tray_name_of(part).is_some(), is_name);
     }
 }
