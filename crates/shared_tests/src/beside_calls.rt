@@ -6,7 +6,7 @@ ghost use Rattle.rh_shared.specs.Start.{IsFresh};
 use crate::calls::{
     ALLOC_NONE, ALLOC_TWO, Answer, NO_FIELDS, NOT_SAME, NOTHING, SAME, TWO_FIELDS, numbers_of,
 };
-use crate::expectations::{expect_equal, play_again};
+use crate::expectations::{Row, expect_equal, play_again};
 use crate::gates::{LOOKS, Signs, Watched, is_seen};
 use crate::starts::{GATE, SMALL};
 use rh_layout::Command;
@@ -99,7 +99,8 @@ fn meet<R: Threads + Wait + Sync + AllocGlobal + Abort>(rt: &R) -> Result<(), &'
         return Err("memory is ample");
     };
     let mut one = mutators.pop().expect(rt, "owner 1");
-    for &(command, answer) in PUSHED {
+    for (row, &(command, answer)) in PUSHED.iter().enumerate() {
+        let rt = &Row { rt, row };
         expect_equal(rt, one.call(rt, &shared, command), answer);
     }
     let second = last_of(rt.alloc(), &mut ends).expect(rt, "the second");

@@ -4,7 +4,7 @@ use crate::calls::{
     A, ALLOC_NONE, ALLOC_ONE, Answer, BEGAN, DONE, DROP, FLIPPED, NO_FIELDS, NOT_SAME, NOTHING,
     Numbers, ONE_FIELD, SAME, numbers_of,
 };
-use crate::expectations::expect_equal;
+use crate::expectations::{Row, expect_equal};
 use crate::starts::{EAGER, SMALL};
 use rh_core::Config;
 use rh_layout::{Command, Operand, Refusal, Reply, RootId};
@@ -297,7 +297,8 @@ fn call_by<R: Wait>(
 fn play<R: AllocGlobal + Wait + Abort>(rt: &R, case: &Case) -> Told {
     let (shared, mut mutators) = shared_of(rt, case.config, case.shared);
     let (other, mut others) = shared_of(rt, case.other, case.shared);
-    for &(theirs, place, elsewhere, command, answer) in case.calls {
+    for (row, &(theirs, place, elsewhere, command, answer)) in case.calls.iter().enumerate() {
+        let rt = &Row { rt, row };
         let heap = if elsewhere { &other } else { &shared };
         let told = if theirs {
             call_by(rt, &mut others, place, heap, command)
@@ -306,7 +307,8 @@ fn play<R: AllocGlobal + Wait + Abort>(rt: &R, case: &Case) -> Told {
         };
         expect_equal(rt, told, Some(answer));
     }
-    for &did in case.increments {
+    for (row, &did) in case.increments.iter().enumerate() {
+        let rt = &Row { rt, row };
         expect_equal(rt, shared.increment(rt), did);
     }
     if case.leaves {
@@ -323,7 +325,8 @@ fn play<R: AllocGlobal + Wait + Abort>(rt: &R, case: &Case) -> Told {
 #[test]
 fn heaps_are_closed(rt: HostRuntime) {
     let mut played: u32 = 0;
-    for case in CASES {
+    for (row, case) in CASES.iter().enumerate() {
+        let rt = Row { rt: &rt, row };
         expect_equal(&rt, play(&rt, case), case.told);
         played = played.saturating_add(1);
     }

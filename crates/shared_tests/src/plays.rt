@@ -5,7 +5,7 @@ use crate::calls::{
     A, ALLOC_NONE, ALLOC_ONE, ALLOC_TWO, Answer, B, BEGAN, DONE, FLIPPED, NO_FIELDS, NOT_SAME,
     NOTHING, Numbers, ONE_FIELD, SAME, TWO_FIELDS, numbers_of,
 };
-use crate::expectations::expect_equal;
+use crate::expectations::{Row, expect_equal};
 use crate::starts::{EAGER, GATE};
 use rh_layout::{Command, Operand, Refusal, RootId};
 use rh_replicator::Stepped;
@@ -388,8 +388,10 @@ fn play_all<R: AllocGlobal + Abort>(rt: &R, &(shared, parts, settled): &Play) ->
     let mut beside = beside_of(rt, shared);
     expect_equal(rt, beside.kept().last_did(), NOTHING);
     let mut played: u32 = 0;
-    for &steps in parts {
-        for &step in steps {
+    for (row, &steps) in parts.iter().enumerate() {
+        let rt = &Row { rt, row };
+        for (row, &step) in steps.iter().enumerate() {
+            let rt = &Row { rt, row };
             play_step(rt, &mut beside, step);
             played = played.saturating_add(1);
         }
@@ -401,7 +403,8 @@ fn play_all<R: AllocGlobal + Abort>(rt: &R, &(shared, parts, settled): &Play) ->
 #[test]
 fn each_step_comes_to_what_it_says(rt: HostRuntime) {
     let mut played: u32 = 0;
-    for play in PLAYS {
+    for (row, play) in PLAYS.iter().enumerate() {
+        let rt = Row { rt: &rt, row };
         played = played.saturating_add(play_all(&rt, play));
     }
     expect_equal(&rt, played, 101);

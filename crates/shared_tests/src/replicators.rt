@@ -2,7 +2,7 @@
 
 ghost use Rattle.std.specs.Prelude.{◌≡◌};
 
-use crate::expectations::{expect_equal, expect_texts};
+use crate::expectations::{Row, expect_equal, expect_texts};
 use refusing::{RefusingAllocator, refused_in_turn};
 use rh_layout::Value;
 use rh_partial::{Item, Piece};
@@ -60,8 +60,10 @@ pub fn waiting<A: Allocator + Copy>(link: &Link<A>) -> Option<(u64, usize, u64)>
 #[test]
 fn pieces_of_one_place_are_folded_together(rt: HostRuntime) {
     let (mut link, mut replicator) = rings_of(&rt, 0);
-    for number in 1..=5 {
-        assert!(rt; push(&mut link, piece_of(7, 1, number)));
+    for number in 1..=5u32 {
+        let row = number as usize;
+        let rt = Row { rt: &rt, row };
+        assert!(rt; push(&mut link, piece_of(7, 1, number.into())));
     }
     expect_equal(&rt, replicator.step(), Stepped::Folded(4));
     expect_equal(&rt, replicator.step(), Stepped::Folded(1));
@@ -93,8 +95,10 @@ fn another_epoch_and_too_many_items_end_a_fold(rt: HostRuntime) {
 #[test]
 fn a_ring_has_eight_places_each_way(rt: HostRuntime) {
     let (mut link, mut replicator) = rings_of(&rt, 0);
-    for epoch in 1..=8 {
-        assert!(rt; push(&mut link, piece_of(epoch, 1, 1)));
+    for epoch in 1..=8u32 {
+        let row = epoch as usize;
+        let rt = Row { rt: &rt, row };
+        assert!(rt; push(&mut link, piece_of(epoch.into(), 1, 1)));
     }
     assert!(rt; !push(&mut link, piece_of(9, 1, 1)));
     for _ in 0..8u32 {

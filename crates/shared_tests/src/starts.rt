@@ -1,7 +1,7 @@
 //! What a shared heap starts with.
 
 use crate::closing::shared_of;
-use crate::expectations::{expect_equal, expect_texts};
+use crate::expectations::{Row, expect_equal, expect_texts};
 use rh_core::{Config, ConfigFault};
 use rh_layout::Refusal;
 use rh_shared::{CallError, CloseError, SharedConfig, SharedFault, Start, StartError};
@@ -119,7 +119,8 @@ const FAULTY: &[(Config, SharedConfig, StartError)] = &[
 
 #[test]
 fn the_first_fault_is_told(rt: HostRuntime) {
-    for &(config, shared, fault) in FAULTY {
+    for (row, &(config, shared, fault)) in FAULTY.iter().enumerate() {
+        let rt = Row { rt: &rt, row };
         let refused = Start::new(rt.alloc(), config, shared).err();
         expect_equal(&rt, refused, Some(fault));
     }

@@ -2,7 +2,7 @@
 
 use crate::calls::NOTHING;
 use crate::closing::{HALF, LARGE, Told, closed, shared_of};
-use crate::expectations::{expect_equal, play_again};
+use crate::expectations::{Row, expect_equal, play_again};
 use rh_layout::{Command, Operand, Reply, RootId};
 use rh_shared::{CloseError, Mutator, SharedHeap};
 use std::process::Abort;
@@ -141,7 +141,8 @@ const PLAYED: &[(bool, bool, (bool, bool, Told))] = &[
 #[test]
 fn two_threads_call_one_heap(rt: HostRuntime) {
     let mut played: u32 = 0;
-    for &(elsewhere, leaves, told) in PLAYED {
+    for (row, &(elsewhere, leaves, told)) in PLAYED.iter().enumerate() {
+        let rt = Row { rt: &rt, row };
         let again = play_again(|| {
             expect_equal(&rt, play_two(&rt, elsewhere, leaves), told);
         });

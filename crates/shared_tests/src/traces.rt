@@ -1,6 +1,6 @@
 //! Traces that are played on a shared heap, with mutators and replicators in threads.
 
-use crate::expectations::{expect_bytes, expect_equal, expect_texts, play_again};
+use crate::expectations::{Row, expect_bytes, expect_equal, expect_texts, play_again};
 use refusing::RefusingAllocator;
 use rh_core::ConfigFault;
 use rh_replay::{Verdict, check, read_history};
@@ -131,7 +131,8 @@ const ONE_OWNER: &[(RunOptions, &[u8], &[u8])] = &[
 #[test]
 fn histories_of_one_owner(rt: HostRuntime) {
     let mut played: u32 = 0;
-    for &(options, text, history) in ONE_OWNER {
+    for (row, &(options, text, history)) in ONE_OWNER.iter().enumerate() {
+        let rt = Row { rt: &rt, row };
         let again = play_again(|| runs_to(&rt, options, text, Ok(()), history));
         played = played.saturating_add(again);
     }
@@ -141,11 +142,13 @@ fn histories_of_one_owner(rt: HostRuntime) {
 #[test]
 fn faults_of_traces(rt: HostRuntime) {
     expect_texts(&rt, FAULT_TEXTS);
-    for &(text, line, kind) in FAULTY {
+    for (row, &(text, line, kind)) in FAULTY.iter().enumerate() {
+        let rt = Row { rt: &rt, row };
         let fault = SharedRunFault::Trace(TraceFault { line, kind });
         runs_to(&rt, TWO, text, Err(fault), b"");
     }
-    for &(text, fault) in WITHOUT_HEAP {
+    for (row, &(text, fault)) in WITHOUT_HEAP.iter().enumerate() {
+        let rt = Row { rt: &rt, row };
         runs_to(&rt, TWO, text, Err(SharedRunFault::New(fault)), b"");
     }
     let fault = SharedRunFault::Shared(SharedFault::BadReplicators);
@@ -172,7 +175,8 @@ fn plays_legally<R: AllocGlobal + Abort + Threads + Wait + Sync>(rt: &R, options
 #[test]
 fn histories_of_two_owners(rt: HostRuntime) {
     let mut played: u32 = 0;
-    for &options in CROWDS {
+    for (row, &options) in CROWDS.iter().enumerate() {
+        let rt = Row { rt: &rt, row };
         let again = play_again(|| plays_legally(&rt, options));
         played = played.saturating_add(again);
     }
@@ -201,8 +205,9 @@ fn is_refused_in_threads<R: AllocGlobal + Abort + Threads + Wait + Sync>(rt: &R,
 #[test]
 fn refused_memory_in_a_cycle(rt: HostRuntime) {
     let mut refused: u32 = 0;
-    for nth in 1..=60u64 {
-        if is_refused_in_threads(&rt, nth) {
+    for nth in 1..=60u32 {
+        let row = nth as usize;
+        if is_refused_in_threads(&Row { rt: &rt, row }, nth.into()) {
             refused = refused.saturating_add(1);
         }
     }
