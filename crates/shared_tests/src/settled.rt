@@ -6,7 +6,7 @@ ghost use Rattle.std.specs.List.{AllByRecursion};
 ghost use Rattle.rh_increment.specs.Settling.{IsNewHere, pairs_of};
 ghost use Rattle.shared_tests.specs.Beside.{AreEndsOf};
 
-use crate::expectations::{expect_equal, play_again};
+use crate::expectations::{Row, expect_equal, play_again};
 use crate::gates::LOOKS;
 use crate::starts::{EAGER, SMALL};
 use crate::threads::calls_of_owner;
@@ -192,14 +192,14 @@ fn settle_all<B: Rings, R: Abort>(
         taken,
         ..
     } = crowded;
-    let (mut rings, mut received, mut read): (u64, u64, u64) = (0, 0, 0);
+    let (mut rings, mut received, mut read): (usize, u64, u64) = (0, 0, 0);
     for own in ended {
+        let rt = &Row { rt, row: rings };
         let (replicator, end) = own;
         expect_equal(rt, end, RunEnd::Stopped);
         let done = replicator.finish().expect(rt, "the heap's ends are there");
-        let counted = folds
-            .get(done.replicator() as usize)
-            .expect(rt, "its folds");
+        let number = done.replicator() as usize;
+        let counted = folds.get(number).expect(rt, "its folds");
         let settled = kept.settle(done);
         let handed = counted.handed.load(Ordering::SeqCst);
         expect_equal(rt, settled.received.saturating_add(settled.left), handed);
