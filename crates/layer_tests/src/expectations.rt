@@ -4,14 +4,18 @@
 use std::fmt::{Debug, Display};
 use std::process::Abort;
 
-/// Ends the test unless the two are equal, and shows both then.
-pub fn expect_equal<T: PartialEq + Debug + Drop>(rt: &impl Abort, left: T, right: T) {
-    assert_eq!(rt; left, right);
+/// Ends the test unless the two are equal, and shows both then: left what was got, right what was
+/// wanted.
+pub fn expect_equal<T: PartialEq + Debug + Drop>(rt: &impl Abort, got: T, wanted: T) {
+    assert_eq!(rt; got, wanted);
 }
 
 /// Ends the test unless so many allocations or more were refused in turn.
 pub fn expect_refusals(rt: &impl Abort, refused: Result<u64, u64>, least: u64) {
-    assert!(rt; refused.is_ok_and(|n| n >= least), "{refused:?}");
+    assert!(rt;
+        refused.is_ok_and(|n| n >= least),
+        "{refused:?}, wanted {least} or more"
+    );
 }
 
 /// Ends the test unless the value is shown as this text.

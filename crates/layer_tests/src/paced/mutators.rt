@@ -218,7 +218,7 @@ fn play<M: Allocator + Copy>(
         let answer = paced.command(1, command);
         assert!(rt; answer.is_ok(), "{answer:?}");
         let due = plain.command(1, command);
-        expect_equal(rt, due, answer.map_err(CommandError::Refused));
+        expect_equal(rt, answer.map_err(CommandError::Refused), due);
     }
 }
 
