@@ -1,6 +1,6 @@
 //! Heaps that live long in a small space.
 
-use crate::both::Both;
+use crate::both::{Both, count};
 use crate::expectations::{expect_each, expect_equal, expect_limit, expect_same_dump};
 use crate::numbers::Numbers;
 use rh_core::Config;
@@ -47,7 +47,7 @@ const SMALL: Config = Config {
     ratio: 8,
     owners: 3,
     slots: 4,
-    log_limit: 8,
+    log_limit: 2,
     last_number: 1 << 62,
     last_epoch: 1 << 62,
 };
@@ -56,7 +56,7 @@ const SMALL: Config = Config {
 const PACE: Pace = Pace {
     mark: 40,
     store_units: 8,
-    log_limit: 8,
+    log_limit: 2,
 };
 
 /// A paced heap, the heap that never moves beside it, and what was counted.
@@ -64,9 +64,12 @@ const PACE: Pace = Pace {
 struct Paced {
     paced: PacedHeap<Global>,
     plain: Plain<Global>,
-    /// Answers that weren't limits', and those that were.
+    /// Answers that weren't limits', and refusals for want of room and of a log.
     answers: u64,
-    limits: u64,
+    full: u64,
+    logs_full: u64,
+    /// Stores that were insisted on and done where the log was full.
+    logs_emptied: u64,
     /// Flips by `collect`.
     collected: u64,
 }
@@ -99,12 +102,20 @@ impl Paced {
                 expect_limit(rt, refusal, &command, &before, SMALL.log_limit);
                 expect_equal(rt, self.paced.stat(), before);
             }
-            self.limits = self.limits.saturating_add(1);
+            count(match refusal {
+                Refusal::LogFull => &mut self.logs_full,
+                _ => &mut self.full,
+            });
             return;
         }
         let plain = self.plain.command(owner, &command);
         expect_equal(rt, plain, answer.map_err(CommandError::Refused));
-        self.answers = self.answers.saturating_add(1);
+        count(&mut self.answers);
+        let was_full = before.cycle && before.log == u64::from(SMALL.log_limit);
+        if was_full && answer.is_ok() && matches!(command, Command::Store { .. }) {
+            assert!(rt; insists);
+            count(&mut self.logs_emptied);
+        }
     }
 
     /// An increment beside a command, or a collection on demand, now and then.
@@ -118,7 +129,7 @@ impl Paced {
                 assert!(rt; self.paced.collect().is_ok());
                 let stat = self.paced.stat();
                 assert!(rt; stat.flips > flips && !stat.cycle);
-                self.collected = self.collected.saturating_add(1);
+                count(&mut self.collected);
                 expect_same_dump(rt, rt.alloc(), self.paced.heap(), &self.plain);
             }
             _ => {}
@@ -136,7 +147,9 @@ fn a_paced_heap_through_a_thousand_cycles(rt: HostRuntime) {
             .ok()
             .expect(&rt, "a plain heap"),
         answers: 0,
-        limits: 0,
+        full: 0,
+        logs_full: 0,
+        logs_emptied: 0,
         collected: 0,
     };
     let mut numbers = Numbers { state: 2 };
@@ -148,7 +161,8 @@ fn a_paced_heap_through_a_thousand_cycles(rt: HostRuntime) {
     }
     expect_equal(&rt, paced.paced.stat().flips, 1000);
     expect_each(&rt, &[paced.answers], 10_000);
-    expect_each(&rt, &[paced.limits, paced.collected], 10);
+    expect_each(&rt, &[paced.full, paced.logs_full, paced.collected], 10);
+    expect_each(&rt, &[paced.logs_emptied], 3);
     assert!(rt; paced.collected < 300, "{}", paced.collected);
     expect_same_dump(&rt, rt.alloc(), paced.paced.heap(), &paced.plain);
 }
