@@ -27,14 +27,45 @@ pub const TIGHT: Config = Config {
     last_epoch: 1 << 62,
 };
 
+/// How many entries that were given were of each class, and how many objects were placed for them.
+#[derive(Drop)]
+pub struct Classes {
+    pub joined: u64,
+    pub repeated: u64,
+    pub stale: u64,
+    pub placed: u64,
+}
+
+impl Classes {
+    /// No entries.
+    fn none() -> Classes {
+        Classes {
+            joined: 0,
+            repeated: 0,
+            stale: 0,
+            placed: 0,
+        }
+    }
+
+    /// Adds what a give was answered.
+    fn add(&mut self, answer: Answer) {
+        if let Ok(given) = answer {
+            self.joined = self.joined.saturating_add(given.joined.into());
+            self.repeated = self.repeated.saturating_add(given.repeated.into());
+            self.stale = self.stale.saturating_add(given.stale.into());
+            self.placed = self.placed.saturating_add(given.placed.into());
+        }
+    }
+}
+
 /// How often something came about.
 #[derive(Drop)]
 pub struct Counts {
     /// Gives by their answers, in the order of the refusals, those that were accepted last.
     pub gives: [u64; 8],
-    /// Entries of replicas that nobody dealt which were joined, and objects placed for them.
-    pub joined: u64,
-    pub placed: u64,
+    /// The entries of replicas that nobody dealt, and of those that were dealt.
+    pub invented: Classes,
+    pub dealt: Classes,
     /// Commands that the plain heap answered, and refusals for want of room and of a log.
     pub commands: u64,
     pub full: u64,
@@ -128,8 +159,8 @@ impl<A: Allocator + Copy> Both<A> {
             recalled: false,
             counts: Counts {
                 gives: [0; 8],
-                joined: 0,
-                placed: 0,
+                invented: Classes::none(),
+                dealt: Classes::none(),
                 commands: 0,
                 full: 0,
                 logs_full: 0,
@@ -239,7 +270,8 @@ impl<A: Allocator + Copy> Both<A> {
     /// A replica that was dealt is given.
     fn give(&mut self, rt: &impl Abort, chosen: usize) {
         if let Some(replica) = self.replicas.get(chosen) {
-            let _ = give(rt, &mut self.heap, &mut self.account, replica);
+            let answer = give(rt, &mut self.heap, &mut self.account, replica);
+            self.counts.dealt.add(answer);
         }
     }
 
@@ -444,11 +476,7 @@ impl<A: Allocator + Copy> Both<A> {
         if let Some(number) = self.counts.gives.get_mut(place_of(answer)) {
             count(number);
         }
-        if let Ok(given) = answer {
-            let counts = &mut self.counts;
-            counts.joined = counts.joined.saturating_add(given.joined.into());
-            counts.placed = counts.placed.saturating_add(given.placed.into());
-        }
+        self.counts.invented.add(answer);
     }
 
     /// One event of any kind. The heap's numbers are then as the account has them.

@@ -32,8 +32,12 @@ fn a_heap_through_a_thousand_cycles(rt: HostRuntime) {
         gives = gives.saturating_add(count);
     }
     expect_each(&rt, &[gives], 1000);
-    expect_each(&rt, &[counts.joined], 1000);
-    expect_each(&rt, &[counts.placed, counts.idles_spent], 40);
+    let (invented, dealt) = (&counts.invented, &counts.dealt);
+    expect_each(&rt, &[invented.joined, dealt.joined], 1000);
+    expect_each(&rt, &[invented.repeated, dealt.repeated], 1000);
+    expect_each(&rt, &[invented.stale, dealt.stale], 10);
+    expect_each(&rt, &[invented.placed, dealt.placed], 40);
+    expect_each(&rt, &[counts.idles_spent], 40);
     expect_each(&rt, &[counts.commands], 20_000);
     expect_each(&rt, &[counts.full], 500);
     expect_each(&rt, &[counts.logs_full], 40);
