@@ -58,10 +58,9 @@ pub fn expect_same_dump<A: Allocator + Copy>(
     heap: &Heap<A>,
     plain: &Plain<A>,
 ) {
-    if plain.objects() <= MAX_OBJECTS as usize {
-        let moving = graph(memory, heap).ok().expect(rt, "memory is ample");
-        let still = plain_graph(memory, plain);
-        let still = still.ok().expect(rt, "memory is ample");
-        assert!(rt; same_text(&moving, &still));
-    }
+    assert!(rt; plain.objects() <= MAX_OBJECTS as usize);
+    let moving = graph(memory, heap).ok().expect(rt, "memory is ample");
+    let still = plain_graph(memory, plain);
+    let still = still.ok().expect(rt, "memory is ample");
+    assert!(rt; same_text(&moving, &still));
 }
