@@ -192,7 +192,7 @@ impl<A: Allocator + Copy> Both<A> {
             }
             _ => {
                 let plain = self.plain.command(owner, &command);
-                expect_equal(rt, plain, answer.map_err(CommandError::Refused));
+                expect_equal(rt, answer.map_err(CommandError::Refused), plain);
                 count(&mut self.counts.commands);
                 if self.account.on && answer.is_ok() {
                     self.account.note(&command, TIGHT.ratio);
@@ -239,7 +239,7 @@ impl<A: Allocator + Copy> Both<A> {
             let place = self.account.dealt_before(&self.heap, left);
             expect_equal(rt, Some(item.place()), place);
             let current = self.heap.field(item.object, item.field);
-            expect_equal(rt, current, Some((item.number, item.value)));
+            expect_equal(rt, Some((item.number, item.value)), current);
         }
     }
 

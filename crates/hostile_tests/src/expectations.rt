@@ -10,14 +10,16 @@ use std::alloc::Allocator;
 use std::fmt::Debug;
 use std::process::Abort;
 
-/// Ends the test unless the two are equal, and shows both then.
-pub fn expect_equal<T: PartialEq + Debug + Drop>(rt: &impl Abort, left: T, right: T) {
-    assert_eq!(rt; left, right);
+/// Ends the test unless the two are equal, and shows both then: left what was got, right what was
+/// wanted.
+pub fn expect_equal<T: PartialEq + Debug + Drop>(rt: &impl Abort, got: T, wanted: T) {
+    assert_eq!(rt; got, wanted);
 }
 
 /// Ends the test unless each of these was counted so often or more.
 pub fn expect_each(rt: &impl Abort, counts: &[u64], least: u64) {
-    assert!(rt; counts.iter().all(|count| *count >= least), "{counts:?}");
+    let are_met = counts.iter().all(|count| *count >= least);
+    assert!(rt; are_met, "{counts:?}, wanted {least} or more");
 }
 
 /// Ends the test unless the limit that is told of stood in the way of the command, in the heap that
@@ -43,12 +45,15 @@ pub fn expect_limit(
         }
         _ => false,
     };
-    assert!(rt; stands, "{refusal:?} {before:?}");
+    assert!(rt; stands, "{command:?} {refusal:?} {before:?}");
 }
 
 /// Ends the test unless so many allocations or more were refused in turn.
 pub fn expect_refusals(rt: &impl Abort, refused: Result<u64, u64>, least: u64) {
-    assert!(rt; refused.is_ok_and(|n| n >= least), "{refused:?}");
+    assert!(rt;
+        refused.is_ok_and(|n| n >= least),
+        "{refused:?}, wanted {least} or more"
+    );
 }
 
 /// Ends the test unless a heap and a plain heap have the same dump.

@@ -113,7 +113,7 @@ impl Paced {
             return;
         }
         let plain = self.plain.command(owner, &command);
-        expect_equal(rt, plain, answer.map_err(CommandError::Refused));
+        expect_equal(rt, answer.map_err(CommandError::Refused), plain);
         count(&mut self.answers);
         let was_full = before.cycle && before.log == u64::from(SMALL.log_limit);
         if was_full && answer.is_ok() && matches!(command, Command::Store { .. }) {

@@ -178,7 +178,7 @@ fn graphs<R: AllocGlobal + Abort, M: Allocator + Copy>(rt: &R, memory: M, size: 
     for _ in 0..size {
         for command in LINK {
             let answer = heap.command(1, command).ok();
-            expect_equal(rt, plain.command(1, command).ok(), answer);
+            expect_equal(rt, answer, plain.command(1, command).ok());
         }
     }
     let moving = graph(memory, &heap).ok()?;
