@@ -25,11 +25,7 @@ fn trace<R: AllocGlobal + Abort>(rt: &R, numbers: &mut Numbers) -> Result<Vec<u8
 
 /// Plays a trace in threads: the heap closes with the calls of all, and the history that it printed
 /// is legal. Answers how many words the objects take that were made in it.
-fn play<R: AllocGlobal + Abort + Threads + Wait + Sync>(
-    rt: &R,
-    text: &[u8],
-    idle: u32,
-) -> Result<u64, Fail> {
+fn play<R: AllocGlobal + Abort + Threads + Wait + Sync>(rt: &R, text: &[u8], idle: u32) -> u64 {
     let options = RunOptions {
         replicators: 4,
         idle,
@@ -37,9 +33,10 @@ fn play<R: AllocGlobal + Abort + Threads + Wait + Sync>(
     let mut written = Vec::new(rt.alloc());
     let ended = run_shared(rt, rt.alloc(), &mut { text }, &mut written, options);
     expect_equal(rt, ended, Ok(()));
-    let history = read_history(rt.alloc(), &written).ok().ok_or("a history")?;
+    let history = read_history(rt.alloc(), &written).ok();
+    let history = history.expect(rt, "a history");
     let Some(Verdict::Legal(calls)) = check(rt.alloc(), &history).ok() else {
-        return Err(Fail::from("the history isn't legal"));
+        panic!(rt; "the history isn't legal");
     };
     expect_equal(rt, calls as usize, history.calls().len());
     let mut words: u64 = 0;
@@ -48,7 +45,7 @@ fn play<R: AllocGlobal + Abort + Threads + Wait + Sync>(
             words = words.saturating_add(2).saturating_add(shape.fields.into());
         }
     }
-    Ok(words)
+    words
 }
 
 #[test]
@@ -57,7 +54,7 @@ fn four_mutators_and_four_replicators(rt: HostRuntime) -> Result<(), Fail> {
     let (mut runs, mut collected): (u64, u64) = (0, 0);
     for _ in 0..100u32 {
         let text = trace(&rt, &mut numbers)?;
-        let words = play(&rt, &text, numbers.below(4))?;
+        let words = play(&rt, &text, numbers.below(4));
         // More than the space has: what isn't reached was collected.
         if words > 192 {
             collected = collected.saturating_add(1);
