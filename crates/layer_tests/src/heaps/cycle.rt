@@ -4,7 +4,7 @@ ghost use Rattle.std.specs.Prelude.{◌≡◌, true, Err};
 ghost use Rattle.rh_core.specs.declared.errors.BeginError.TheVariants.{CycleOn};
 
 use crate::commands::{SIZES, alloc, item, replica_of, root, store};
-use crate::expectations::expect_equal;
+use crate::expectations::{Row, expect_equal};
 use rh_core::laws::a_command_leaves_the_cycle;
 use rh_core::laws::cycles::a_cycle_begins_with_nothing_placed;
 use rh_core::{BeginError, Config, FlipError, Heap, IdleError, Kind, NoCycle, RecallError, Shaded};
@@ -16,7 +16,8 @@ use std::process::Abort;
 /// Where the first epoch is the last one no cycle begins, and after it where the second one is.
 #[test]
 fn the_last_epoch(rt: HostRuntime) {
-    for &last_epoch in &[1, 2] {
+    for (row, &last_epoch) in [1, 2].iter().enumerate() {
+        let rt = Row { rt: &rt, row };
         let sizes = Config {
             last_epoch,
             ..SIZES
@@ -59,7 +60,8 @@ fn idle_words(rt: HostRuntime) {
     expect_equal(&rt, heap.idle(0), Err(IdleError::NoCycle));
     expect_equal(&rt, heap.begin(), Ok(1));
     expect_equal(&rt, heap.idle(most), Ok(most));
-    for words in [1, u64::MAX] {
+    for (row, &words) in [1, u64::MAX].iter().enumerate() {
+        let rt = Row { rt: &rt, row };
         expect_equal(&rt, heap.idle(words), Err(IdleError::IdleSpent));
     }
     expect_equal(&rt, (heap.stat().idle, heap.stat().granted), (most, 0));
@@ -93,7 +95,8 @@ fn first_placed(rt: &impl Abort, mut heap: Heap, fields: u32, stores: &[Command]
     expect_equal(rt, heap.begin(), Ok(1));
     let answer = begins_after(&mut heap, 1, &alloc(SECOND, 1));
     expect_equal(rt, answer, Err(BeginError::CycleOn));
-    for command in stores {
+    for (row, command) in stores.iter().enumerate() {
+        let rt = &Row { rt, row };
         assert!(rt; heap.command(1, command).is_ok());
     }
     expect_equal(rt, heap.shade(FIRST), Ok(Shaded::Placed));
@@ -150,12 +153,14 @@ fn copies_of_deals(rt: HostRuntime) {
     ];
     let copies = deals(&rt, &mut heap, Kind::Copies, 0, &items);
     assert!(rt; heap.give(&replica_of(&rt, rt.alloc(), &copies)).is_ok());
-    for item in &items {
+    for (row, item) in items.iter().enumerate() {
+        let rt = Row { rt: &rt, row };
         let pair = replica_pair(&rt, &heap, item.object, item.field);
         expect_equal(&rt, pair, (item.number, item.value));
     }
     assert!(rt; heap.flip().is_ok());
-    for item in &items {
+    for (row, item) in items.iter().enumerate() {
+        let rt = Row { rt: &rt, row };
         let pair = heap.field(item.object, item.field);
         expect_equal(&rt, pair, Some((item.number, item.value)));
     }

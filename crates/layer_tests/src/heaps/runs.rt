@@ -1,7 +1,7 @@
 //! Runs of events.
 
 use crate::commands::{SIZES, alloc, drop_root, item, piece, root, store};
-use crate::expectations::{expect_equal, expect_refusals};
+use crate::expectations::{Row, expect_equal, expect_refusals};
 use refusing::refused_in_turn;
 use rh_core::laws::runs::{
     a_run_keeps_what_was_dealt_logged_and_granted, an_event_answers_as_the_plain_heap,
@@ -143,7 +143,8 @@ fn is_refused_a_run<A: Allocator + Copy>(
         expect_equal(rt, heap.run(events, answers), Ok(()));
     }
     expect_equal(rt, answers.len(), CYCLE.len());
-    for (answer, due) in answers.iter().zip(CYCLE) {
+    for (row, (answer, due)) in answers.iter().zip(CYCLE).enumerate() {
+        let rt = &Row { rt, row };
         expect_equal(rt, told(answer), Some(*due));
     }
     // 40 units were granted; an object placed, two copies and an entry dealt, six entries given and

@@ -5,7 +5,7 @@ ghost use Rattle.rh_space.specs.Space.{HasWord};
 ghost use Rattle.rh_place.specs.Mirrors.{IsHoldable, Mirrors};
 
 use crate::commands::item;
-use crate::expectations::expect_equal;
+use crate::expectations::{Row, expect_equal};
 use rh_layout::limits::MAX_NUMBER;
 use rh_layout::{Item, Place, Value, value_of, word_of};
 use rh_place::laws::from_space_goes_on;
@@ -398,16 +398,17 @@ const PLAYS: &[([u32; 3], &[&[Step]])] = &[
 /// Plays steps on new spaces.
 fn play<R: AllocGlobal + Abort>(rt: &R, objects: [u32; 3], parts: &[&[Step]]) {
     let mut spaces = Spaces::of(rt, objects);
-    for &steps in parts {
-        for &step in steps {
-            spaces.play_step(rt, step);
+    for (row, &steps) in parts.iter().enumerate() {
+        let rt = &Row { rt, row };
+        for (row, &step) in steps.iter().enumerate() {
+            spaces.play_step(&Row { rt, row }, step);
         }
     }
 }
 
 #[test]
 fn plays(rt: HostRuntime) {
-    for &(objects, parts) in PLAYS {
-        play(&rt, objects, parts);
+    for (row, &(objects, parts)) in PLAYS.iter().enumerate() {
+        play(&Row { rt: &rt, row }, objects, parts);
     }
 }

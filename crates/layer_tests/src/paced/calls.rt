@@ -1,7 +1,7 @@
 //! Calls of a paced heap, and what each increment did.
 
 use crate::commands::{drop_root, root, store};
-use crate::expectations::expect_equal;
+use crate::expectations::{Row, expect_equal};
 use rh_core::{Config, Flipped};
 use rh_layout::{Command, Operand, Refusal, Reply, RootId, Value};
 use rh_pace::{Did, Pace, PacedHeap};
@@ -140,7 +140,8 @@ pub fn small_heap<M: Allocator + Copy>(rt: &impl Abort, memory: M, sizes: Config
 
 /// Plays steps, and checks each answer and what was done.
 pub fn play<M: Allocator + Copy>(rt: &impl Abort, heap: &mut PacedHeap<M>, steps: &[Step]) {
-    for (command, answer, done) in steps {
+    for (row, (command, answer, done)) in steps.iter().enumerate() {
+        let rt = &Row { rt, row };
         let before = heap.last_did();
         expect_equal(rt, heap.command(1, command), *answer);
         let told = match *done {

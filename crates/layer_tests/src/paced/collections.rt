@@ -1,7 +1,7 @@
 //! Collections on demand.
 
 use crate::commands::{alloc, store};
-use crate::expectations::expect_equal;
+use crate::expectations::{Row, expect_equal};
 use crate::paced::calls::{SIZES, STEPS, play, small_heap};
 use rh_core::{Config, Flipped};
 use rh_layout::{Command, Operand, Refusal, Reply, RootId};
@@ -32,7 +32,8 @@ const STAGES: &[(usize, u32, u32)] = &[
 /// placed. A second one begins anew.
 #[test]
 fn from_each_stage(rt: HostRuntime) {
-    for &(steps, roots, live_words) in STAGES {
+    for (row, &(steps, roots, live_words)) in STAGES.iter().enumerate() {
+        let rt = Row { rt: &rt, row };
         let mut heap = small_heap(&rt, rt.alloc(), SIZES);
         for step in STEPS.iter().take(steps) {
             let _ = heap.command(1, &step.0);

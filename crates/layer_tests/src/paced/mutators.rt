@@ -1,6 +1,6 @@
 //! Programs in exactly the space that the rule of pacing gives them.
 
-use crate::expectations::expect_equal;
+use crate::expectations::{Row, expect_equal};
 use rh_layout::{Command, Operand, RootId};
 use rh_model::{CommandError, Plain};
 use rh_pace::{Pace, PaceError, PacedHeap};
@@ -214,7 +214,8 @@ fn play<M: Allocator + Copy>(
     plain: &mut Plain<M>,
     commands: &[Command],
 ) {
-    for command in commands {
+    for (row, command) in commands.iter().enumerate() {
+        let rt = &Row { rt, row };
         let answer = paced.command(1, command);
         assert!(rt; answer.is_ok(), "{answer:?}");
         let due = plain.command(1, command);
@@ -259,9 +260,10 @@ fn run<R: AllocGlobal + Abort>(rt: &R, program: &Program, ratio: u32) {
 #[test]
 fn programs_in_the_least_space(rt: HostRuntime) {
     let mut runs: u32 = 0;
-    for program in PROGRAMS {
-        for ratio in [4, 8, 32] {
-            run(&rt, program, ratio);
+    for (row, program) in PROGRAMS.iter().enumerate() {
+        let rt = Row { rt: &rt, row };
+        for (row, &ratio) in [4, 8, 32].iter().enumerate() {
+            run(&Row { rt: &rt, row }, program, ratio);
             runs = runs.saturating_add(1);
         }
     }

@@ -1,15 +1,15 @@
 //! Paces, as the rule gives them.
 
-use crate::expectations::{expect_equal, expect_texts};
+use crate::expectations::{Row, expect_equal, expect_texts};
 use rh_core::Config;
 use rh_pace::{DEFAULT_PACE_RATIO, EpochsSpent, Pace, PaceError};
 
 /// What is asked, words, live words, the biggest object's words and the ratio, and the mark and the
 /// log limit that are told; the pace's store pays the ratio.
-type Row = ([u32; 4], Result<(u32, u32), PaceError>);
+type PaceRow = ([u32; 4], Result<(u32, u32), PaceError>);
 
 /// The least lag of 100 live words at ratio 8 is 61: 61 * 5 is 305.
-const LEAST: &[Row] = &[
+const LEAST: &[PaceRow] = &[
     ([1_000, 100, 10, 3], Err(PaceError::RatioTooLow)),
     ([1_000, 100, 10, 4], Ok((325, 307))),
     ([1_000, 100, 10, 8], Ok((81, 63))),
@@ -35,7 +35,7 @@ const LEAST: &[Row] = &[
 ];
 
 /// The live words that are asked for stand for nothing here.
-const FILLING: &[Row] = &[
+const FILLING: &[PaceRow] = &[
     ([1_000, 0, 10, 3], Err(PaceError::RatioTooLow)),
     ([1_000, 0, 10, 8], Ok((283, 265))),
     ([100, 0, 10, 8], Ok((37, 19))),
@@ -57,7 +57,8 @@ fn pace_of(told: (u32, u32), ratio: u32) -> Pace {
 
 #[test]
 fn least_paces(rt: HostRuntime) {
-    for &([words, live, biggest, ratio], told) in LEAST {
+    for (row, &([words, live, biggest, ratio], told)) in LEAST.iter().enumerate() {
+        let rt = Row { rt: &rt, row };
         let pace = told.map(|told| pace_of(told, ratio));
         expect_equal(&rt, Pace::of(words, live, biggest, ratio), pace);
     }
@@ -65,7 +66,8 @@ fn least_paces(rt: HostRuntime) {
 
 #[test]
 fn filling_paces(rt: HostRuntime) {
-    for &([words, _, biggest, ratio], told) in FILLING {
+    for (row, &([words, _, biggest, ratio], told)) in FILLING.iter().enumerate() {
+        let rt = Row { rt: &rt, row };
         let pace = told.map(|told| pace_of(told, ratio));
         expect_equal(&rt, Pace::filling(words, biggest, ratio), pace);
     }
