@@ -6,9 +6,44 @@ use rh_dump::{plain_graph, same_text};
 use rh_layout::{Command, Refusal};
 use rh_model::Plain;
 use rh_trace::graph;
-use std::alloc::Allocator;
-use std::fmt::Debug;
+use std::alloc::{Allocator, Global};
+use std::fmt::{Debug, Display};
 use std::process::Abort;
+use std::sync::Wait;
+use std::thread::Threads;
+
+/// The handle of a row of a table: what fails under it is told with the row's number, from 0.
+#[derive(Drop)]
+pub struct Row<'a, R> {
+    pub rt: &'a R,
+    pub row: usize,
+}
+
+impl<R: AllocGlobal> Alloc for Row<'_, R> {
+    type A = Global;
+
+    fn alloc(&self) -> Global {
+        self.rt.alloc()
+    }
+}
+
+impl<R: Wait> Wait for Row<'_, R> {}
+
+impl<R: Threads> Threads for Row<'_, R> {}
+
+impl<R: Abort> Abort for Row<'_, R> {
+    fn abort(&self) -> ! {
+        self.rt.abort()
+    }
+
+    fn exit(&self, code: i32) -> ! {
+        self.rt.exit(code)
+    }
+
+    fn panic<D: Display + Drop>(&self, message: D) -> ! {
+        self.rt.panic(format_args!("row {}: {message}", self.row))
+    }
+}
 
 /// Ends the test unless the two are equal, and shows both then: left what was got, right what was
 /// wanted.

@@ -1,7 +1,7 @@
 //! Heaps that live long in a small space.
 
 use crate::both::{Both, count};
-use crate::expectations::{expect_each, expect_equal, expect_limit, expect_same_dump};
+use crate::expectations::{Row, expect_each, expect_equal, expect_limit, expect_same_dump};
 use crate::numbers::Numbers;
 use rh_core::Config;
 use rh_layout::{Command, Refusal, Reply};
@@ -11,7 +11,7 @@ use std::alloc::{Allocator, Global};
 use std::process::Abort;
 
 /// More events than a thousand cycles take.
-const MANY: u32 = 400_000;
+const MANY: usize = 400_000;
 
 /// A heap whose collector does anything at any moment, gives what nobody dealt, loses pieces, recalls
 /// and abandons: each answer is that of the heap that never moves, or the definition's.
@@ -19,7 +19,8 @@ const MANY: u32 = 400_000;
 fn a_heap_through_a_thousand_cycles(rt: HostRuntime) {
     let mut both = Both::new(&rt, rt.alloc());
     let mut numbers = Numbers { state: 1 };
-    for _ in 0..MANY {
+    for row in 0..MANY {
+        let rt = Row { rt: &rt, row };
         if both.heap.stat().flips < 1000 {
             both.live(&rt, &mut numbers);
         }
@@ -157,7 +158,8 @@ fn a_paced_heap_through_a_thousand_cycles(rt: HostRuntime) {
         collected: 0,
     };
     let mut numbers = Numbers { state: 2 };
-    for _ in 0..MANY {
+    for row in 0..MANY {
+        let rt = Row { rt: &rt, row };
         if paced.paced.stat().flips < 1000 {
             paced.command(&rt, &mut numbers);
             paced.collect(&rt, &mut numbers);

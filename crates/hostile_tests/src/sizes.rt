@@ -1,6 +1,6 @@
 //! Memory that is refused where something grows, at sizes around those at which vectors grow.
 
-use crate::expectations::{expect_equal, expect_refusals};
+use crate::expectations::{Row, expect_equal, expect_refusals};
 use refusing::refused_in_turn;
 use rh_core::{Config, Event, Heap, HeapError};
 use rh_dump::limits::MAX_OBJECTS;
@@ -228,19 +228,20 @@ fn shared<M: Allocator + Copy>(rt: &impl Abort, memory: M, size: u32) -> Option<
 #[test]
 fn memory_is_wanted_only_where_a_growth_is_refused(rt: HostRuntime) {
     let mut tried: u32 = 0;
-    for &size in SIZES {
+    for (row, &size) in SIZES.iter().enumerate() {
+        let rt = &Row { rt: &rt, row };
         let refused = refused_in_turn(rt.alloc(), |memory| {
-            map(&rt, memory, size).is_none()
-                || replica(&rt, memory, size).is_none()
-                || plain(&rt, memory, size).is_none()
-                || run(&rt, memory, size).is_none()
-                || graphs(&rt, memory, size).is_none()
-                || history(&rt, memory, size).is_none()
-                || shared(&rt, memory, size).is_none()
+            map(&Row { rt, row: 0 }, memory, size).is_none()
+                || replica(&Row { rt, row: 1 }, memory, size).is_none()
+                || plain(&Row { rt, row: 2 }, memory, size).is_none()
+                || run(&Row { rt, row: 3 }, memory, size).is_none()
+                || graphs(&Row { rt, row: 4 }, memory, size).is_none()
+                || history(&Row { rt, row: 5 }, memory, size).is_none()
+                || shared(&Row { rt, row: 6 }, memory, size).is_none()
         });
         // Four of a map, four of a replica, three of a plain heap, of a heap and of each graph, two
         // of a history, and ten of a shared heap and a replicator's rings.
-        expect_refusals(&rt, refused, 30);
+        expect_refusals(rt, refused, 30);
         tried = tried.saturating_add(1);
     }
     expect_equal(&rt, tried, 9);

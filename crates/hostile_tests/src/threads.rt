@@ -1,6 +1,6 @@
 //! Four mutators and four replicators, in a small space with small rings.
 
-use crate::expectations::{expect_each, expect_equal};
+use crate::expectations::{Row, expect_each, expect_equal};
 use crate::numbers::Numbers;
 use rh_replay::{Verdict, check, read_history};
 use rh_shared_trace::{RunOptions, run_shared};
@@ -52,7 +52,8 @@ fn play<R: AllocGlobal + Abort + Threads + Wait + Sync>(rt: &R, text: &[u8], idl
 fn four_mutators_and_four_replicators(rt: HostRuntime) -> Result<(), Fail> {
     let mut numbers = Numbers { state: 3 };
     let (mut runs, mut collected): (u64, u64) = (0, 0);
-    for _ in 0..100u32 {
+    for row in 0..100usize {
+        let rt = Row { rt: &rt, row };
         let text = trace(&rt, &mut numbers)?;
         let words = play(&rt, &text, numbers.below(4));
         // More than the space has: what isn't reached was collected.
