@@ -1,5 +1,5 @@
-//! Tests of hostile use: replicas that nobody dealt, long lives in small spaces, threads that get in
-//! each other's way, and memory that is refused at each size.
+//! Tests of hostile use: replicas that nobody dealt, long lives in small spaces, threads that get
+//! in each other's way, and memory that is refused at each size.
 #![tactic(auto)]
 
 #[cfg(test)]

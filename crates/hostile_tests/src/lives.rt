@@ -13,8 +13,8 @@ use std::process::Abort;
 /// More events than a thousand cycles take.
 const MANY: usize = 400_000;
 
-/// A heap whose collector does anything at any moment, gives what nobody dealt, loses pieces, recalls
-/// and abandons: each answer is that of the heap that never moves, or the definition's.
+/// A heap whose collector does anything at any moment, gives what nobody dealt, loses pieces,
+/// recalls and abandons: each answer is that of the heap that never moves, or the definition's.
 #[test]
 fn a_heap_through_a_thousand_cycles(rt: HostRuntime) {
     let mut both = Both::new(&rt, rt.alloc());

@@ -59,8 +59,8 @@ impl io::Read for InterruptedReader {
     }
 }
 
-/// A writer that keeps what it takes: at most `most` bytes of a write. Of two writes each, the first
-/// so many are interrupted, and it fails at its nth write.
+/// A writer that keeps what it takes: at most `most` bytes of a write. Of two writes each, the
+/// first so many are interrupted, and it fails at its nth write.
 #[derive(Drop)]
 pub struct SlowWriter {
     pub text: Vec<u8>,

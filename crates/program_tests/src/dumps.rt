@@ -14,8 +14,8 @@ use std::process::Abort;
 
 /// Traces, each with what its commands are answered, and the dump after it.
 const PLAYED: &[(&[u8], &[u8], &[u8])] = &[
-    // An object that refers to itself, and twice to another, which is met first through a field; and
-    // one that no root reaches.
+    // An object that refers to itself, and twice to another, which is met first through a field;
+    // and one that no root reaches.
     (
         b"heap 64 8 8 2 3\n1 alloc 1.0 3\n1 alloc 1.2 3\n1 alloc 1.1 0\n1 store 1.0 0 1.0\n\
             1 store 1.0 1 1.1\n1 store 1.0 2 1.1\n1 drop 1.1\n1 drop 1.2\n",

@@ -123,8 +123,8 @@ const TWO: Answer = Ok(Reply::Int(2));
 
 const NINE: Answer = Ok(Reply::Int(9));
 
-/// The mutators of owner 2 make the same calls, each on the heap that isn't its own. The fourth call
-/// reads another number on the other heap.
+/// The mutators of owner 2 make the same calls, each on the heap that isn't its own. The fourth
+/// call reads another number on the other heap.
 const EXCHANGED: &[Asked] = &[
     (true, 2, false, ALLOC_OWN, ONE_FIELD),
     (true, 2, false, STORE_TWO, DONE),

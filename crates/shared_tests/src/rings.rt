@@ -43,8 +43,8 @@ fn handed_back(stepped: Stepped) -> u64 {
     u64::from(matches!(stepped, Stepped::Folded(_)))
 }
 
-/// Calls, and steps that come in no order: each replica that was handed back was received, or is left
-/// in its ring, and each that was received was given or dropped, but for those that wait.
+/// Calls, and steps that come in no order: each replica that was handed back was received, or is
+/// left in its ring, and each that was received was given or dropped, but for those that wait.
 #[test]
 fn what_was_handed_back_is_settled(rt: HostRuntime) {
     let mut beside = beside_of(

@@ -1,5 +1,5 @@
-//! Four replicators and four mutators, each in a thread of its own, on one heap; and what went through
-//! the rings between them.
+//! Four replicators and four mutators, each in a thread of its own, on one heap; and what went
+//! through the rings between them.
 
 ghost use Rattle.std.specs.Prelude.{◌≡◌};
 ghost use Rattle.std.specs.List.{AllByRecursion};
@@ -176,8 +176,8 @@ fn call_all<B: Rings + Send, R: Threads + Wait + Sync>(rt: &R, crowded: &Mutex<C
 }
 
 /// Settles each ring: what was handed back came to the heap, or is left in the ring. Of what came
-/// all was given or dropped, but one for each ring that waits, and of what was pushed all was taken,
-/// but for what the rings have.
+/// all was given or dropped, but one for each ring that waits, and of what was pushed all was
+/// taken, but for what the rings have.
 fn settle_all<B: Rings, R: Abort>(
     rt: &R,
     crowded: Crowded<B>,

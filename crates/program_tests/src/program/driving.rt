@@ -55,8 +55,8 @@ pub fn drives_to<R: AllocGlobal + Abort + Threads + Wait + Sync>(
     expect_bytes(rt, &err, told);
 }
 
-/// Does what is asked where the read of this number, counted from 1, comes to the end, and each other
-/// is interrupted. Expects so many reads, and what is told.
+/// Does what is asked where the read of this number, counted from 1, comes to the end, and each
+/// other is interrupted. Expects so many reads, and what is told.
 fn expect_reads<R: AllocGlobal + Abort + Threads + Wait + Sync>(
     rt: &R,
     ask: &Ask<'_>,

@@ -70,8 +70,8 @@ const PLAYED: &[(Ask<'static>, &[u8], u8, &[u8])] = &[
     (DUMP, BESIDE_RAW, 0, b"roots 2 objects 2\n"),
 ];
 
-/// Does what is asked with a text that comes a byte a time, where the reads and writes fail that are
-/// counted so, at 0 none, and so many bytes of a write are taken. Answers the status, what was
+/// Does what is asked with a text that comes a byte a time, where the reads and writes fail that
+/// are counted so, at 0 none, and so many bytes of a write are taken. Answers the status, what was
 /// written, how often, and what was told.
 fn play<R: AllocGlobal + Abort + Threads + Wait + Sync>(
     rt: &R,
@@ -86,9 +86,9 @@ fn play<R: AllocGlobal + Abort + Threads + Wait + Sync>(
     (status, out, err)
 }
 
-/// Fails each write in turn, of which so many bytes are taken: one, or more than any write has. Then
-/// a run without a pace has written the lines before the failed one. Answers how many writes there
-/// are.
+/// Fails each write in turn, of which so many bytes are taken: one, or more than any write has.
+/// Then a run without a pace has written the lines before the failed one. Answers how many writes
+/// there are.
 fn fail_writes<R: AllocGlobal + Abort + Threads + Wait + Sync>(
     rt: &R,
     &(ask, text, status, answers): &(Ask<'static>, &[u8], u8, &[u8]),
@@ -177,8 +177,8 @@ fn first_and_last_reads_fail(rt: HostRuntime) {
     expect_equal(&rt, failed, 110);
 }
 
-/// What is asked, of which text, what is wrong with it where it is cut: before its first byte, within
-/// a line, and after a line, where it may be whole; and then the answers to the whole text.
+/// What is asked, of which text, what is wrong with it where it is cut: before its first byte,
+/// within a line, and after a line, where it may be whole; and then the answers to the whole text.
 const CUT: &[(Ask<'static>, &[u8], [&str; 3], &[u8])] = &[
     (RUN, WHOLE_CYCLE, ["Empty", "Cut", ""], WHOLE_CYCLE_ANSWERS),
     (PACED, TWO_FLIPS, ["Empty", "Cut", ""], TWO_FLIPS_ANSWERS),
@@ -188,9 +188,9 @@ const CUT: &[(Ask<'static>, &[u8], [&str; 3], &[u8])] = &[
     (DUMP, BESIDE_RAW, ["End", "End", "End"], b""),
 ];
 
-/// Does what is asked with a text that was cut, and expects what is wrong with it, if anything, to be
-/// told of the line after those that have ended. Else each line that is left out has one answer less,
-/// and the others, but for the last line, stay. Answers whether something was wrong.
+/// Does what is asked with a text that was cut, and expects what is wrong with it, if anything, to
+/// be told of the line after those that have ended. Else each line that is left out has one answer
+/// less, and the others, but for the last line, stay. Answers whether something was wrong.
 fn is_cut<R: AllocGlobal + Abort + Threads + Wait + Sync>(
     rt: &R,
     &(ask, whole, kinds, answers): &(Ask<'static>, &[u8], [&str; 3], &[u8]),
@@ -372,8 +372,8 @@ fn each_allocation_is_refused_at_sizes(rt: HostRuntime) -> Result<(), Fail> {
     Ok(())
 }
 
-/// Writes a text, three bytes a time, each write failing in turn: a prefix is left then. Answers how
-/// many writes there are.
+/// Writes a text, three bytes a time, each write failing in turn: a prefix is left then. Answers
+/// how many writes there are.
 fn fail_texts<R, F>(rt: &R, text: &[u8], write: F) -> u32
 where
     R: AllocGlobal + Abort,
