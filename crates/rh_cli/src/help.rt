@@ -49,9 +49,9 @@ With --paced the heap collects by itself, an increment of a cycle after each acc
 and in a cycle after each accepted store. The trace has commands alone: once it has been read a line
 of a cycle or a listing is the fault Word. A cycle begins where fewer than N words are free, as
 --mark N says; 0 begins none. Without it the program takes the lowest mark that keeps up with the
-biggest object that the trace asks for, refused ones too. It keeps up while no more is reached, as a
+biggest object that the trace asks for, also where it is refused. While no more is reached, as a
 cycle begins, than about 45, 68, 83 or 91 % of WORDS at RATIO 8, 16, 32 or 64, where objects are
-small; above that SpaceFull can come, and with a LOG below half of WORDS LogFull.
+small, SpaceFull doesn't come, nor LogFull where LOG is half of WORDS; above that both can come.
 
 Statuses:
   0  done; a refused line is an answer, and no failure
@@ -96,7 +96,7 @@ owner prints the same lines each time with --replicators 0.
 
   --replicators N  0 to 8, 2 where it isn't said. With 0 pieces are folded under the lock
   --idle N         0 to 65535, 0 where it isn't said: units of collector work that each increment in
-                   a cycle has beside those of allocation, so that a cycle ends with fewer of these
+                   a cycle has beside those of allocation; so it ends after fewer allocations
 
 Statuses:
   0  done; a refused line is an answer, and no failure
@@ -168,8 +168,8 @@ A dump is what the roots of a heap reach, as `dump` in a trace prints it:
 
 VALUE is nil (in objects alone), a whole number, or @K.
 
-On failure standard error has one line, as `rheap: line 3: Order`, or `rheap: ` and open failed, read
-failed, write failed or out of memory, as `rheap run --help` tells them.
+On failure standard error has one line, as `rheap: line 3: Order`, or `rheap: open failed`; the
+others are read failed, write failed and out of memory, as `rheap run --help` tells them.
 
 Faults of a line, of which the first that holds is told, the last three part by part, from left to
 right:
