@@ -92,6 +92,7 @@ fn a_text_that_is_cut_ends_too_early(rt: HostRuntime) {
     let kind = DumpKind::End;
     let mut line = 1u32;
     for (n, byte) in EACH_KIND.iter().enumerate() {
+        let rt = Row { rt: &rt, row: n };
         let mut reader = &EACH_KIND[..n];
         let fault = DumpReadError::Fault(DumpFault { line, kind });
         expect_equal(&rt, read_dump(rt.alloc(), &mut reader).err(), Some(fault));

@@ -126,7 +126,7 @@ fn the_first_fault_is_told(rt: HostRuntime) {
     }
 }
 
-/// The greatest sizes.
+/// The greatest sizes, of a heap and of what is shared.
 const WIDEST: Config = Config {
     words: 16_777_216,
     ratio: 64,

@@ -184,9 +184,9 @@ fn histories_of_two_owners(rt: HostRuntime) {
 }
 
 /// Refuses the nth allocation of a run of two owners, whose cycle begins where the fifth of their
-/// objects leaves less than half of the words. Answers whether the run says so: then it was, and
-/// nothing is written. Else the history is legal, be it that a replicator was refused it and asked
-/// again.
+/// objects leaves less than half of the words. Answers whether the run ends for want of memory: then
+/// some was refused, and nothing is written. Else the history is legal, be it that a replicator was
+/// refused some and asked again.
 fn is_refused_in_threads<R: AllocGlobal + Abort + Threads + Wait + Sync>(rt: &R, nth: u64) -> bool {
     let memory = RefusingAllocator::new(rt.alloc(), nth);
     let mut reader = SHARED;

@@ -224,9 +224,12 @@ fn texts_are_cut_after_each_byte(rt: HostRuntime) {
         let text = asked.1;
         let mut cut: usize = 0;
         let mut whole: usize = 0;
-        for row in 0..text.len() {
-            let rt = Row { rt: &rt, row };
-            if is_cut(&rt, asked, &text[..row]) {
+        for count in 0..text.len() {
+            let rt = Row {
+                rt: &rt,
+                row: count,
+            };
+            if is_cut(&rt, asked, &text[..count]) {
                 cut = cut.saturating_add(1);
             } else {
                 whole = whole.saturating_add(1);
