@@ -29,8 +29,8 @@ fn a_heap_through_a_thousand_cycles(rt: HostRuntime) {
     expect_equal(&rt, counts.flips, 1000);
     expect_each(&rt, &counts.gives, 100);
     let mut gives: u64 = 0;
-    for number in counts.gives {
-        gives = gives.saturating_add(number);
+    for count in counts.gives {
+        gives = gives.saturating_add(count);
     }
     expect_each(&rt, &[gives], 1000);
     let (invented, dealt) = (&counts.invented, &counts.dealt);

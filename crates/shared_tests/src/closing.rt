@@ -298,18 +298,16 @@ fn play<R: AllocGlobal + Wait + Abort>(rt: &R, case: &Case) -> Told {
     let (shared, mut mutators) = shared_of(rt, case.config, case.shared);
     let (other, mut others) = shared_of(rt, case.other, case.shared);
     for (row, &(theirs, place, elsewhere, command, answer)) in case.calls.iter().enumerate() {
-        let rt = &Row { rt, row };
         let heap = if elsewhere { &other } else { &shared };
         let told = if theirs {
             call_by(rt, &mut others, place, heap, command)
         } else {
             call_by(rt, &mut mutators, place, heap, command)
         };
-        expect_equal(rt, told, Some(answer));
+        expect_equal(&Row { rt, row }, told, Some(answer));
     }
     for (row, &did) in case.increments.iter().enumerate() {
-        let rt = &Row { rt, row };
-        expect_equal(rt, shared.increment(rt), did);
+        expect_equal(&Row { rt, row }, shared.increment(rt), did);
     }
     if case.leaves {
         let _ = mutators.pop();

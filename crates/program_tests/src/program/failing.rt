@@ -220,16 +220,15 @@ fn is_cut<R: AllocGlobal + Abort + Threads + Wait + Sync>(
 #[test]
 fn texts_are_cut_after_each_byte(rt: HostRuntime) {
     for (row, asked) in CUT.iter().enumerate() {
-        let rt = Row { rt: &rt, row };
         let text = asked.1;
         let mut cut: usize = 0;
         let mut whole: usize = 0;
         for count in 0..text.len() {
-            let rt = Row {
+            let at = Row {
                 rt: &rt,
                 row: count,
             };
-            if is_cut(&rt, asked, &text[..count]) {
+            if is_cut(&at, asked, &text[..count]) {
                 cut = cut.saturating_add(1);
             } else {
                 whole = whole.saturating_add(1);
@@ -240,6 +239,7 @@ fn texts_are_cut_after_each_byte(rt: HostRuntime) {
         } else {
             0
         };
+        let rt = Row { rt: &rt, row };
         expect_equal(&rt, (whole, cut), (runs, text.len().saturating_sub(runs)));
     }
 }
