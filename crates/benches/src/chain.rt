@@ -43,17 +43,23 @@ pub fn filled(alloc: Global, words: u32) -> Option<Heap> {
         last_epoch: MAX_NUMBER,
     };
     let mut heap = Heap::new(alloc, config).ok()?;
-    make(&mut heap, FIRST, FIELDS)?;
-    copy(&mut heap, LAST, FIRST)?;
+    fill(&mut heap, words)?;
+    Some(heap)
+}
+
+/// Makes the chain, of so many words, and lets all roots refer to its first object.
+fn fill(heap: &mut Heap, words: u32) -> Option<()> {
+    make(heap, FIRST, FIELDS)?;
+    copy(heap, LAST, FIRST)?;
     for _ in 1..words / WORDS {
-        append(&mut heap)?;
+        append(heap)?;
     }
     for owner in 0..OWNERS {
         for slot in 0..SLOTS {
-            copy(&mut heap, RootId { owner, slot }, FIRST)?;
+            copy(heap, RootId { owner, slot }, FIRST)?;
         }
     }
-    Some(heap)
+    Some(())
 }
 
 /// A new object, to which the last one refers, is the last one from now on.

@@ -17,19 +17,25 @@ fn timed_flip(rt: &impl CpuClock, heap: &mut Heap) -> Option<(Flipped, Duration)
     Some((flipped, after.checked_sub(before)?))
 }
 
-/// What the flips did, each of them the same, and the shortest one's processor time.
-fn shortest_flip(rt: &(impl CpuClock + AllocGlobal), words: u32) -> Option<(Flipped, Duration)> {
-    let mut heap = filled(rt.alloc(), words)?;
-    closed(rt.alloc(), &mut heap)?;
-    let mut shortest = timed_flip(rt, &mut heap)?;
+/// Plays the cycles. Answers what the flips did, each of them the same, and the shortest one's
+/// processor time; nothing where a call was refused or the clock failed.
+fn shortest_of(rt: &(impl CpuClock + AllocGlobal), heap: &mut Heap) -> Option<(Flipped, Duration)> {
+    closed(rt.alloc(), heap)?;
+    let mut shortest = timed_flip(rt, heap)?;
     for _ in 1..CYCLES {
-        closed(rt.alloc(), &mut heap)?;
-        let flip = timed_flip(rt, &mut heap)?;
+        closed(rt.alloc(), heap)?;
+        let flip = timed_flip(rt, heap)?;
         if flip.1 < shortest.1 {
             shortest = flip;
         }
     }
     Some(shortest)
+}
+
+/// What the flips of a heap of so many words did, and the shortest one's processor time.
+fn shortest_flip(rt: &(impl CpuClock + AllocGlobal), words: u32) -> Option<(Flipped, Duration)> {
+    let mut heap = filled(rt.alloc(), words)?;
+    shortest_of(rt, &mut heap)
 }
 
 /// Runs the bench on a heap of which as many words live, rounded down to whole objects, as the

@@ -109,21 +109,27 @@ fn construct(heap: &mut PacedHeap, depth: u32, stretch: u32) -> Option<u32> {
     Some(trees)
 }
 
-/// Runs the bench in a heap of so many words; nothing where a call was refused.
-pub fn run(rt: &(impl Print + AllocGlobal), depths: Depths, words: u32) -> Option<()> {
-    let mut heap = heap_of(rt.alloc(), words, LEAF + 2)?;
-    grow_up(&mut heap, FIRST, depths.stretch, FIELDS).ok()?;
+/// Makes the trees of all depths, and counts the one that lives long; nothing where a call was
+/// refused.
+fn play(rt: &impl Print, heap: &mut PacedHeap, depths: Depths) -> Option<()> {
+    grow_up(heap, FIRST, depths.stretch, FIELDS).ok()?;
     heap.drop(1, root(FIRST)).ok()?;
-    make(&mut heap, LONG, FIELDS).ok()?;
-    grow_down(&mut heap, LONG, depths.long, FIELDS).ok()?;
-    array_of(&mut heap, ARRAY, depths.array)?;
+    make(heap, LONG, FIELDS).ok()?;
+    grow_down(heap, LONG, depths.long, FIELDS).ok()?;
+    array_of(heap, ARRAY, depths.array)?;
     for depth in depths.least..depths.above {
         if depth % 2 == 0 {
-            let trees = construct(&mut heap, depth, depths.stretch)?;
+            let trees = construct(heap, depth, depths.stretch)?;
             println!(rt; "{trees} trees of depth {depth}, twice").ok()?;
         }
     }
-    let nodes = count(&mut heap, LONG, depths.long).ok()?;
-    println!(rt; "long lived tree: {nodes} nodes").ok()?;
+    let nodes = count(heap, LONG, depths.long).ok()?;
+    println!(rt; "long lived tree: {nodes} nodes").ok()
+}
+
+/// Runs the bench in a heap of so many words; nothing where a call was refused.
+pub fn run(rt: &(impl Print + AllocGlobal), depths: Depths, words: u32) -> Option<()> {
+    let mut heap = heap_of(rt.alloc(), words, LEAF + 2)?;
+    play(rt, &mut heap, depths)?;
     println!(rt; "cycles {}", heap.stat().flips).ok()
 }

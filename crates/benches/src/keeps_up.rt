@@ -84,21 +84,28 @@ fn play(heap: &mut PacedHeap, mutator: &Mutator, commands: u64) -> Option<u64> {
     Some(given)
 }
 
+/// Plays a program in exactly the words that the rule asks for, and prints what that came to;
+/// nothing where one of its commands was refused.
+fn play_in_least(
+    rt: &(impl Print + AllocGlobal),
+    name: &str,
+    mutator: &Mutator,
+    asked: Asked,
+) -> Option<()> {
+    let (live, biggest, ratio) = (mutator.live, mutator.biggest, asked.ratio);
+    let words = least_words(live, biggest, ratio)?;
+    let pace = Pace::of(words, live, biggest, ratio).ok()?;
+    let mark = pace.mark;
+    println!(rt; "{name} ratio {ratio} live {live} words {words} mark {mark}").ok()?;
+    let mut heap = PacedHeap::new(rt.alloc(), pace.config(words, ratio, 2, SLOTS), pace).ok()?;
+    let given = play(&mut heap, mutator, asked.commands)?;
+    let cycles = heap.stat().flips;
+    println!(rt; "commands {given} cycles {cycles}: none was refused").ok()
+}
+
 /// Plays the program of this name in exactly the words that the rule asks for, and prints what that
 /// came to; nothing where one of its commands was refused.
 pub fn run(rt: &(impl Print + AllocGlobal), name: &str, asked: Asked) -> Option<()> {
-    let Asked {
-        cells,
-        ratio,
-        commands,
-    } = asked;
-    let mutator = mutator(rt.alloc(), name, cells)?;
-    let Mutator { live, biggest, .. } = mutator;
-    let words = least_words(live, biggest, ratio)?;
-    let pace = Pace::of(words, live, biggest, ratio).ok()?;
-    let mut heap = PacedHeap::new(rt.alloc(), pace.config(words, ratio, 2, SLOTS), pace).ok()?;
-    let given = play(&mut heap, &mutator, commands)?;
-    let (mark, cycles) = (pace.mark, heap.stat().flips);
-    println!(rt; "{name} ratio {ratio} live {live} words {words} mark {mark}").ok()?;
-    println!(rt; "commands {given} cycles {cycles}: none was refused").ok()
+    let mutator = mutator(rt.alloc(), name, asked.cells)?;
+    play_in_least(rt, name, &mutator, asked)
 }

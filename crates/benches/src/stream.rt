@@ -166,24 +166,49 @@ pub fn run(
 ) -> Option<()> {
     let mut bytes = Vec::new(rt.alloc());
     rt.reader().read_to_end(&mut bytes).ok()?;
+    play_stream(rt, &bytes, setting)
+}
+
+/// Plays the stream of these bytes, and prints what its last pass came to; nothing where it failed,
+/// or the answers aren't those of the head.
+fn play_stream(
+    rt: &(impl Print + Clock + CpuClock + AllocGlobal),
+    bytes: &[u8],
+    setting: Setting,
+) -> Option<()> {
     let (head, operations) = bytes.split_at_checked(HEAD_BYTES)?;
+    let sum = head_number(head, 4)?;
     let mut heap = heap_for(rt.alloc(), head, setting)?;
-    let mut latency = Latency::new(rt.alloc())?;
-    let mut played = play(rt, &mut heap, operations, &mut latency)?;
     for _ in 1..setting.passes {
-        latency = Latency::new(rt.alloc())?;
-        played = play(rt, &mut heap, operations, &mut latency)?;
+        play_pass(rt, &mut heap, operations, None, sum)?;
     }
-    if played.sum != head_number(head, 4)? {
+    play_pass(rt, &mut heap, operations, Some(setting), sum)
+}
+
+/// Plays all operations once, and prints what that came to where a setting is to be told; nothing
+/// where it failed, or the checksum of the answers is another one.
+fn play_pass(
+    rt: &(impl Print + Clock + CpuClock + AllocGlobal),
+    heap: &mut PacedHeap,
+    operations: &[u8],
+    told: Option<Setting>,
+    sum: u64,
+) -> Option<()> {
+    let mut latency = Latency::new(rt.alloc())?;
+    let played = play(rt, heap, operations, &mut latency)?;
+    if played.sum != sum {
         return None;
     }
-    tell(
-        rt,
-        setting,
-        operations.len() / OPERATION_BYTES,
-        &played,
-        &latency,
-    )
+    match told {
+        Some(setting) => tell(
+            rt,
+            setting,
+            operations.len() / OPERATION_BYTES,
+            &played,
+            &latency,
+        ),
+        None => Some(()),
+    }
 }
 
 /// Prints what a pass came to.
