@@ -2,4 +2,5 @@ pub mod Consumes
 pub mod ReadNumber
 pub mod NumberHead
 pub mod ReadInteger
+pub mod FirstThree
 pub mod WellFormed

@@ -2,6 +2,7 @@
 
 ghost use Rattle.std.specs.Prelude.{◌≡◌};
 ghost use Rattle.std.specs.Option.{option_map};
+ghost use Rattle.rh_text.specs.FirstThree.{first_three};
 ghost use Rattle.rh_text.specs.Parts.{cut_at, parts_left, may_follow, is_formed, has_dot, begins_with_digit, first_and_rest, end_of, one_part, two_parts, three_parts, six_parts};
 
 /// What stands before the first byte `at`, and what stands after it.
@@ -84,32 +85,35 @@ pub fn two_parts(rest: Option<&[u8]>) -> Option<(&[u8], &[u8])>
     Some((first, second))
 }
 
-/// The three parts that are left, where they are just three.
-#[tactic(auto, unfolding(crate::specs::Parts::three_parts))]
-pub fn three_parts(rest: Option<&[u8]>) -> Option<(&[u8], &[u8], &[u8])>
-    ensures { option_map (λ x. (x.0.now, x.1.now, x.2.now)) result
-        ≡ three_parts (parts_left rest.entry) }
+/// The first three parts that are left of a line, and what is left after them: `None` where fewer
+/// are.
+fn next_three(rest: Option<&[u8]>) -> Option<(&[u8], &[u8], &[u8], Option<&[u8]>)>
+    ensures { option_map (λ x. (x.0.now, x.1.now, x.2.now, parts_left x.3)) result
+        ≡ first_three (parts_left rest.entry) }
 {
     let (first, rest) = next_part(rest)?;
     let (second, rest) = next_part(rest)?;
     let (third, rest) = next_part(rest)?;
+    Some((first, second, third, rest))
+}
+
+/// The three parts that are left, where they are just three.
+pub fn three_parts(rest: Option<&[u8]>) -> Option<(&[u8], &[u8], &[u8])>
+    ensures { option_map (λ x. (x.0.now, x.1.now, x.2.now)) result
+        ≡ three_parts (parts_left rest.entry) }
+{
+    let (first, second, third, rest) = next_three(rest)?;
     end(rest)?;
     Some((first, second, third))
 }
 
 /// The six parts that are left, where they are just six.
-#[tactic(auto, unfolding(crate::specs::Parts::six_parts))]
 pub fn six_parts(rest: Option<&[u8]>) -> Option<(&[u8], &[u8], &[u8], &[u8], &[u8], &[u8])>
     ensures { option_map (λ x. (x.0.now, x.1.now, x.2.now, x.3.now, x.4.now, x.5.now)) result
         ≡ six_parts (parts_left rest.entry) }
 {
-    let (first, rest) = next_part(rest)?;
-    let (second, rest) = next_part(rest)?;
-    let (third, rest) = next_part(rest)?;
-    let (fourth, rest) = next_part(rest)?;
-    let (fifth, rest) = next_part(rest)?;
-    let (sixth, rest) = next_part(rest)?;
-    end(rest)?;
+    let (first, second, third, rest) = next_three(rest)?;
+    let (fourth, fifth, sixth) = three_parts(rest)?;
     Some((first, second, third, fourth, fifth, sixth))
 }
 
