@@ -12,7 +12,7 @@ ghost use Rattle.rh_dump.specs.texts.Reading.{formed_parts, part_after, roots_of
 use crate::limits::{LAST_OBJECT, MAX_OBJECTS, MAX_ROOTS};
 use crate::reading::due::Version;
 use crate::reading::fault::DumpKind;
-use crate::reading::parts::{after_at, number_or_fault, root_or_fault, value_or_fault};
+use crate::reading::parts::{after_at, is_text, number_or_fault, root_or_fault, value_or_fault};
 use rh_layout::{MAX_FIELDS, RootId, Shape, Value};
 use rh_text::{is_formed, next_part, two_parts};
 
@@ -34,7 +34,7 @@ fn part_after<'a>(keyword: &[u8], rest: Option<&'a [u8]>) -> Result<&'a [u8], Du
     ensures { Shows (λ x. x.now) result (part_after keyword.now (parts_left rest.entry)) }
 {
     let (first, second) = two_parts(rest).ok_or(DumpKind::Form)?;
-    if first == keyword {
+    if is_text(first, keyword) {
         Ok(second)
     } else {
         Err(DumpKind::Form)
@@ -75,7 +75,7 @@ pub fn root_of_parts(
     ensures below { IfOk result (λ root. IsBelow MAX_OBJECTS root.1) }
 {
     let (root, value) = two_parts(rest).ok_or(DumpKind::Form)?;
-    if value == b"nil".as_slice() {
+    if is_text(value, b"nil") {
         return Err(DumpKind::Form);
     }
     let root = root_or_fault(last, root)?;
@@ -91,7 +91,7 @@ fn kind_and_rest(version: Version, rest: Option<&[u8]>) -> (bool, Option<&[u8]>)
         Version::One => (false, rest),
         Version::Two => match next_part(rest) {
             Some((part, others)) => {
-                if part == b"raw".as_slice() {
+                if is_text(part, b"raw") {
                     (true, others)
                 } else {
                     (false, rest)

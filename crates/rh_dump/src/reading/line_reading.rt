@@ -19,7 +19,7 @@ use crate::reading::fault::DumpKind;
 use crate::reading::line_parts::{
     formed_parts, objects_of_parts, root_of_parts, roots_of_parts, start_of,
 };
-use crate::reading::parts::field_or_fault;
+use crate::reading::parts::{field_or_fault, is_text};
 use crate::reading::read_error::LineError;
 use rh_layout::{RootId, Value};
 use rh_text::next_part;
@@ -73,10 +73,10 @@ fn object_due(version: Version, number: u32, count: u32, met: u32) -> Due
 fn version_or_fault(line: &[u8]) -> Result<Version, DumpKind>
     ensures { result ≡ version_or_fault line.now }
 {
-    if line == b"rheap 1".as_slice() {
+    if is_text(line, b"rheap 1") {
         return Ok(Version::One);
     }
-    if line == b"rheap 2".as_slice() {
+    if is_text(line, b"rheap 2") {
         return Ok(Version::Two);
     }
     Err(DumpKind::Header)
@@ -117,7 +117,7 @@ fn after_objects(version: Version, met: u32, line: &[u8]) -> Result<Due, DumpKin
 fn after_end(line: &[u8]) -> Result<Due, DumpKind>
     ensures { result ≡ due_read dues.End (line_due dues.End line.now) }
 {
-    if line == b"end".as_slice() {
+    if is_text(line, b"end") {
         Ok(Due::Nothing)
     } else {
         Err(DumpKind::Form)

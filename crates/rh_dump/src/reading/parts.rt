@@ -2,6 +2,7 @@
 
 ghost use Rattle.std.specs.Prelude.{◌≡◌, ℕ, IfOk};
 ghost use Rattle.std.specs.Option.{option_map};
+ghost use Rattle.std.specs.Str.{bytes_eq};
 ghost use Rattle.rh_dump.specs.Meeting.{IsBelow};
 ghost use Rattle.rh_dump.specs.texts.Part.{number_up_to, whole_of, small_root_of, after_at};
 ghost use Rattle.rh_dump.specs.texts.Reading.{number_or_fault, reference_or_fault, whole_or_fault, value_or_fault, plain_or_fault, field_or_fault, is_root_before, is_root_after, root_or_fault};
@@ -47,6 +48,13 @@ pub fn after_at(part: &[u8]) -> Option<&[u8]>
     }
 }
 
+/// The part is this text.
+pub fn is_text(part: &[u8], text: &[u8]) -> bool
+    ensures { result ≡ bytes_eq part.now text.now }
+{
+    part == text
+}
+
 /// A reference to one of so many objects, where so many were met.
 #[tactic(auto, unfolding(crate::specs::texts::Reading::reference_or_fault))]
 fn reference_or_fault(count: u32, met: u32, digits: &[u8]) -> Result<Value, DumpKind>
@@ -80,7 +88,7 @@ pub fn value_or_fault(count: u32, met: u32, part: &[u8]) -> Result<Value, DumpKi
     ensures value { result ≡ value_or_fault count met part.now }
     ensures below { IfOk result (λ v. IsBelow count v) }
 {
-    if part == b"nil".as_slice() {
+    if is_text(part, b"nil") {
         return Ok(Value::Nil);
     }
     match after_at(part) {
@@ -95,7 +103,7 @@ fn plain_or_fault(part: &[u8]) -> Result<Value, DumpKind>
     ensures value { result ≡ plain_or_fault part.now }
     ensures below { IfOk result (λ v. (count : ℕ) → IsBelow count v) }
 {
-    if part == b"nil".as_slice() {
+    if is_text(part, b"nil") {
         return Ok(Value::Nil);
     }
     whole_or_fault(part)
