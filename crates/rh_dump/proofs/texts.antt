@@ -1,5 +1,6 @@
 -- Dumps written and read: what is spelled, what is read, and the first fault.
 pub mod Sending
+pub mod Counts
 pub mod SpelledIsRead
 pub mod PartMeans
 pub mod PartCount

@@ -38,6 +38,9 @@ Sent-last a b c text rest so_far last = Appends-at a c (so_far.prefix ++ rest) t
 pub Sent-last_less : (a b c : Option (List ℕ)) (text rest : List ℕ) → Sent a b text rest → AppendsLess b c rest → AppendsLess a c text
 Sent-last_less a b c text rest so_far last = subst (AppendsLess a c) (sym so_far.whole) (Appends-less a b c so_far.prefix rest so_far.appended last)
 
+pub Sent-all : (a b : Option (List ℕ)) (text rest : List ℕ) → rest ≡ [] → Sent a b text rest → Appends a b text
+Sent-all a b text rest none so_far = Sent-last a b b text [] (subst (Sent a b text) none so_far) (Appends-none b)
+
 -- ---- the texts of lines in the parts in which they are sent
 
 -- a further part of a line
