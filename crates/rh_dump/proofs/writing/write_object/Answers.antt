@@ -5,7 +5,8 @@ use Rattle.rh_text.specs.IoLog.{AreSpent}
 use Rattle.rh_text.specs.lemmas.Appends.{Sent}
 use Rattle.rh_dump.specs.texts.Line.{spell_dump_line, object_line}
 use Rattle.rh_dump.proofs.texts.Counts.{made_by, spent_by, made_more, spent_more, err_ok, err_err}
-use Rattle.rh_dump.proofs.texts.Sending.{Sent-begin, Sent-next, Sent-less, Sent-last, Sent-last_less, on_ok, on_err, fields_text, fields_step, value_piece, object_of, object_line_text, loop_next, loop_less}
+use Rattle.rh_dump.proofs.texts.Sending.{Sent-begin, Sent-next, Sent-less, Sent-last, Sent-last_less, on_ok, on_err}
+use Rattle.rh_dump.proofs.texts.Sending.{fields_text, fields_step, value_piece, object_of, object_line_text, loop_next, loop_less}
 use Rattle.rh_dump.proofs.writing.write_object.Goals as goal
 
 pub returns-in_err-send-clause-err : goal.returns-in_err-send-clause-err
