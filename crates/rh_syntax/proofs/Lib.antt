@@ -3,3 +3,4 @@ pub mod OneRequest
 pub mod WorkedReading
 pub mod WorkedRefusals
 pub mod OneAnswer
+pub mod Begins

@@ -6,6 +6,7 @@
 //! `bench/run_trace` measures.
 
 ghost use Rattle.std.specs.Prelude.{◌≡◌, ◌∷◌, ◌++◌, ◌≤◌, IfSome, codes, decimal};
+ghost use Rattle.rh_text.specs.Root.{RootFits, root_text};
 ghost use Rattle.rh_syntax.specs.Leading.{BeginsWith};
 ghost use Rattle.rh_syntax.specs.Spelling.{CommandFits, OperandFits, operand_text, spell_command};
 
@@ -33,14 +34,23 @@ fn leading_operand(text: &[u8]) -> Option<(Operand, &[u8])>
     Some((Operand::Root(root), after))
 }
 
+/// The root and the space with which the text begins, and what stands after them.
+#[inline(always)]
+fn leading_root_and_space(text: &[u8]) -> Option<(RootId, &[u8])>
+    ensures { IfSome result (λ x. RootFits x.0 × (text.now ≡ root_text x.0 ++ 32 ∷ x.1.now)) }
+{
+    let (root, rest) = leading_root(text)?;
+    let rest = after_byte(b' ', rest)?;
+    Some((root, rest))
+}
+
 /// `ROOT FIELDS`, with which the text begins, as the line `OWNER alloc ROOT FIELDS`.
 #[inline(always)]
 fn leading_alloc(owner: u32, text: &[u8]) -> Option<(u32, Command, &[u8])>
     ensures { IfSome result (λ x. BeginsWith (decimal owner ++ 32 ∷ (codes "alloc " ++ text.now))
         x.0 x.1 x.2.now) }
 {
-    let (dst, rest) = leading_root(text)?;
-    let rest = after_byte(b' ', rest)?;
+    let (dst, rest) = leading_root_and_space(text)?;
     let (fields, rest) = leading_number(rest)?;
     Some((owner, Command::Alloc { dst, fields }, rest))
 }
@@ -51,8 +61,7 @@ fn leading_raw(owner: u32, text: &[u8]) -> Option<(u32, Command, &[u8])>
     ensures { IfSome result (λ x. BeginsWith (decimal owner ++ 32 ∷ (codes "raw " ++ text.now))
         x.0 x.1 x.2.now) }
 {
-    let (dst, rest) = leading_root(text)?;
-    let rest = after_byte(b' ', rest)?;
+    let (dst, rest) = leading_root_and_space(text)?;
     let (fields, rest) = leading_number(rest)?;
     Some((owner, Command::Raw { dst, fields }, rest))
 }
@@ -63,10 +72,8 @@ fn leading_load(owner: u32, text: &[u8]) -> Option<(u32, Command, &[u8])>
     ensures { IfSome result (λ x. BeginsWith (decimal owner ++ 32 ∷ (codes "load " ++ text.now))
         x.0 x.1 x.2.now) }
 {
-    let (dst, rest) = leading_root(text)?;
-    let rest = after_byte(b' ', rest)?;
-    let (src, rest) = leading_root(rest)?;
-    let rest = after_byte(b' ', rest)?;
+    let (dst, rest) = leading_root_and_space(text)?;
+    let (src, rest) = leading_root_and_space(rest)?;
     let (field, rest) = leading_number(rest)?;
     let command = Command::Load { dst, src, field };
     Some((owner, command, rest))
@@ -78,8 +85,7 @@ fn leading_store(owner: u32, text: &[u8]) -> Option<(u32, Command, &[u8])>
     ensures { IfSome result (λ x. BeginsWith (decimal owner ++ 32 ∷ (codes "store " ++ text.now))
         x.0 x.1 x.2.now) }
 {
-    let (obj, rest) = leading_root(text)?;
-    let rest = after_byte(b' ', rest)?;
+    let (obj, rest) = leading_root_and_space(text)?;
     let (field, rest) = leading_number(rest)?;
     let rest = after_byte(b' ', rest)?;
     let (operand, rest) = leading_operand(rest)?;
@@ -97,8 +103,7 @@ fn leading_copy(owner: u32, text: &[u8]) -> Option<(u32, Command, &[u8])>
     ensures { IfSome result (λ x. BeginsWith (decimal owner ++ 32 ∷ (codes "copy " ++ text.now))
         x.0 x.1 x.2.now) }
 {
-    let (dst, rest) = leading_root(text)?;
-    let rest = after_byte(b' ', rest)?;
+    let (dst, rest) = leading_root_and_space(text)?;
     let (src, rest) = leading_root(rest)?;
     Some((owner, Command::Copy { dst, src }, rest))
 }
@@ -109,8 +114,7 @@ fn leading_same(owner: u32, text: &[u8]) -> Option<(u32, Command, &[u8])>
     ensures { IfSome result (λ x. BeginsWith (decimal owner ++ 32 ∷ (codes "same " ++ text.now))
         x.0 x.1 x.2.now) }
 {
-    let (a, rest) = leading_root(text)?;
-    let rest = after_byte(b' ', rest)?;
+    let (a, rest) = leading_root_and_space(text)?;
     let (b, rest) = leading_root(rest)?;
     Some((owner, Command::Same { a, b }, rest))
 }
