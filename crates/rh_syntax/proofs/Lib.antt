@@ -4,3 +4,4 @@ pub mod WorkedReading
 pub mod WorkedRefusals
 pub mod OneAnswer
 pub mod Begins
+pub mod Steps

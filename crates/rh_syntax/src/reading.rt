@@ -47,7 +47,9 @@ pub fn checked_parts(number: u32, bytes: &[u8], ended: bool) -> Result<Option<&[
 fn request_of_parts(rest: Option<&[u8]>) -> Result<Request, Kind>
     ensures { result ≡ request_of_parts (parts_left rest.entry) }
 {
-    let (first, rest) = next_part(rest).ok_or(Kind::Form)?;
+    let Some((first, rest)) = next_part(rest) else {
+        return Err(Kind::Form);
+    };
     if begins_with_digit(first) {
         let (owner, command) = command_or_fault(first, rest)?;
         return Ok(Request::Command { owner, command });

@@ -1,12 +1,22 @@
-//! What a part of a trace's line says: a number, a root or an operand; and an operand's text.
+//! What a part of a trace's line says: a word, a number, a root or an operand; and an operand's
+//! text.
 
 ghost use Rattle.std.specs.Prelude.{◌≡◌, ◌+◌, ◌≤◌, ◌++◌, length};
+ghost use Rattle.std.specs.Str.{bytes_eq};
 ghost use Rattle.rh_syntax.specs.Reading.{number_or_fault, integer_or_fault, root_or_fault, operand_or_fault};
 ghost use Rattle.rh_syntax.specs.Spelling.{operand_text};
 
 use crate::fault::Kind;
 use rh_layout::{Operand, RootId};
 use rh_text::{LineText, has_dot, read_integer, read_number, read_root};
+
+/// Whether a part is this word.
+#[inline(always)]
+pub fn is_word(part: &[u8], word: &[u8]) -> bool
+    ensures { result ≡ bytes_eq part.now word.now }
+{
+    part == word
+}
 
 /// The number that a part says.
 pub fn number_or_fault(part: &[u8]) -> Result<u32, Kind>

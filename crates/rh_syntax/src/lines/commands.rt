@@ -7,7 +7,7 @@ ghost use Rattle.rh_syntax.specs.Reading.{read_alloc, read_raw, read_load, read_
 ghost use Rattle.rh_syntax.specs.Spelling.{command_text, spell_command};
 
 use crate::fault::Kind;
-use crate::values::{number_or_fault, operand_or_fault, put_operand, root_or_fault};
+use crate::values::{is_word, number_or_fault, operand_or_fault, put_operand, root_or_fault};
 use rh_layout::{Command, Operand, RootId};
 use rh_text::{LineText, begins_with_digit, next_part, one_part, three_parts, two_parts};
 
@@ -16,7 +16,9 @@ use rh_text::{LineText, begins_with_digit, next_part, one_part, three_parts, two
 fn read_alloc(owner: &[u8], rest: Option<&[u8]>) -> Result<(u32, Command), Kind>
     ensures { result ≡ read_alloc owner.now (parts_left rest.entry) }
 {
-    let (dst, fields) = two_parts(rest).ok_or(Kind::Form)?;
+    let Some((dst, fields)) = two_parts(rest) else {
+        return Err(Kind::Form);
+    };
     let owner = number_or_fault(owner)?;
     let dst = root_or_fault(dst)?;
     let fields = number_or_fault(fields)?;
@@ -41,7 +43,9 @@ fn put_alloc(text: &mut LineText, owner: u32, dst: RootId, fields: u32)
 fn read_raw(owner: &[u8], rest: Option<&[u8]>) -> Result<(u32, Command), Kind>
     ensures { result ≡ read_raw owner.now (parts_left rest.entry) }
 {
-    let (dst, fields) = two_parts(rest).ok_or(Kind::Form)?;
+    let Some((dst, fields)) = two_parts(rest) else {
+        return Err(Kind::Form);
+    };
     let owner = number_or_fault(owner)?;
     let dst = root_or_fault(dst)?;
     let fields = number_or_fault(fields)?;
@@ -66,7 +70,9 @@ fn put_raw(text: &mut LineText, owner: u32, dst: RootId, fields: u32)
 fn read_load(owner: &[u8], rest: Option<&[u8]>) -> Result<(u32, Command), Kind>
     ensures { result ≡ read_load owner.now (parts_left rest.entry) }
 {
-    let (dst, src, field) = three_parts(rest).ok_or(Kind::Form)?;
+    let Some((dst, src, field)) = three_parts(rest) else {
+        return Err(Kind::Form);
+    };
     let owner = number_or_fault(owner)?;
     let dst = root_or_fault(dst)?;
     let src = root_or_fault(src)?;
@@ -94,7 +100,9 @@ fn put_load(text: &mut LineText, owner: u32, dst: RootId, src: RootId, field: u3
 fn read_store(owner: &[u8], rest: Option<&[u8]>) -> Result<(u32, Command), Kind>
     ensures { result ≡ read_store owner.now (parts_left rest.entry) }
 {
-    let (obj, field, operand) = three_parts(rest).ok_or(Kind::Form)?;
+    let Some((obj, field, operand)) = three_parts(rest) else {
+        return Err(Kind::Form);
+    };
     let owner = number_or_fault(owner)?;
     let obj = root_or_fault(obj)?;
     let field = number_or_fault(field)?;
@@ -127,7 +135,9 @@ fn put_store(text: &mut LineText, owner: u32, obj: RootId, field: u32, operand: 
 fn read_copy(owner: &[u8], rest: Option<&[u8]>) -> Result<(u32, Command), Kind>
     ensures { result ≡ read_copy owner.now (parts_left rest.entry) }
 {
-    let (dst, src) = two_parts(rest).ok_or(Kind::Form)?;
+    let Some((dst, src)) = two_parts(rest) else {
+        return Err(Kind::Form);
+    };
     let owner = number_or_fault(owner)?;
     let dst = root_or_fault(dst)?;
     let src = root_or_fault(src)?;
@@ -152,7 +162,9 @@ fn put_copy(text: &mut LineText, owner: u32, dst: RootId, src: RootId)
 fn read_same(owner: &[u8], rest: Option<&[u8]>) -> Result<(u32, Command), Kind>
     ensures { result ≡ read_same owner.now (parts_left rest.entry) }
 {
-    let (a, b) = two_parts(rest).ok_or(Kind::Form)?;
+    let Some((a, b)) = two_parts(rest) else {
+        return Err(Kind::Form);
+    };
     let owner = number_or_fault(owner)?;
     let a = root_or_fault(a)?;
     let b = root_or_fault(b)?;
@@ -177,7 +189,9 @@ fn put_same(text: &mut LineText, owner: u32, a: RootId, b: RootId)
 fn read_drop(owner: &[u8], rest: Option<&[u8]>) -> Result<(u32, Command), Kind>
     ensures { result ≡ read_drop owner.now (parts_left rest.entry) }
 {
-    let root = one_part(rest).ok_or(Kind::Form)?;
+    let Some(root) = one_part(rest) else {
+        return Err(Kind::Form);
+    };
     let owner = number_or_fault(owner)?;
     let root = root_or_fault(root)?;
     Ok((owner, Command::Drop { root }))
@@ -199,26 +213,28 @@ fn put_drop(text: &mut LineText, owner: u32, root: RootId)
 pub(crate) fn command_or_fault(owner: &[u8], rest: Option<&[u8]>) -> Result<(u32, Command), Kind>
     ensures { result ≡ command_or_fault owner.now (parts_left rest.entry) }
 {
-    let (keyword, rest) = next_part(rest).ok_or(Kind::Form)?;
-    if keyword == b"alloc".as_slice() {
+    let Some((keyword, rest)) = next_part(rest) else {
+        return Err(Kind::Form);
+    };
+    if is_word(keyword, b"alloc") {
         return read_alloc(owner, rest);
     }
-    if keyword == b"raw".as_slice() {
+    if is_word(keyword, b"raw") {
         return read_raw(owner, rest);
     }
-    if keyword == b"load".as_slice() {
+    if is_word(keyword, b"load") {
         return read_load(owner, rest);
     }
-    if keyword == b"store".as_slice() {
+    if is_word(keyword, b"store") {
         return read_store(owner, rest);
     }
-    if keyword == b"copy".as_slice() {
+    if is_word(keyword, b"copy") {
         return read_copy(owner, rest);
     }
-    if keyword == b"same".as_slice() {
+    if is_word(keyword, b"same") {
         return read_same(owner, rest);
     }
-    if keyword == b"drop".as_slice() {
+    if is_word(keyword, b"drop") {
         return read_drop(owner, rest);
     }
     Err(Kind::Word)
@@ -235,7 +251,9 @@ pub(crate) fn command_or_fault(owner: &[u8], rest: Option<&[u8]>) -> Result<(u32
 pub fn owned_command(rest: Option<&[u8]>) -> Result<(u32, Command), Kind>
     ensures { result ≡ owned_command (parts_left rest.entry) }
 {
-    let (first, rest) = next_part(rest).ok_or(Kind::Form)?;
+    let Some((first, rest)) = next_part(rest) else {
+        return Err(Kind::Form);
+    };
     if begins_with_digit(first) {
         command_or_fault(first, rest)
     } else {

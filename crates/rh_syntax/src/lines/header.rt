@@ -35,7 +35,9 @@ fn sizes_of(
 pub fn header_of_parts(rest: Option<&[u8]>) -> Result<Header, Kind>
     ensures { result ≡ header_of_parts (parts_left rest.entry) }
 {
-    let (word, words, ratio, log, owners, slots) = six_parts(rest).ok_or(Kind::Header)?;
+    let Some((word, words, ratio, log, owners, slots)) = six_parts(rest) else {
+        return Err(Kind::Header);
+    };
     if word != b"heap".as_slice() {
         return Err(Kind::Header);
     }

@@ -9,7 +9,7 @@ ghost use Rattle.rh_syntax.specs.declared.request.Request.TheVariants as request
 use crate::fault::Kind;
 use crate::request::Request;
 use crate::tray_name::{TrayName, tray_name_of};
-use crate::values::{number_or_fault, root_or_fault};
+use crate::values::{is_word, number_or_fault, root_or_fault};
 use rh_layout::{Kind as PieceKind, RootId};
 use rh_text::{LineText, next_part, one_part, three_parts, two_parts};
 
@@ -35,10 +35,10 @@ fn put_next_tray(text: &mut LineText, tray: TrayName)
 fn kind_or_fault(part: &[u8]) -> Result<PieceKind, Kind>
     ensures { result ≡ kind_or_fault part.now }
 {
-    if part == b"copies".as_slice() {
+    if is_word(part, b"copies") {
         return Ok(PieceKind::Copies);
     }
-    if part == b"entries".as_slice() {
+    if is_word(part, b"entries") {
         return Ok(PieceKind::Entries);
     }
     Err(Kind::Word)
@@ -81,7 +81,9 @@ pub fn put_alone(text: &mut LineText, keyword: &[u8])
 fn read_shade(rest: Option<&[u8]>) -> Result<Request, Kind>
     ensures { result ≡ read_shade (parts_left rest.entry) }
 {
-    let root = one_part(rest).ok_or(Kind::Form)?;
+    let Some(root) = one_part(rest) else {
+        return Err(Kind::Form);
+    };
     let root = root_or_fault(root)?;
     Ok(Request::Shade { root })
 }
@@ -101,7 +103,9 @@ pub fn put_shade_line(text: &mut LineText, root: RootId)
 fn read_deal(rest: Option<&[u8]>) -> Result<Request, Kind>
     ensures { result ≡ read_deal (parts_left rest.entry) }
 {
-    let (kind, most, tray) = three_parts(rest).ok_or(Kind::Form)?;
+    let Some((kind, most, tray)) = three_parts(rest) else {
+        return Err(Kind::Form);
+    };
     let kind = kind_or_fault(kind)?;
     let most = number_or_fault(most)?;
     let tray = tray_or_fault(tray)?;
@@ -125,7 +129,9 @@ pub fn put_deal_line(text: &mut LineText, kind: PieceKind, most: u32, tray: Tray
 fn read_give(rest: Option<&[u8]>) -> Result<Request, Kind>
     ensures { result ≡ read_give (parts_left rest.entry) }
 {
-    let tray = one_part(rest).ok_or(Kind::Form)?;
+    let Some(tray) = one_part(rest) else {
+        return Err(Kind::Form);
+    };
     let tray = tray_or_fault(tray)?;
     Ok(Request::Give { tray })
 }
@@ -145,7 +151,9 @@ pub fn put_give_line(text: &mut LineText, tray: TrayName)
 fn read_join(rest: Option<&[u8]>) -> Result<Request, Kind>
     ensures { result ≡ read_join (parts_left rest.entry) }
 {
-    let (into, other) = two_parts(rest).ok_or(Kind::Form)?;
+    let Some((into, other)) = two_parts(rest) else {
+        return Err(Kind::Form);
+    };
     let into = tray_or_fault(into)?;
     let other = tray_or_fault(other)?;
     Ok(Request::Join { into, other })
@@ -167,7 +175,9 @@ pub fn put_join_line(text: &mut LineText, into: TrayName, other: TrayName)
 fn read_idle(rest: Option<&[u8]>) -> Result<Request, Kind>
     ensures { result ≡ read_idle (parts_left rest.entry) }
 {
-    let words = one_part(rest).ok_or(Kind::Form)?;
+    let Some(words) = one_part(rest) else {
+        return Err(Kind::Form);
+    };
     let words = number_or_fault(words)?;
     Ok(Request::Idle { words })
 }
@@ -187,40 +197,40 @@ pub fn put_idle_line(text: &mut LineText, words: u32)
 pub fn keyword_request(keyword: &[u8], rest: Option<&[u8]>) -> Result<Request, Kind>
     ensures { result ≡ keyword_request keyword.now (parts_left rest.entry) }
 {
-    if keyword == b"begin".as_slice() {
+    if is_word(keyword, b"begin") {
         return alone(rest, Request::Begin);
     }
-    if keyword == b"shade".as_slice() {
+    if is_word(keyword, b"shade") {
         return read_shade(rest);
     }
-    if keyword == b"deal".as_slice() {
+    if is_word(keyword, b"deal") {
         return read_deal(rest);
     }
-    if keyword == b"give".as_slice() {
+    if is_word(keyword, b"give") {
         return read_give(rest);
     }
-    if keyword == b"join".as_slice() {
+    if is_word(keyword, b"join") {
         return read_join(rest);
     }
-    if keyword == b"flip".as_slice() {
+    if is_word(keyword, b"flip") {
         return alone(rest, Request::Flip);
     }
-    if keyword == b"recall".as_slice() {
+    if is_word(keyword, b"recall") {
         return alone(rest, Request::Recall);
     }
-    if keyword == b"abandon".as_slice() {
+    if is_word(keyword, b"abandon") {
         return alone(rest, Request::Abandon);
     }
-    if keyword == b"idle".as_slice() {
+    if is_word(keyword, b"idle") {
         return read_idle(rest);
     }
-    if keyword == b"trays".as_slice() {
+    if is_word(keyword, b"trays") {
         return alone(rest, Request::Trays);
     }
-    if keyword == b"stat".as_slice() {
+    if is_word(keyword, b"stat") {
         return alone(rest, Request::Stat);
     }
-    if keyword == b"dump".as_slice() {
+    if is_word(keyword, b"dump") {
         return alone(rest, Request::Dump);
     }
     Err(Kind::Word)
