@@ -7,19 +7,21 @@ use crate::setup::{WORDS, config_of, without_replicators};
 use refusing::RefusingAllocator;
 use rh_pace::{Pace, PacedHeap};
 use rh_shared::{Kept, Start};
+use std::alloc::Global;
 use std::rt::Clock;
 use std::time::Instant;
 
 /// The words of the biggest object: its fields, its header and its forward word.
 const BIGGEST: u32 = 4;
 
-/// Gives so many commands to a heap that collects by itself; nothing where it failed.
-pub fn run_paced<R: Clock + AllocGlobal>(rt: &R, calls: u32) -> Option<CallFigures> {
-    let counted = RefusingAllocator::new(rt.alloc(), 0);
-    let mut pace = Pace::filling(WORDS, BIGGEST, 16).ok()?;
-    pace.mark = WORDS / 2;
-    let mut heap = PacedHeap::new(&counted, config_of(2), pace).ok()?;
-    let asked = counted.asked();
+/// Gives so many commands to the heap, and tells what they took; nothing where the clock failed.
+fn give<'m, R: Clock>(
+    rt: &R,
+    memory: &'m RefusingAllocator<Global>,
+    heap: &mut PacedHeap<&'m RefusingAllocator<Global>>,
+    calls: u32,
+) -> Option<CallFigures> {
+    let asked = memory.asked();
     let began = Instant::now(rt).ok()?;
     for others in 0..calls {
         let _ = heap.command(1, &passing(1, others));
@@ -28,17 +30,29 @@ pub fn run_paced<R: Clock + AllocGlobal>(rt: &R, calls: u32) -> Option<CallFigur
     Some(CallFigures {
         calls: calls as usize,
         nanoseconds: took.as_nanos(),
-        allocations: counted.asked().wrapping_sub(asked),
+        allocations: memory.asked().wrapping_sub(asked),
         cycles: heap.stat().flips,
     })
 }
 
-/// Makes so many calls on what lies under the lock of a shared heap; nothing where it failed.
-pub fn run_kept<R: Clock + AllocGlobal>(rt: &R, calls: u32) -> Option<CallFigures> {
+/// Gives so many commands to a heap that collects by itself; nothing where it failed.
+pub fn run_paced<R: Clock + AllocGlobal>(rt: &R, calls: u32) -> Option<CallFigures> {
     let counted = RefusingAllocator::new(rt.alloc(), 0);
-    let start = Start::new(&counted, config_of(2), without_replicators(calls)).ok()?;
-    let (mut kept, _ends) = Kept::new(&counted, start).ok()?;
-    let asked = counted.asked();
+    let mut pace = Pace::filling(WORDS, BIGGEST, 16).ok()?;
+    pace.mark = WORDS / 2;
+    let mut heap = PacedHeap::new(&counted, config_of(2), pace).ok()?;
+    give(rt, &counted, &mut heap, calls)
+}
+
+/// Makes so many calls on what lies under a lock, and tells what they took; nothing where the clock
+/// failed.
+fn call<'m, R: Clock>(
+    rt: &R,
+    memory: &'m RefusingAllocator<Global>,
+    kept: &mut Kept<&'m RefusingAllocator<Global>>,
+    calls: u32,
+) -> Option<CallFigures> {
+    let asked = memory.asked();
     let began = Instant::now(rt).ok()?;
     for others in 0..calls {
         let _ = kept.call(1, &passing(1, others));
@@ -47,7 +61,15 @@ pub fn run_kept<R: Clock + AllocGlobal>(rt: &R, calls: u32) -> Option<CallFigure
     Some(CallFigures {
         calls: kept.history().calls().len(),
         nanoseconds: took.as_nanos(),
-        allocations: counted.asked().wrapping_sub(asked),
+        allocations: memory.asked().wrapping_sub(asked),
         cycles: kept.heap().stat().flips,
     })
+}
+
+/// Makes so many calls on what lies under the lock of a shared heap; nothing where it failed.
+pub fn run_kept<R: Clock + AllocGlobal>(rt: &R, calls: u32) -> Option<CallFigures> {
+    let counted = RefusingAllocator::new(rt.alloc(), 0);
+    let start = Start::new(&counted, config_of(2), without_replicators(calls)).ok()?;
+    let (mut kept, _ends) = Kept::new(&counted, start).ok()?;
+    call(rt, &counted, &mut kept, calls)
 }
