@@ -5,7 +5,7 @@ use crate::commands::{alloc, refer};
 use crate::figures::CycleFigures;
 use crate::players::players_of;
 use crate::setup::{WORDS, config_of};
-use rh_replicator::crew;
+use rh_replicator::{Replicator, YieldingGate, crew};
 use rh_shared::{Did, Mutator, SharedConfig, SharedHeap, Start};
 use std::alloc::Global;
 use std::rt::Clock;
@@ -97,24 +97,42 @@ fn drive<R: Clock + Wait>(rt: &R, shared: &SharedHeap, cycles: u32) -> Option<Cy
     None
 }
 
+/// Makes the objects by the last mutator; nothing where there is none.
+fn make_by_last<R: Wait>(rt: &R, shared: &SharedHeap, mutators: &mut Vec<Mutator>) -> Option<()> {
+    let mut mutator = mutators.pop()?;
+    make(rt, shared, &mut mutator);
+    Some(())
+}
+
+/// Makes the cycles, with the replicators in threads beside them.
+fn drive_beside<R>(
+    rt: &R,
+    alloc: Global,
+    players: Vec<(Replicator, YieldingGate)>,
+    shared: &SharedHeap,
+    cycles: u32,
+) -> Option<CycleFigures>
+where
+    R: Clock + Threads + Wait + Sync,
+{
+    let stop = AtomicBool::new(false);
+    let mut figures = None;
+    crew(rt, alloc, players, &stop, u32::MAX, || {
+        figures = drive(rt, shared, cycles);
+    })
+    .ok()?;
+    figures
+}
+
 /// Makes the objects and then the cycles, with the replicators in threads beside them.
 fn run_started<R>(rt: &R, alloc: Global, start: Start, cycles: u32) -> Option<CycleFigures>
 where
     R: Clock + Threads + Wait + Sync,
 {
-    let Ok((shared, mut mutators, ends)) = SharedHeap::new(alloc, start) else {
-        return None;
-    };
+    let (shared, mut mutators, ends) = SharedHeap::new(alloc, start).ok()?;
     let players = players_of(alloc, ends).ok()?;
-    let mut mutator = mutators.pop()?;
-    make(rt, &shared, &mut mutator);
-    let stop = AtomicBool::new(false);
-    let mut figures = None;
-    crew(rt, alloc, players, &stop, u32::MAX, || {
-        figures = drive(rt, &shared, cycles);
-    })
-    .ok()?;
-    figures
+    make_by_last(rt, &shared, &mut mutators)?;
+    drive_beside(rt, alloc, players, &shared, cycles)
 }
 
 /// Makes so many cycles of pieces of at most so many items with so many replicators in threads of

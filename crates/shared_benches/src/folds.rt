@@ -49,23 +49,31 @@ fn fold_in_place<R: Clock + AllocGlobal>(
     })
 }
 
-/// Rings to so many replicators, and these behind gates.
-fn rings_of(
+/// Adds a ring to one more replicator, and this behind a gate; nothing where memory was refused.
+fn add_ring(
+    alloc: Global,
+    number: u32,
+    links: &mut Vec<Link>,
+    players: &mut Vec<(Replicator, YieldingGate)>,
+) -> Option<()> {
+    let (link, ends) = new_link(alloc, number).ok()?;
+    links.push(link).ok()?;
+    players
+        .push((Replicator::new(alloc, ends), YieldingGate))
+        .ok()
+}
+
+/// Adds rings to so many replicators, and these behind gates; nothing where memory was refused.
+fn add_rings(
     alloc: Global,
     replicators: u32,
-) -> Option<(Vec<Link>, Vec<(Replicator, YieldingGate)>)> {
-    let mut links = Vec::new(alloc);
-    let mut players = Vec::new(alloc);
+    links: &mut Vec<Link>,
+    players: &mut Vec<(Replicator, YieldingGate)>,
+) -> Option<()> {
     for number in 0..replicators {
-        let Ok((link, ends)) = new_link(alloc, number) else {
-            return None;
-        };
-        links.push(link).ok()?;
-        players
-            .push((Replicator::new(alloc, ends), YieldingGate))
-            .ok()?;
+        add_ring(alloc, number, links, players)?;
     }
-    Some((links, players))
+    Some(())
 }
 
 /// Takes a replica back, if one is there. Answers whether one was.
@@ -164,6 +172,26 @@ fn hand_out<R: Clock>(
     None
 }
 
+/// Folds so many pieces by replicators in threads of their own; nothing where it failed.
+fn fold_beside<R>(
+    rt: &R,
+    players: Vec<(Replicator, YieldingGate)>,
+    links: &mut [Link],
+    pieces: u32,
+    piece: &Piece,
+) -> Option<FoldFigures>
+where
+    R: Clock + AllocGlobal + Threads + Wait + Sync,
+{
+    let stop = AtomicBool::new(false);
+    let mut figures = None;
+    crew(rt, rt.alloc(), players, &stop, u32::MAX, || {
+        figures = hand_out(rt, links, pieces, piece);
+    })
+    .ok()?;
+    figures
+}
+
 /// Folds so many pieces of so many items, of which so many at a time are of one place, by so many
 /// replicators in threads of their own, or in place where none is asked for. Nothing where it
 /// failed.
@@ -181,12 +209,8 @@ where
     if replicators == 0 {
         return fold_in_place(rt, pieces, &piece);
     }
-    let (mut links, players) = rings_of(rt.alloc(), replicators)?;
-    let stop = AtomicBool::new(false);
-    let mut figures = None;
-    crew(rt, rt.alloc(), players, &stop, u32::MAX, || {
-        figures = hand_out(rt, links.as_mut_slice(), pieces, &piece);
-    })
-    .ok()?;
-    figures
+    let mut links = Vec::new(rt.alloc());
+    let mut players = Vec::new(rt.alloc());
+    add_rings(rt.alloc(), replicators, &mut links, &mut players)?;
+    fold_beside(rt, players, links.as_mut_slice(), pieces, &piece)
 }
