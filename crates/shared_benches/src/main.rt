@@ -12,45 +12,71 @@ mod pieces;
 mod players;
 mod setup;
 
-use std::env;
+use std::env::{self, Args};
 use std::process::ExitCode;
 use std::rt::{Clock, Env};
 use std::sync::Wait;
 use std::thread::Threads;
+
+/// The commands of a heap that collects by itself, once.
+fn run_paced<R: Print + Clock + AllocGlobal>(rt: &R) -> Option<()> {
+    let paced = alone::run_paced(rt, 100)?;
+    println!(rt;
+        "paced: {} calls, {} allocations",
+        paced.calls, paced.allocations
+    )
+    .ok()
+}
+
+/// The calls on what lies under a lock, once.
+fn run_kept<R: Print + Clock + AllocGlobal>(rt: &R) -> Option<()> {
+    let kept = alone::run_kept(rt, 100)?;
+    println!(rt;
+        "kept: {} calls, {} allocations",
+        kept.calls, kept.allocations
+    )
+    .ok()
+}
+
+/// The calls of so many threads, once.
+fn run_calls<R>(rt: &R, threads: u32) -> Option<()>
+where
+    R: Print + Clock + AllocGlobal + Threads + Wait + Sync,
+{
+    let made = calls::run(rt, threads, 100)?;
+    println!(rt;
+        "{threads} threads: {} calls, {} allocations",
+        made.calls, made.allocations
+    )
+    .ok()
+}
+
+/// The folds and the cycles of so many replicators, once.
+fn run_replicators<R>(rt: &R, replicators: u32) -> Option<()>
+where
+    R: Print + Clock + AllocGlobal + Threads + Wait + Sync,
+{
+    let made = folds::run(rt, replicators, 100, 8, 4)?;
+    let driven = cycles::run(rt, replicators, 64, 1)?;
+    println!(rt;
+        "{replicators} replicators: {} pieces, {} cycles",
+        made.pieces, driven.cycles
+    )
+    .ok()
+}
 
 /// Each bench once, on little; nothing where one failed.
 fn run_each<R>(rt: &R) -> Option<()>
 where
     R: Print + Clock + AllocGlobal + Threads + Wait + Sync,
 {
-    let paced = alone::run_paced(rt, 100)?;
-    println!(rt;
-        "paced: {} calls, {} allocations",
-        paced.calls, paced.allocations
-    )
-    .ok()?;
-    let kept = alone::run_kept(rt, 100)?;
-    println!(rt;
-        "kept: {} calls, {} allocations",
-        kept.calls, kept.allocations
-    )
-    .ok()?;
+    run_paced(rt)?;
+    run_kept(rt)?;
     for threads in [1, 2, 4] {
-        let made = calls::run(rt, threads, 100)?;
-        println!(rt;
-            "{threads} threads: {} calls, {} allocations",
-            made.calls, made.allocations
-        )
-        .ok()?;
+        run_calls(rt, threads)?;
     }
     for replicators in [0, 1, 2, 4] {
-        let made = folds::run(rt, replicators, 100, 8, 4)?;
-        let driven = cycles::run(rt, replicators, 64, 1)?;
-        println!(rt;
-            "{replicators} replicators: {} pieces, {} cycles",
-            made.pieces, driven.cycles
-        )
-        .ok()?;
+        run_replicators(rt, replicators)?;
     }
     Some(())
 }
@@ -75,6 +101,20 @@ where
     }
 }
 
+/// Adds the number that an argument is; nothing where it is none, or memory was refused.
+fn add_number(text: &str, numbers: &mut Vec<u32>) -> Option<()> {
+    let number = text.parse::<u32>().ok()?;
+    numbers.push(number).ok()
+}
+
+/// Adds the numbers that the arguments are; nothing where one is none, or memory was refused.
+fn add_numbers(args: Args, numbers: &mut Vec<u32>) -> Option<()> {
+    for text in args {
+        add_number(text.as_str(), numbers)?;
+    }
+    Some(())
+}
+
 /// The bench that the arguments name, or each; nothing where one failed.
 fn run<R>(rt: &R) -> Option<()>
 where
@@ -85,9 +125,7 @@ where
         return run_each(rt);
     };
     let mut numbers = Vec::new(rt.alloc());
-    for text in args {
-        numbers.push(text.parse::<u32>().ok()?).ok()?;
-    }
+    add_numbers(args, &mut numbers)?;
     run_one(rt, name.as_str(), numbers.as_slice())
 }
 
