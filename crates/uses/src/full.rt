@@ -19,9 +19,21 @@ const SLOTS: u32 = 7;
 pub fn run<A: Allocator + Copy>(alloc: A) -> Result<u32, Problem> {
     let pace = Pace::filling(WORDS, OBJECT_WORDS, RATIO)?;
     let mut heap = PacedHeap::new(alloc, pace.config(WORDS, RATIO, 2, SLOTS), pace)?;
+    fill(&mut heap)?;
+    make_one_more(&mut heap)?;
+    collect(&mut heap)
+}
+
+/// The slots hold objects that fill the space.
+fn fill<A: Allocator + Copy>(heap: &mut PacedHeap<A>) -> Result<(), Refusal> {
     for slot in 0..SLOTS {
         heap.alloc(1, RootId { owner: 1, slot }, OBJECT_WORDS - 2)?;
     }
+    Ok(())
+}
+
+/// One more has no room until two are dropped.
+fn make_one_more<A: Allocator + Copy>(heap: &mut PacedHeap<A>) -> Result<(), Problem> {
     let dst = RootId { owner: 0, slot: 0 };
     let alloc_one = Command::Alloc {
         dst,
@@ -34,6 +46,11 @@ pub fn run<A: Allocator + Copy>(alloc: A) -> Result<u32, Problem> {
     heap.drop(1, RootId { owner: 1, slot: 0 })?;
     heap.drop(1, RootId { owner: 1, slot: 1 })?;
     heap.insist(1, &alloc_one)?;
+    Ok(())
+}
+
+/// Collects. Answers the words that live then.
+fn collect<A: Allocator + Copy>(heap: &mut PacedHeap<A>) -> Result<u32, Problem> {
     match heap.collect() {
         Ok(flipped) => Ok(flipped.live_words),
         Err(_) => Err(Problem::Answer),

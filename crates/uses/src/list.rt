@@ -2,7 +2,7 @@
 //! begun again, in a space that never holds a tenth of what is pushed.
 
 use crate::problem::Problem;
-use rh_layout::{Operand, Reply, RootId};
+use rh_layout::{Operand, Refusal, Reply, RootId};
 use rh_pace::{Pace, PacedHeap};
 use std::alloc::Allocator;
 
@@ -27,18 +27,24 @@ const NUMBER: RootId = RootId { owner: 1, slot: 2 };
 pub fn run<A: Allocator + Copy>(alloc: A) -> Result<(i64, u64), Problem> {
     let pace = Pace::filling(WORDS, CELL_WORDS, RATIO)?;
     let mut heap = PacedHeap::new(alloc, pace.config(WORDS, RATIO, 2, 3), pace)?;
-    for n in 0..10_000 {
-        if n % 100 == 0 {
-            heap.drop(OWNER, LIST)?;
-        }
-        push(&mut heap, n)?;
-    }
+    push_all(&mut heap)?;
     let sum = sum(&mut heap)?;
     Ok((sum, heap.stat().flips))
 }
 
+/// The numbers are pushed; the list is dropped before every hundredth.
+fn push_all<A: Allocator + Copy>(heap: &mut PacedHeap<A>) -> Result<(), Refusal> {
+    for n in 0..10_000 {
+        if n % 100 == 0 {
+            heap.drop(OWNER, LIST)?;
+        }
+        push(heap, n)?;
+    }
+    Ok(())
+}
+
 /// A new cell stands in front of the list.
-fn push<A: Allocator + Copy>(heap: &mut PacedHeap<A>, n: i64) -> Result<(), Problem> {
+fn push<A: Allocator + Copy>(heap: &mut PacedHeap<A>, n: i64) -> Result<(), Refusal> {
     heap.alloc(OWNER, CELL, 2)?;
     heap.store(OWNER, CELL, 0, Operand::Int(n))?;
     heap.store(OWNER, CELL, 1, Operand::Root(LIST))?;

@@ -22,14 +22,31 @@ const YOURS: RootId = RootId { owner: 2, slot: 0 };
 pub fn run<A: Allocator + Copy>(alloc: A) -> Result<i64, Problem> {
     let pace = Pace::filling(WORDS, OBJECT_WORDS, RATIO)?;
     let mut heap = PacedHeap::new(alloc, pace.config(WORDS, RATIO, 3, 1), pace)?;
+    share(&mut heap)?;
+    hand_on(&mut heap)?;
+    read(&mut heap)
+}
+
+/// Owner 1 makes an object, and puts it where all may take it.
+fn share<A: Allocator + Copy>(heap: &mut PacedHeap<A>) -> Result<(), Refusal> {
     heap.alloc(1, MINE, 1)?;
     heap.copy(1, SHARED, MINE)?;
+    Ok(())
+}
+
+/// Owner 2, which may not take it from the slot of owner 1, takes it there, and stores a number.
+fn hand_on<A: Allocator + Copy>(heap: &mut PacedHeap<A>) -> Result<(), Problem> {
     match heap.copy(2, YOURS, MINE) {
         Err(Refusal::NotYours) => {}
         _ => return Err(Problem::Answer),
     }
     heap.copy(2, YOURS, SHARED)?;
     heap.store(2, YOURS, 0, Operand::Int(7))?;
+    Ok(())
+}
+
+/// Owner 1 reads the number.
+fn read<A: Allocator + Copy>(heap: &mut PacedHeap<A>) -> Result<i64, Problem> {
     match heap.load(1, SHARED, MINE, 0)? {
         Reply::Int(n) => Ok(n),
         _ => Err(Problem::Answer),

@@ -30,6 +30,17 @@ pub fn run<A: Allocator + Copy, W: io::Write>(
     let pace = Pace::filling(WORDS, OBJECT_WORDS, RATIO)?;
     let mut heap = PacedHeap::new(alloc, pace.config(WORDS, RATIO, 2, 2), pace)?;
     let mut recorder = Recorder::new(alloc, 2, 2, 64)?;
+    note_all(&mut heap, &mut recorder)?;
+    let objects = dump(alloc, &heap, writer)?;
+    let calls = judge(alloc, &recorder)?;
+    Ok((calls, objects))
+}
+
+/// Makes the pairs, and notes each call.
+fn note_all<A: Allocator + Copy>(
+    heap: &mut PacedHeap<A>,
+    recorder: &mut Recorder<A>,
+) -> Result<(), Problem> {
     let pair = Command::Alloc {
         dst: SECOND,
         fields: 2,
@@ -45,13 +56,27 @@ pub fn run<A: Allocator + Copy, W: io::Write>(
     };
     for _ in 0..4 {
         for command in [&pair, &link, &keep] {
-            noted(&mut heap, &mut recorder, command)?;
+            noted(heap, recorder, command)?;
         }
     }
+    Ok(())
+}
+
+/// Writes the dump of what the roots reach. Answers how many objects it has.
+fn dump<A: Allocator + Copy, W: io::Write>(
+    alloc: A,
+    heap: &PacedHeap<A>,
+    writer: &mut W,
+) -> Result<u64, Problem> {
     let graph = graph(alloc, heap.heap())?;
     write_dump(&graph, writer)?;
+    Ok(graph.objects())
+}
+
+/// Lets the checker judge the calls. Answers how many it found right.
+fn judge<A: Allocator + Copy>(alloc: A, recorder: &Recorder<A>) -> Result<u32, Problem> {
     match check(alloc, recorder.history())? {
-        Verdict::Legal(calls) => Ok((calls, graph.objects())),
+        Verdict::Legal(calls) => Ok(calls),
         Verdict::Wrong { .. } => Err(Problem::Answer),
     }
 }
