@@ -29,10 +29,29 @@ pub fn run<A: Allocator + Copy, W: io::Write>(
 ) -> Result<(u32, u64), Problem> {
     let pace = Pace::filling(WORDS, OBJECT_WORDS, RATIO)?;
     let mut heap = PacedHeap::new(alloc, pace.config(WORDS, RATIO, 2, 2), pace)?;
+    run_in(alloc, &mut heap, writer)
+}
+
+/// Does so in this heap.
+fn run_in<A: Allocator + Copy, W: io::Write>(
+    alloc: A,
+    heap: &mut PacedHeap<A>,
+    writer: &mut W,
+) -> Result<(u32, u64), Problem> {
     let mut recorder = Recorder::new(alloc, 2, 2, 64)?;
-    note_all(&mut heap, &mut recorder)?;
-    let objects = dump(alloc, &heap, writer)?;
-    let calls = judge(alloc, &recorder)?;
+    run_noted(alloc, heap, &mut recorder, writer)
+}
+
+/// Does so with this recorder.
+fn run_noted<A: Allocator + Copy, W: io::Write>(
+    alloc: A,
+    heap: &mut PacedHeap<A>,
+    recorder: &mut Recorder<A>,
+    writer: &mut W,
+) -> Result<(u32, u64), Problem> {
+    note_all(heap, recorder)?;
+    let objects = dump(alloc, heap, writer)?;
+    let calls = judge(alloc, recorder)?;
     Ok((calls, objects))
 }
 
