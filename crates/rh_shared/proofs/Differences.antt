@@ -19,7 +19,7 @@ calls_of-own : (c : Call) → calls_of c.owner (c ∷ []) ≡ c ∷ []
 calls_of-own c = rw (eq-eqb c.owner c.owner refl) refl
 
 -- two numbers that differ aren't told equal
-differ-eqb : (m n : ℕ) → (m ≡ n → ⊥) → (m == n) ≡ false
+pub differ-eqb : (m n : ℕ) → (m ≡ n → ⊥) → (m == n) ≡ false
 differ-eqb m n apart = by_test (m == n) refl
   where
     by_test : (b : Bool) → (m == n) ≡ b → (m == n) ≡ false
@@ -138,14 +138,27 @@ shares-through n ms calls below here o less = by_test (nat_lt o n) refl
     by_test true e = below o (ltb-true o n e)
     by_test false e = let same : n ≡ o = omega (arith, ltb-false o n e, less) in subst (λ p. share_of p ms ≡ calls_of p calls) same here
 
+-- one owner more that has one mutator
+pub counts-through : (n : ℕ) (ms : List MutatorState) → ((o : ℕ) → o < n → mutator_count o ms ≡ 1) → mutator_count n ms ≡ 1
+    → (o : ℕ) → o < n + 1 → mutator_count o ms ≡ 1
+counts-through n ms below here o less = by_test (nat_lt o n) refl
+  where
+    by_test : (b : Bool) → nat_lt o n ≡ b → mutator_count o ms ≡ 1
+    by_test true e = below o (ltb-true o n e)
+    by_test false e = let same : n ≡ o = omega (arith, ltb-false o n e, less) in subst (λ p. mutator_count p ms ≡ 1) same here
+
 -- Mutators of an owner.
 
-pub next-share-own : (owner i : ℕ) (ms : List MutatorState) (m : MutatorState) → i < length ms → m ≡ get_or ms i m → (m.owner == owner) ≡ true
+next-share-own : (owner i : ℕ) (ms : List MutatorState) (m : MutatorState) → i < length ms → m ≡ get_or ms i m → (m.owner == owner) ≡ true
     → share_of owner (drop i ms) ≡ m.share.history.calls
 next-share-own owner i ms m within is own =
     at_drop_more (share_of owner) ms i m within
     ∙ ap (λ (d : MutatorState). share_of owner (d ∷ drop (i + 1) ms)) (sym is)
     ∙ ap (λ b. cond b m.share.history.calls (share_of owner (drop (i + 1) ms))) own
+
+pub own-share : (owner i : ℕ) (ms : List MutatorState) (m : MutatorState) (calls : List Call) → i < length ms → m ≡ get_or ms i m → (m.owner == owner) ≡ true
+    → calls ≡ m.share.history.calls → share_of owner (drop i ms) ≡ share_of owner ms → calls ≡ share_of owner ms
+own-share owner i ms m calls within is own calls_are goes = calls_are ∙ sym (next-share-own owner i ms m within is own) ∙ goes
 
 pub next-share-other : (owner i : ℕ) (ms : List MutatorState) (m : MutatorState) → i < length ms → m ≡ get_or ms i m → (m.owner == owner) ≡ false
     → share_of owner (drop i ms) ≡ share_of owner (drop (i + 1) ms)

@@ -7,3 +7,4 @@ pub mod GrownShares
 pub mod CallPairs
 pub mod OneReason
 pub mod Partings
+pub mod NewKept
