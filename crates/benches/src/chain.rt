@@ -47,7 +47,8 @@ pub fn filled(alloc: Global, words: u32) -> Option<Heap> {
     Some(heap)
 }
 
-/// Makes the chain, of so many words, and lets all roots refer to its first object.
+/// Makes the chain, of so many words, and lets all roots refer to its first object; nothing where a
+/// call was refused.
 fn fill(heap: &mut Heap, words: u32) -> Option<()> {
     make(heap, FIRST, FIELDS)?;
     copy(heap, LAST, FIRST)?;

@@ -84,6 +84,20 @@ fn play(heap: &mut PacedHeap, mutator: &Mutator, commands: u64) -> Option<u64> {
     Some(given)
 }
 
+/// Plays a program on a heap of so many words at this pace. Answers how many commands were given
+/// and how many cycles ended; nothing where one was refused.
+fn play_at(
+    memory: Global,
+    mutator: &Mutator,
+    asked: Asked,
+    words: u32,
+    pace: Pace,
+) -> Option<(u64, u64)> {
+    let mut heap = PacedHeap::new(memory, pace.config(words, asked.ratio, 2, SLOTS), pace).ok()?;
+    let given = play(&mut heap, mutator, asked.commands)?;
+    Some((given, heap.stat().flips))
+}
+
 /// Plays a program in exactly the words that the rule asks for, and prints what that came to;
 /// nothing where one of its commands was refused.
 fn play_in_least(
@@ -95,11 +109,9 @@ fn play_in_least(
     let (live, biggest, ratio) = (mutator.live, mutator.biggest, asked.ratio);
     let words = least_words(live, biggest, ratio)?;
     let pace = Pace::of(words, live, biggest, ratio).ok()?;
+    let (given, cycles) = play_at(rt.alloc(), mutator, asked, words, pace)?;
     let mark = pace.mark;
     println!(rt; "{name} ratio {ratio} live {live} words {words} mark {mark}").ok()?;
-    let mut heap = PacedHeap::new(rt.alloc(), pace.config(words, ratio, 2, SLOTS), pace).ok()?;
-    let given = play(&mut heap, mutator, asked.commands)?;
-    let cycles = heap.stat().flips;
     println!(rt; "commands {given} cycles {cycles}: none was refused").ok()
 }
 

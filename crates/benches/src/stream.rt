@@ -186,7 +186,7 @@ fn play_stream(
 }
 
 /// Plays all operations once, and prints what that came to where a setting is to be told; nothing
-/// where it failed, or the checksum of the answers is another one.
+/// where it failed, or the checksum of the answers that are told is another one.
 fn play_pass(
     rt: &(impl Print + Clock + CpuClock + AllocGlobal),
     heap: &mut PacedHeap,
@@ -196,17 +196,15 @@ fn play_pass(
 ) -> Option<()> {
     let mut latency = Latency::new(rt.alloc())?;
     let played = play(rt, heap, operations, &mut latency)?;
-    if played.sum != sum {
-        return None;
-    }
     match told {
-        Some(setting) => tell(
+        Some(setting) if played.sum == sum => tell(
             rt,
             setting,
             operations.len() / OPERATION_BYTES,
             &played,
             &latency,
         ),
+        Some(_) => None,
         None => Some(()),
     }
 }
