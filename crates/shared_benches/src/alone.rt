@@ -15,7 +15,7 @@ use std::time::Instant;
 const BIGGEST: u32 = 4;
 
 /// Gives so many commands to the heap, and tells what they took; nothing where the clock failed.
-fn give<'m, R: Clock>(
+fn time_commands<'m, R: Clock>(
     rt: &R,
     memory: &'m RefusingAllocator<Global>,
     heap: &mut PacedHeap<&'m RefusingAllocator<Global>>,
@@ -41,12 +41,12 @@ pub fn run_paced<R: Clock + AllocGlobal>(rt: &R, calls: u32) -> Option<CallFigur
     let mut pace = Pace::filling(WORDS, BIGGEST, 16).ok()?;
     pace.mark = WORDS / 2;
     let mut heap = PacedHeap::new(&counted, config_of(2), pace).ok()?;
-    give(rt, &counted, &mut heap, calls)
+    time_commands(rt, &counted, &mut heap, calls)
 }
 
 /// Makes so many calls on what lies under a lock, and tells what they took; nothing where the clock
 /// failed.
-fn call<'m, R: Clock>(
+fn time_calls<'m, R: Clock>(
     rt: &R,
     memory: &'m RefusingAllocator<Global>,
     kept: &mut Kept<&'m RefusingAllocator<Global>>,
@@ -71,5 +71,5 @@ pub fn run_kept<R: Clock + AllocGlobal>(rt: &R, calls: u32) -> Option<CallFigure
     let counted = RefusingAllocator::new(rt.alloc(), 0);
     let start = Start::new(&counted, config_of(2), without_replicators(calls)).ok()?;
     let (mut kept, _ends) = Kept::new(&counted, start).ok()?;
-    call(rt, &counted, &mut kept, calls)
+    time_calls(rt, &counted, &mut kept, calls)
 }

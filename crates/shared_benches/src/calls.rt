@@ -73,7 +73,7 @@ where
     mutators.push(last).ok()
 }
 
-/// Makes the calls of the last mutator; nothing where there is none.
+/// Makes the calls of the last mutator; nothing where there is none, or memory was refused.
 fn play_last<R, A>(
     rt: &R,
     shared: &SharedHeap<A>,
@@ -88,7 +88,8 @@ where
     mutators.push(play(rt, shared, last, calls)).ok()
 }
 
-/// Makes the calls of the last two mutators; nothing where there are too few.
+/// Makes the calls of the last two mutators; nothing where there are too few, or memory was
+/// refused.
 fn play_last_two<R, A>(
     rt: &R,
     shared: &SharedHeap<A>,
@@ -103,7 +104,8 @@ where
     put_two(mutators, play_two(rt, shared, two, calls))
 }
 
-/// Makes the calls of the last four mutators; nothing where there are too few.
+/// Makes the calls of the last four mutators; nothing where there are too few, or memory was
+/// refused.
 fn play_last_four<R, A>(
     rt: &R,
     shared: &SharedHeap<A>,
@@ -125,7 +127,8 @@ where
     put_two(mutators, last)
 }
 
-/// Makes the calls of one, two or four mutators, in a thread each; nothing where there are too few.
+/// Makes the calls of one, two or four mutators, in a thread each; nothing where there are too few,
+/// or memory was refused.
 fn play_beside<R, A>(
     rt: &R,
     shared: &SharedHeap<A>,
@@ -146,8 +149,8 @@ where
     }
 }
 
-/// Makes the calls, and tells what they cost; nothing where there are too few mutators or the clock
-/// failed.
+/// Makes the calls, and tells what they cost; nothing where there are too few mutators, memory was
+/// refused or the clock failed.
 fn play_timed<'m, R>(
     rt: &R,
     memory: &'m RefusingAllocator<Global>,
@@ -170,7 +173,7 @@ where
 }
 
 /// Closes the heap, and tells what it counted beside the cost; nothing where it isn't closed.
-fn closed<A: Allocator + Copy>(
+fn close_counted<A: Allocator + Copy>(
     shared: SharedHeap<A>,
     mutators: Vec<Mutator<A>, A>,
     cost: Cost,
@@ -184,7 +187,8 @@ fn closed<A: Allocator + Copy>(
     })
 }
 
-/// What a heap of so many threads and so many calls in each starts with.
+/// What a heap of so many threads and so many calls in each starts with; nothing where these are
+/// too many, or memory was refused.
 fn start_of<A: Allocator + Copy>(memory: A, threads: u32, calls: u32) -> Option<Start<A>> {
     let config = config_of(threads.checked_add(1)?);
     let shared = without_replicators(threads.checked_mul(calls)?);
@@ -202,5 +206,5 @@ where
     let start = start_of(memory, threads, calls)?;
     let (shared, mut mutators, _ends) = SharedHeap::new(memory, start).ok()?;
     let cost = play_timed(rt, memory, &shared, &mut mutators, threads, calls)?;
-    closed(shared, mutators, cost)
+    close_counted(shared, mutators, cost)
 }

@@ -104,7 +104,7 @@ fn make_by_last<R: Wait>(rt: &R, shared: &SharedHeap, mutators: &mut Vec<Mutator
     Some(())
 }
 
-/// Makes the cycles, with the replicators in threads beside them.
+/// Makes the cycles, with the replicators in threads beside them; nothing where it failed.
 fn drive_beside<R>(
     rt: &R,
     alloc: Global,

@@ -18,8 +18,8 @@ use std::rt::{Clock, Env};
 use std::sync::Wait;
 use std::thread::Threads;
 
-/// The commands of a heap that collects by itself, once.
-fn run_paced<R: Print + Clock + AllocGlobal>(rt: &R) -> Option<()> {
+/// Gives commands to a heap that collects by itself, and prints a line; nothing where it failed.
+fn print_paced<R: Print + Clock + AllocGlobal>(rt: &R) -> Option<()> {
     let paced = alone::run_paced(rt, 100)?;
     println!(rt;
         "paced: {} calls, {} allocations",
@@ -28,8 +28,8 @@ fn run_paced<R: Print + Clock + AllocGlobal>(rt: &R) -> Option<()> {
     .ok()
 }
 
-/// The calls on what lies under a lock, once.
-fn run_kept<R: Print + Clock + AllocGlobal>(rt: &R) -> Option<()> {
+/// Makes calls on what lies under a lock, and prints a line; nothing where it failed.
+fn print_kept<R: Print + Clock + AllocGlobal>(rt: &R) -> Option<()> {
     let kept = alone::run_kept(rt, 100)?;
     println!(rt;
         "kept: {} calls, {} allocations",
@@ -38,8 +38,8 @@ fn run_kept<R: Print + Clock + AllocGlobal>(rt: &R) -> Option<()> {
     .ok()
 }
 
-/// The calls of so many threads, once.
-fn run_calls<R>(rt: &R, threads: u32) -> Option<()>
+/// Makes the calls of so many threads, and prints a line; nothing where it failed.
+fn print_calls<R>(rt: &R, threads: u32) -> Option<()>
 where
     R: Print + Clock + AllocGlobal + Threads + Wait + Sync,
 {
@@ -51,8 +51,8 @@ where
     .ok()
 }
 
-/// The folds and the cycles of so many replicators, once.
-fn run_replicators<R>(rt: &R, replicators: u32) -> Option<()>
+/// Makes folds and cycles with so many replicators, and prints a line; nothing where it failed.
+fn print_replicators<R>(rt: &R, replicators: u32) -> Option<()>
 where
     R: Print + Clock + AllocGlobal + Threads + Wait + Sync,
 {
@@ -70,13 +70,13 @@ fn run_each<R>(rt: &R) -> Option<()>
 where
     R: Print + Clock + AllocGlobal + Threads + Wait + Sync,
 {
-    run_paced(rt)?;
-    run_kept(rt)?;
+    print_paced(rt)?;
+    print_kept(rt)?;
     for threads in [1, 2, 4] {
-        run_calls(rt, threads)?;
+        print_calls(rt, threads)?;
     }
     for replicators in [0, 1, 2, 4] {
-        run_replicators(rt, replicators)?;
+        print_replicators(rt, replicators)?;
     }
     Some(())
 }
