@@ -32,7 +32,7 @@ fn fill<A: Allocator + Copy>(heap: &mut PacedHeap<A>) -> Result<(), Refusal> {
     Ok(())
 }
 
-/// One more has no room until two are dropped.
+/// Asks for one more, which is refused for want of room, drops two, and insists on it.
 fn make_one_more<A: Allocator + Copy>(heap: &mut PacedHeap<A>) -> Result<(), Problem> {
     let dst = RootId { owner: 0, slot: 0 };
     let alloc_one = Command::Alloc {

@@ -34,7 +34,7 @@ fn share<A: Allocator + Copy>(heap: &mut PacedHeap<A>) -> Result<(), Refusal> {
     Ok(())
 }
 
-/// Owner 2, which may not take it from the slot of owner 1, takes it there, and stores a number.
+/// Owner 2 may not take it from the slot of owner 1, takes it where all may, and stores a number.
 fn hand_on<A: Allocator + Copy>(heap: &mut PacedHeap<A>) -> Result<(), Problem> {
     match heap.copy(2, YOURS, MINE) {
         Err(Refusal::NotYours) => {}

@@ -32,7 +32,8 @@ pub fn run<A: Allocator + Copy, W: io::Write>(
     run_in(alloc, &mut heap, writer)
 }
 
-/// Does so in this heap.
+/// Makes the pairs in this heap, each call noted in a new recorder, writes the dump and lets the
+/// calls be judged.
 fn run_in<A: Allocator + Copy, W: io::Write>(
     alloc: A,
     heap: &mut PacedHeap<A>,
@@ -42,7 +43,8 @@ fn run_in<A: Allocator + Copy, W: io::Write>(
     run_noted(alloc, heap, &mut recorder, writer)
 }
 
-/// Does so with this recorder.
+/// Makes the pairs in this heap, each call noted in this recorder, writes the dump and lets the
+/// calls be judged.
 fn run_noted<A: Allocator + Copy, W: io::Write>(
     alloc: A,
     heap: &mut PacedHeap<A>,
