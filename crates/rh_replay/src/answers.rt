@@ -5,17 +5,17 @@ ghost use Rattle.rh_text.specs.Parts.{parts_left};
 ghost use Rattle.rh_replay.specs.Reading.{bare_answer, sameness_of, refusal_named, answer_with, answer_of};
 
 use rh_layout::{Refusal, Reply};
-use rh_text::{one_part, read_integer, read_number, two_parts};
+use rh_text::{is_text, one_part, read_integer, read_number, two_parts};
 
 /// The answer of one part.
 #[tactic(auto, unfolding(crate::specs::Reading::bare_answer))]
 fn bare_answer(word: &[u8]) -> Option<Result<Reply, Refusal>>
     ensures { result ≡ bare_answer word.now }
 {
-    if word == b"done".as_slice() {
+    if is_text(word, b"done") {
         return Some(Ok(Reply::Done));
     }
-    if word == b"nil".as_slice() {
+    if is_text(word, b"nil") {
         return Some(Ok(Reply::Nil));
     }
     None
@@ -26,10 +26,10 @@ fn bare_answer(word: &[u8]) -> Option<Result<Reply, Refusal>>
 fn sameness_of(part: &[u8]) -> Option<Result<Reply, Refusal>>
     ensures { result ≡ sameness_of part.now }
 {
-    if part == b"yes".as_slice() {
+    if is_text(part, b"yes") {
         return Some(Ok(Reply::Same(true)));
     }
-    if part == b"no".as_slice() {
+    if is_text(part, b"no") {
         return Some(Ok(Reply::Same(false)));
     }
     None
@@ -40,25 +40,25 @@ fn sameness_of(part: &[u8]) -> Option<Result<Reply, Refusal>>
 fn refusal_named(part: &[u8]) -> Option<Result<Reply, Refusal>>
     ensures { result ≡ refusal_named part.now }
 {
-    if part == b"NoRoot".as_slice() {
+    if is_text(part, b"NoRoot") {
         return Some(Err(Refusal::NoRoot));
     }
-    if part == b"NotYours".as_slice() {
+    if is_text(part, b"NotYours") {
         return Some(Err(Refusal::NotYours));
     }
-    if part == b"NotObject".as_slice() {
+    if is_text(part, b"NotObject") {
         return Some(Err(Refusal::NotObject));
     }
-    if part == b"NoField".as_slice() {
+    if is_text(part, b"NoField") {
         return Some(Err(Refusal::NoField));
     }
-    if part == b"RawField".as_slice() {
+    if is_text(part, b"RawField") {
         return Some(Err(Refusal::RawField));
     }
-    if part == b"IntRange".as_slice() {
+    if is_text(part, b"IntRange") {
         return Some(Err(Refusal::IntRange));
     }
-    if part == b"FieldsRange".as_slice() {
+    if is_text(part, b"FieldsRange") {
         return Some(Err(Refusal::FieldsRange));
     }
     None
@@ -69,19 +69,19 @@ fn refusal_named(part: &[u8]) -> Option<Result<Reply, Refusal>>
 fn answer_with(word: &[u8], part: &[u8]) -> Option<Result<Reply, Refusal>>
     ensures { result ≡ answer_with word.now part.now }
 {
-    if word == b"int".as_slice() {
+    if is_text(word, b"int") {
         return Some(Ok(Reply::Int(read_integer(part)?)));
     }
-    if word == b"object".as_slice() {
+    if is_text(word, b"object") {
         return Some(Ok(Reply::Object(read_number(part)?)));
     }
-    if word == b"raw".as_slice() {
+    if is_text(word, b"raw") {
         return Some(Ok(Reply::Raw(read_number(part)?)));
     }
-    if word == b"same".as_slice() {
+    if is_text(word, b"same") {
         return sameness_of(part);
     }
-    if word == b"refused".as_slice() {
+    if is_text(word, b"refused") {
         return refusal_named(part);
     }
     None

@@ -12,7 +12,7 @@ use crate::fault::{HistoryFault, HistoryKind};
 use rh_layout::limits::{MAX_LINE_BYTES, MAX_LINES};
 use rh_layout::{Command, MAX_OWNERS, MAX_SLOTS};
 use rh_syntax::{Kind, checked_parts, owned_command};
-use rh_text::{cut, next_part, one_part, read_number, three_parts};
+use rh_text::{cut, is_text, next_part, one_part, read_number, three_parts};
 
 /// What stands in a line before its last bytes, so many of them, and before the space before these:
 /// `None` where they are all of the line.
@@ -36,12 +36,12 @@ fn before_equals(line: &[u8]) -> Option<&[u8]>
 {
     let mut rest = line;
     while let Some((part, after)) = cut(rest, b' ') {
-        if part == b"=".as_slice() {
+        if is_text(part, b"=") {
             return before_last(line, rest.len());
         }
         rest = after;
     }
-    if rest == b"=".as_slice() {
+    if is_text(rest, b"=") {
         return before_last(line, rest.len());
     }
     Some(line)
@@ -54,7 +54,7 @@ fn after_equals(line: &[u8]) -> Option<&[u8]>
 {
     let mut rest = line;
     while let Some((part, after)) = cut(rest, b' ') {
-        if part == b"=".as_slice() {
+        if is_text(part, b"=") {
             return Some(after);
         }
         rest = after;
@@ -121,7 +121,7 @@ fn line_of_parts(number: u32, rest: Option<&[u8]>) -> Result<Option<Call>, Histo
         return Err(HistoryKind::Line(Kind::Form));
     };
     let (word, args) = next_part(rest).ok_or(HistoryKind::Line(Kind::Form))?;
-    if word == b"end".as_slice() {
+    if is_text(word, b"end") {
         return end_of_parts(number, args);
     }
     Ok(Some(call_of_parts(line)?))
@@ -167,7 +167,7 @@ fn header_of_parts(rest: Option<&[u8]>) -> Result<(u32, u32), Kind>
     ensures { result ≡ header_of_parts (parts_left rest.entry) }
 {
     let (word, owners, slots) = three_parts(rest).ok_or(Kind::Header)?;
-    if word != b"history".as_slice() {
+    if !is_text(word, b"history") {
         return Err(Kind::Header);
     }
     sizes_of(owners, slots)

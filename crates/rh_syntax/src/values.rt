@@ -2,21 +2,12 @@
 //! text.
 
 ghost use Rattle.std.specs.Prelude.{◌≡◌, ◌+◌, ◌≤◌, ◌++◌, length};
-ghost use Rattle.std.specs.Str.{bytes_eq};
 ghost use Rattle.rh_syntax.specs.Reading.{number_or_fault, integer_or_fault, root_or_fault, operand_or_fault};
 ghost use Rattle.rh_syntax.specs.Spelling.{operand_text};
 
 use crate::fault::Kind;
 use rh_layout::{Operand, RootId};
-use rh_text::{LineText, has_dot, read_integer, read_number, read_root};
-
-/// Whether a part is this word.
-#[inline(always)]
-pub fn is_word(part: &[u8], word: &[u8]) -> bool
-    ensures { result ≡ bytes_eq part.now word.now }
-{
-    part == word
-}
+use rh_text::{LineText, has_dot, is_text, read_integer, read_number, read_root};
 
 /// The number that a part says.
 pub fn number_or_fault(part: &[u8]) -> Result<u32, Kind>
@@ -44,7 +35,7 @@ pub fn root_or_fault(part: &[u8]) -> Result<RootId, Kind>
 pub fn operand_or_fault(part: &[u8]) -> Result<Operand, Kind>
     ensures { result ≡ operand_or_fault part.now }
 {
-    if part == b"nil".as_slice() {
+    if is_text(part, b"nil") {
         return Ok(Operand::Nil);
     }
     if has_dot(part) {

@@ -1,7 +1,6 @@
 -- Three parts and six parts by the first three of them.
 use Rattle.std.proofs.Common.{◌≡◌, ℕ, Option, Some, None, List, [], ◌∷◌, refl, sym, ◌∙◌, ap}
-use Rattle.rh_text.specs.Parts.{◌>>=◌, end_of, three_parts, six_parts}
-use Rattle.rh_text.specs.FirstThree.{first_three}
+use Rattle.rh_text.specs.Parts.{◌>>=◌, first_three, end_of, three_parts, six_parts}
 
 abbrev Parts : Type 0
 Parts = List (List ℕ)

@@ -3,7 +3,6 @@ pub mod Input
 pub mod Output
 pub mod RawLine
 pub mod Parts
-pub mod FirstThree
 pub mod Number
 pub mod Root
 pub mod Steps

@@ -69,6 +69,15 @@ abbrev pub ◌>>=◌ : {A B : Type 0} → Option A → (A → Option B) → Opti
 (Some x) >>= f = f x
 None >>= f = None
 
+-- the first three parts, and the others
+abbrev pub first_three : List (List ℕ)
+    → Option (List ℕ × List ℕ × List ℕ × List (List ℕ))
+first_three parts = do
+  a ← first_and_rest parts
+  b ← first_and_rest a.1
+  c ← first_and_rest b.1
+  Some (a.0, b.0, c.0, c.1)
+
 -- no part is left
 abbrev pub end_of : List (List ℕ) → Option (Unit {0})
 end_of [] = Some tt

@@ -23,8 +23,8 @@ pub use line_text::LineText;
 pub use number::{read_integer, read_number};
 pub use output::{Write, send};
 pub use parts::{
-    begins_with_digit, cut, has_dot, is_formed, next_part, one_part, six_parts, three_parts,
-    two_parts,
+    begins_with_digit, cut, has_dot, is_formed, is_text, next_part, one_part, six_parts,
+    three_parts, two_parts,
 };
 pub use raw_line::first_line;
 pub use root::read_root;

@@ -2,8 +2,16 @@
 
 ghost use Rattle.std.specs.Prelude.{◌≡◌};
 ghost use Rattle.std.specs.Option.{option_map};
-ghost use Rattle.rh_text.specs.FirstThree.{first_three};
-ghost use Rattle.rh_text.specs.Parts.{cut_at, parts_left, may_follow, is_formed, has_dot, begins_with_digit, first_and_rest, end_of, one_part, two_parts, three_parts, six_parts};
+ghost use Rattle.std.specs.Str.{bytes_eq};
+ghost use Rattle.rh_text.specs.Parts.{cut_at, parts_left, may_follow, is_formed, has_dot, begins_with_digit, first_and_rest, first_three, end_of, one_part, two_parts, three_parts, six_parts};
+
+/// The part is this text.
+#[inline(always)]
+pub fn is_text(part: &[u8], text: &[u8]) -> bool
+    ensures { result ≡ bytes_eq part.now text.now }
+{
+    part == text
+}
 
 /// What stands before the first byte `at`, and what stands after it.
 pub fn cut(bytes: &[u8], at: u8) -> Option<(&[u8], &[u8])>

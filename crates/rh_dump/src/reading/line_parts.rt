@@ -12,9 +12,9 @@ ghost use Rattle.rh_dump.specs.texts.Reading.{formed_parts, part_after, roots_of
 use crate::limits::{LAST_OBJECT, MAX_OBJECTS, MAX_ROOTS};
 use crate::reading::due::Version;
 use crate::reading::fault::DumpKind;
-use crate::reading::parts::{after_at, is_text, number_or_fault, root_or_fault, value_or_fault};
+use crate::reading::parts::{after_at, number_or_fault, root_or_fault, value_or_fault};
 use rh_layout::{MAX_FIELDS, RootId, Shape, Value};
-use rh_text::{is_formed, next_part, two_parts};
+use rh_text::{is_formed, is_text, next_part, two_parts};
 
 /// The parts of a line that is well formed.
 #[tactic(auto, unfolding(crate::specs::texts::Reading::formed_parts))]

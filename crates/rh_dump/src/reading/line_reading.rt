@@ -19,10 +19,10 @@ use crate::reading::fault::DumpKind;
 use crate::reading::line_parts::{
     formed_parts, objects_of_parts, root_of_parts, roots_of_parts, start_of,
 };
-use crate::reading::parts::{field_or_fault, is_text};
+use crate::reading::parts::field_or_fault;
 use crate::reading::read_error::LineError;
 use rh_layout::{RootId, Value};
-use rh_text::next_part;
+use rh_text::{is_text, next_part};
 use std::alloc::Allocator;
 
 /// How many objects are met with this value, where so many were met before it.

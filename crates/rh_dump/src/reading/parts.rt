@@ -2,7 +2,6 @@
 
 ghost use Rattle.std.specs.Prelude.{◌≡◌, ℕ, IfOk};
 ghost use Rattle.std.specs.Option.{option_map};
-ghost use Rattle.std.specs.Str.{bytes_eq};
 ghost use Rattle.rh_dump.specs.Meeting.{IsBelow};
 ghost use Rattle.rh_dump.specs.texts.Part.{number_up_to, whole_of, small_root_of, after_at};
 ghost use Rattle.rh_dump.specs.texts.Reading.{number_or_fault, reference_or_fault, whole_or_fault, value_or_fault, plain_or_fault, field_or_fault, is_root_before, is_root_after, root_or_fault};
@@ -11,7 +10,7 @@ use crate::limits::LAST_OBJECT;
 use crate::reading::fault::DumpKind;
 use rh_layout::limits::{MAX_OWNERS, MAX_SLOTS};
 use rh_layout::{RootId, Value, is_whole};
-use rh_text::{read_integer, read_number, read_root};
+use rh_text::{is_text, read_integer, read_number, read_root};
 
 /// The number up to a limit of which the part is the decimal.
 #[tactic(auto, unfolding(crate::specs::texts::Part::number_up_to))]
@@ -46,13 +45,6 @@ pub fn after_at(part: &[u8]) -> Option<&[u8]>
         [] => None,
         [first, rest @ ..] => { if *first == b'@' { Some(rest) } else { None } }
     }
-}
-
-/// The part is this text.
-pub fn is_text(part: &[u8], text: &[u8]) -> bool
-    ensures { result ≡ bytes_eq part.now text.now }
-{
-    part == text
 }
 
 /// A reference to one of so many objects, where so many were met.

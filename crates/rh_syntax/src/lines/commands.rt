@@ -7,9 +7,9 @@ ghost use Rattle.rh_syntax.specs.Reading.{read_alloc, read_raw, read_load, read_
 ghost use Rattle.rh_syntax.specs.Spelling.{command_text, spell_command};
 
 use crate::fault::Kind;
-use crate::values::{is_word, number_or_fault, operand_or_fault, put_operand, root_or_fault};
+use crate::values::{number_or_fault, operand_or_fault, put_operand, root_or_fault};
 use rh_layout::{Command, Operand, RootId};
-use rh_text::{LineText, begins_with_digit, next_part, one_part, three_parts, two_parts};
+use rh_text::{LineText, begins_with_digit, is_text, next_part, one_part, three_parts, two_parts};
 
 /// `OWNER alloc ROOT FIELDS`, from the owner and what stands after the keyword.
 #[tactic(auto, unfolding(crate::specs::Reading::read_alloc))]
@@ -216,25 +216,25 @@ pub(crate) fn command_or_fault(owner: &[u8], rest: Option<&[u8]>) -> Result<(u32
     let Some((keyword, rest)) = next_part(rest) else {
         return Err(Kind::Form);
     };
-    if is_word(keyword, b"alloc") {
+    if is_text(keyword, b"alloc") {
         return read_alloc(owner, rest);
     }
-    if is_word(keyword, b"raw") {
+    if is_text(keyword, b"raw") {
         return read_raw(owner, rest);
     }
-    if is_word(keyword, b"load") {
+    if is_text(keyword, b"load") {
         return read_load(owner, rest);
     }
-    if is_word(keyword, b"store") {
+    if is_text(keyword, b"store") {
         return read_store(owner, rest);
     }
-    if is_word(keyword, b"copy") {
+    if is_text(keyword, b"copy") {
         return read_copy(owner, rest);
     }
-    if is_word(keyword, b"same") {
+    if is_text(keyword, b"same") {
         return read_same(owner, rest);
     }
-    if is_word(keyword, b"drop") {
+    if is_text(keyword, b"drop") {
         return read_drop(owner, rest);
     }
     Err(Kind::Word)

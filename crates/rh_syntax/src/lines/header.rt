@@ -8,7 +8,7 @@ ghost use Rattle.rh_syntax.specs.Spelling.{spell_header};
 use crate::fault::Kind;
 use crate::line::Header;
 use crate::values::number_or_fault;
-use rh_text::{LineText, six_parts};
+use rh_text::{LineText, is_text, six_parts};
 
 /// `WORDS RATIO LOG OWNERS SLOTS`.
 #[tactic(auto, unfolding(crate::specs::Reading::sizes_of))]
@@ -38,7 +38,7 @@ pub fn header_of_parts(rest: Option<&[u8]>) -> Result<Header, Kind>
     let Some((word, words, ratio, log, owners, slots)) = six_parts(rest) else {
         return Err(Kind::Header);
     };
-    if word != b"heap".as_slice() {
+    if !is_text(word, b"heap") {
         return Err(Kind::Header);
     }
     sizes_of(words, ratio, log, owners, slots)

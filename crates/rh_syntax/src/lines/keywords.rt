@@ -9,9 +9,9 @@ ghost use Rattle.rh_syntax.specs.declared.request.Request.TheVariants as request
 use crate::fault::Kind;
 use crate::request::Request;
 use crate::tray_name::{TrayName, tray_name_of};
-use crate::values::{is_word, number_or_fault, root_or_fault};
+use crate::values::{number_or_fault, root_or_fault};
 use rh_layout::{Kind as PieceKind, RootId};
-use rh_text::{LineText, next_part, one_part, three_parts, two_parts};
+use rh_text::{LineText, is_text, next_part, one_part, three_parts, two_parts};
 
 /// The name of a tray that a part says.
 fn tray_or_fault(part: &[u8]) -> Result<TrayName, Kind>
@@ -35,10 +35,10 @@ fn put_next_tray(text: &mut LineText, tray: TrayName)
 fn kind_or_fault(part: &[u8]) -> Result<PieceKind, Kind>
     ensures { result ≡ kind_or_fault part.now }
 {
-    if is_word(part, b"copies") {
+    if is_text(part, b"copies") {
         return Ok(PieceKind::Copies);
     }
-    if is_word(part, b"entries") {
+    if is_text(part, b"entries") {
         return Ok(PieceKind::Entries);
     }
     Err(Kind::Word)
@@ -197,40 +197,40 @@ pub fn put_idle_line(text: &mut LineText, words: u32)
 pub fn keyword_request(keyword: &[u8], rest: Option<&[u8]>) -> Result<Request, Kind>
     ensures { result ≡ keyword_request keyword.now (parts_left rest.entry) }
 {
-    if is_word(keyword, b"begin") {
+    if is_text(keyword, b"begin") {
         return alone(rest, Request::Begin);
     }
-    if is_word(keyword, b"shade") {
+    if is_text(keyword, b"shade") {
         return read_shade(rest);
     }
-    if is_word(keyword, b"deal") {
+    if is_text(keyword, b"deal") {
         return read_deal(rest);
     }
-    if is_word(keyword, b"give") {
+    if is_text(keyword, b"give") {
         return read_give(rest);
     }
-    if is_word(keyword, b"join") {
+    if is_text(keyword, b"join") {
         return read_join(rest);
     }
-    if is_word(keyword, b"flip") {
+    if is_text(keyword, b"flip") {
         return alone(rest, Request::Flip);
     }
-    if is_word(keyword, b"recall") {
+    if is_text(keyword, b"recall") {
         return alone(rest, Request::Recall);
     }
-    if is_word(keyword, b"abandon") {
+    if is_text(keyword, b"abandon") {
         return alone(rest, Request::Abandon);
     }
-    if is_word(keyword, b"idle") {
+    if is_text(keyword, b"idle") {
         return read_idle(rest);
     }
-    if is_word(keyword, b"trays") {
+    if is_text(keyword, b"trays") {
         return alone(rest, Request::Trays);
     }
-    if is_word(keyword, b"stat") {
+    if is_text(keyword, b"stat") {
         return alone(rest, Request::Stat);
     }
-    if is_word(keyword, b"dump") {
+    if is_text(keyword, b"dump") {
         return alone(rest, Request::Dump);
     }
     Err(Kind::Word)

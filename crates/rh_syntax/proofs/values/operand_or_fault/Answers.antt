@@ -2,6 +2,6 @@ use Rattle.std.proofs.Common.{rules}
 use Rattle.rh_syntax.specs.Reading.{operand_or_fault}
 use Rattle.rh_syntax.proofs.values.operand_or_fault.Goals as goal
 
-pub returns-then-eq : goal.returns-then-eq
+pub returns-then-is_text : goal.returns-then-is_text
 unfolding operand_or_fault
-returns-then-eq c = search rules
+returns-then-is_text c = search rules
