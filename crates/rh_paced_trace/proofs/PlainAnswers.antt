@@ -1,7 +1,7 @@
 -- What a paced run writes are the answers of a plain heap.
 use Rattle.std.proofs.Common.{◌≡◌, ℕ, false, inl, inr, List, [], ◌∷◌, Option, None, Result, Ok, Err, refl, sym, ap, subst, ◌∙◌}
 use Rattle.std.specs.Prelude.{IfOk, IsErrOf}
-use Rattle.std.specs.Io.KnownBytes.{Appends, Consumes, Keeps}
+use Rattle.std.specs.Io.KnownBytes.{Appends, Consumes}
 use Rattle.std.proofs.lemmas.List.Elements.{All-head, All-tail}
 use Rattle.rh_layout.specs.declared.command.Command.{Command}
 use Rattle.rh_layout.specs.declared.command.Reply.{Reply}
@@ -173,6 +173,3 @@ module _ {A : Type 0} (laws : PlainLaws A) where
     plain_prefix result ends failed =
         let cut = subst (λ (r : Result Summary PacedFault). Ends mark input r old new) failed ends in
         (cut.0, answers_of cut.0 cut.1, sum_of cut.0 cut.1, plain_run mark input cut.0 cut.1 from to cut.2 consumed, sums cut.0 cut.1, cut.3)
-
-    pub unwritten : (result : Result Summary PacedFault) → Ends mark input result old new → IsErrOf result faults.OutOfMemory → Keeps old new
-    unwritten result ends refused = subst (λ (r : Result Summary PacedFault). Ends mark input r old new) refused ends

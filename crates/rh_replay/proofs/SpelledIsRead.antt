@@ -231,10 +231,6 @@ line_or_fault-join number first others r small are read =
 end_parts_are : (count : ℕ) → IsU32 count → AreParts (codes "end") (decimal count ∷ [])
 end_parts_are count small = record { each = (record { filled = refl; glyphs = refl; short = omega arith }, (number_part count small, tt)); few = omega arith }
 
--- what reading goes on with
-rest_of : ℕ → List RawLine → Option Call → Result (List Call) HistoryFault
-rest_of number lines read = next_calls read (end_from (number + 1) lines) (calls_from (number + 1) lines)
-
 calls_from-line : (number : ℕ) (raw : RawLine) (lines : List RawLine) (r : Option Call) → line_or_fault number raw ≡ Ok r → calls_from number (raw ∷ lines) ≡ next_calls r (end_from (number + 1) lines) (calls_from (number + 1) lines)
 unfolding calls_from
 calls_from-line number raw lines r e = ap (λ (s : Result (Option Call) HistoryFault). s >>= λ read. next_calls read (end_from (number + 1) lines) (calls_from (number + 1) lines)) e

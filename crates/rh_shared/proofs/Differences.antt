@@ -1,22 +1,12 @@
 -- Shares compared with the calls of their owners in a history.
-use Rattle.std.proofs.Common.{◌≡◌, ◌≢◌, ℕ, zero, suc, ◌+◌, ◌<◌, ◌≤◌, Bool, true, false, cond, List, [], ◌∷◌, ◌++◌, Option, Some, None, length, take, drop, get_or, refl, sym, ap, subst, ◌∙◌, arith, add-one}
-use Rattle.std.specs.Prelude.{◌==◌, ◌&&◌, nat_lt, nat_le, slice_get}
-use Rattle.std.proofs.lemmas.Bool.{and_parts, ltb-true, ltb-false, leb-true, leb-false, lt-ltb, le-ltb, eqb-true, eq-eqb}
+use Rattle.std.proofs.Common.{◌≡◌, ◌≢◌, ℕ, zero, suc, ◌+◌, ◌<◌, ◌≤◌, Bool, true, false, cond, List, [], ◌∷◌, ◌++◌, Some, None, length, take, drop, get_or, refl, sym, ap, subst, ◌∙◌, arith, add-one}
+use Rattle.std.specs.Prelude.{◌==◌, ◌&&◌, nat_lt, slice_get}
+use Rattle.std.proofs.lemmas.Bool.{and_parts, ltb-true, ltb-false, lt-ltb, le-ltb, eqb-true, eq-eqb}
 use Rattle.std.proofs.lemmas.List.{at_drop_more}
-use Rattle.std.proofs.lemmas.List.Elements.{filter-append}
 use Rattle.rh_replay.specs.declared.call.Call.{Call}
-use Rattle.rh_shared.specs.Shares.{HistoryDiffersAt, MutatorState, calls_of, due_to, first_mutators, have_owners_below, lesser_of, lesser_stranger, new_mutator, mutator_count, share_of, IsFirstDifference, IsLeastStranger, IsOneEach}
+use Rattle.rh_shared.specs.Shares.{HistoryDiffersAt, MutatorState, calls_of, due_to, first_mutators, have_owners_below, new_mutator, mutator_count, share_of, IsFirstDifference, IsLeastStranger, IsOneEach}
 
 -- Calls of an owner.
-
-calls_of-append : (owner : ℕ) (xs ys : List Call) → calls_of owner (xs ++ ys) ≡ calls_of owner xs ++ calls_of owner ys
-calls_of-append owner xs ys = filter-append (λ (call : Call). call.owner == owner) xs ys
-
-calls_of-other : (owner : ℕ) (c : Call) → (c.owner == owner) ≡ false → calls_of owner (c ∷ []) ≡ []
-calls_of-other owner c e = rw e refl
-
-calls_of-own : (c : Call) → calls_of c.owner (c ∷ []) ≡ c ∷ []
-calls_of-own c = rw (eq-eqb c.owner c.owner refl) refl
 
 -- two numbers that differ aren't told equal
 pub differ-eqb : (m n : ℕ) → (m ≡ n → ⊥) → (m == n) ≡ false
@@ -52,12 +42,6 @@ within-get : {X : Type 0} (k : ℕ) (xs : List X) (x : X) → slice_get xs k ≡
 within-get k [] x e = absurd (cc)
 within-get zero (z ∷ xs) x e = omega arith
 within-get (suc k) (z ∷ xs) x e = omega (arith, within-get k xs x e)
-
-take-whole : {X : Type 0} (k : ℕ) (xs : List X) → length xs ≤ k → take k xs ≡ xs
-take-whole zero [] few = refl
-take-whole (suc k) [] few = refl
-take-whole zero (x ∷ xs) few = absurd (omega arith)
-take-whole (suc k) (x ∷ xs) few = ap (λ rest. x ∷ rest) (take-whole k xs (omega arith))
 
 within-some : {X : Type 0} (k : ℕ) (xs : List X) → k < length xs → slice_get xs k ≡ None → ⊥
 within-some k [] few e = omega arith
@@ -125,9 +109,6 @@ differs-at_end found share all few goes =
       same = sym (take-itself found share [] (omega arith)) ∙ ap (take found) goes;
       differ = λ same. within-some found share few (same ∙ sym (ap (λ xs. slice_get xs found) whole) ∙ slice_get-of_front found share);
     }
-
-pub same-at_end : (found : ℕ) (share all : List Call) → length share ≤ found → Goes found share [] all → share ≡ all
-same-at_end found share all few goes = sym (take-whole found share few) ∙ sym (append-nothing (take found share)) ∙ goes
 
 -- one owner more
 pub shares-through : (n : ℕ) (ms : List MutatorState) (calls : List Call) → ((o : ℕ) → o < n → share_of o ms ≡ calls_of o calls) → share_of n ms ≡ calls_of n calls
@@ -246,58 +227,6 @@ pub share-stranger : (owners o : ℕ) (ms : List MutatorState) → IsOneEach own
 share-stranger owners o ms each past = share-none o ms (each o ∙ due-past owners o past)
 
 -- Strangers.
-
-append-some : {X : Type 0} (xs ys : List X) (y : X) → xs ++ y ∷ ys ≡ [] → ⊥
-append-some [] ys y e = cc
-append-some (x ∷ xs) ys y e = cc
-
-append-left : {X : Type 0} (xs ys : List X) → xs ++ ys ≡ [] → xs ≡ []
-append-left [] ys e = refl
-append-left (x ∷ xs) ys e = absurd (cc)
-
--- an owner that isn't the call's has the calls that it had
-kept-calls : (o : ℕ) (calls : List Call) (c : Call) → (c.owner ≡ o → ⊥) → calls_of o calls ≡ [] → calls_of o (calls ++ c ∷ []) ≡ []
-kept-calls o calls c other none =
-    calls_of-append o calls (c ∷ []) ∙ ap (λ xs. xs ++ calls_of o (c ∷ [])) none ∙ calls_of-other o c (differ-eqb c.owner o other)
-
--- and one that had some has some
-more-calls : (o : ℕ) (calls : List Call) (c : Call) → calls_of o calls ≢ [] → calls_of o (calls ++ c ∷ []) ≢ []
-more-calls o calls c some e = some (append-left (calls_of o calls) (calls_of o (c ∷ [])) (sym (calls_of-append o calls (c ∷ [])) ∙ e))
-
-own-calls : (calls : List Call) (c : Call) → calls_of c.owner (calls ++ c ∷ []) ≢ []
-own-calls calls c e =
-    append-some (calls_of c.owner calls) [] c (ap (λ xs. calls_of c.owner calls ++ xs) (sym (calls_of-own c)) ∙ sym (calls_of-append c.owner calls (c ∷ [])) ∙ e)
-
--- the call of an owner that the heap has changes nothing
-stranger-kept : (found : Option ℕ) (owners : ℕ) (calls : List Call) (c : Call) → c.owner < owners → IsLeastStranger found owners calls → IsLeastStranger found owners (calls ++ c ∷ [])
-stranger-kept None owners calls c has least = λ o past. kept-calls o calls c (λ e. omega arith) (least o past)
-stranger-kept (Some k) owners calls c has least = (
-  least.0,
-  more-calls k calls c least.1,
-  λ o past less. kept-calls o calls c (λ e. omega arith) (least.2 o past less),
-)
-
--- the call of another owner may make it the least
-stranger-more : (found : Option ℕ) (owners : ℕ) (calls : List Call) (c : Call) → owners ≤ c.owner → IsLeastStranger found owners calls
-    → IsLeastStranger (lesser_of found c.owner) owners (calls ++ c ∷ [])
-stranger-more None owners calls c past least = (past, own-calls calls c, λ o from less. kept-calls o calls c (λ e. omega arith) (least o from))
-stranger-more (Some k) owners calls c past least = by_test (nat_le k c.owner) refl
-  where
-    by_test : (b : Bool) → nat_le k c.owner ≡ b → IsLeastStranger (cond b (Some k) (Some c.owner)) owners (calls ++ c ∷ [])
-    by_test true e =
-        let few = leb-true k c.owner e in
-        (least.0, more-calls k calls c least.1, λ o from less. kept-calls o calls c (λ e. omega arith) (least.2 o from less))
-    by_test false e =
-        let few = leb-false k c.owner e in
-        (past, own-calls calls c, λ o from less. kept-calls o calls c (λ e. omega arith) (least.2 o from (omega arith)))
-
-pub stranger-next : (found : Option ℕ) (owners : ℕ) (calls : List Call) (c : Call) → IsLeastStranger found owners calls
-    → IsLeastStranger (lesser_stranger found c.owner owners) owners (calls ++ c ∷ [])
-stranger-next found owners calls c least = by_test (nat_lt c.owner owners) refl
-  where
-    by_test : (b : Bool) → nat_lt c.owner owners ≡ b → IsLeastStranger (cond b found (lesser_of found c.owner)) owners (calls ++ c ∷ [])
-    by_test true e = stranger-kept found owners calls c (ltb-true c.owner owners e) least
-    by_test false e = stranger-more found owners calls c (ltb-false c.owner owners e) least
 
 -- an empty share differs at 1 from calls of which there are some
 pub differs-at_1 : (share calls : List Call) → share ≡ [] → calls ≢ [] → IsFirstDifference share calls 1

@@ -2,7 +2,6 @@
 use Rattle.std.proofs.Common.{◌≡◌, ℕ, ◌+◌, ◌<◌, ◌≤◌, suc, Bool, true, false, cond, List, [], ◌∷◌, ◌++◌, length, get_or, take, drop, Option, Some, None, Result, Ok, Err, refl, sym, ap, subst, ◌∙◌, arith}
 use Rattle.std.specs.Prelude.{count_by, IfSome, nat_lt, if◌then◌else◌}
 use Rattle.std.specs.List.{flat_map}
-use Rattle.std.specs.Int.{from_bool}
 use Rattle.std.proofs.lemmas.List.{drop_more, take_more}
 use Rattle.std.proofs.lemmas.List.Sums.{count_by_more_yes, count_by_more_no}
 use Rattle.rh_mutator.specs.declared.config.ConfigFault.{ConfigFault}
@@ -103,10 +102,6 @@ unwritten input a = unwritten_if (nat_lt 16777216 (length input)) (trace_of inpu
 pub nothing_written : (known : Option (List ℕ)) (a : Option (List ℕ)) → IfSome known (λ input. Ends (run_of input) (Err faults.OutOfMemory) a a)
 nothing_written None a = tt
 nothing_written (Some input) a = unwritten input a
-
-pub bit_is : (b : Bool) → from_bool b ≡ cond b 1 0
-bit_is true = refl
-bit_is false = refl
 
 pub refused_with : (made : Result HeapState HeapError) (e d : HeapError) → made ≡ Err e → e ≡ d → made ≡ Err d
 refused_with made e d p q = cc

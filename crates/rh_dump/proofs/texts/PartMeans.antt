@@ -21,9 +21,6 @@ use Rattle.rh_dump.specs.texts.Line.{kind_parts, HasKind}
 use Rattle.rh_dump.specs.declared.reading.due.Version.{Version}
 use Rattle.rh_dump.specs.declared.reading.due.Version.TheVariants.{One, Two}
 
-none_some : {A : Type 0} (x : A) → ◌≡◌ {A = Option A} None (Some x) → ⊥
-none_some x e = cc
-
 bind_some : {A B : Type 0} (o : Option A) (f : A → Option B) (y : B) → (o >>= f) ≡ Some y → (x : A) × (o ≡ Some x) × (f x ≡ Some y)
 bind_some (Some x) f y e = (x, refl, e)
 bind_some None f y e = absurd cc

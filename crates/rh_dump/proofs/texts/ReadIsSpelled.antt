@@ -359,15 +359,6 @@ accepts_next (dues.Object version number count met) line lines f h = (f, h)
 accepts_next dues.End line lines f h = (f, h)
 accepts_next dues.Nothing line lines f h = (f, h)
 
-accepts_first : (due : Due) (line : DumpLine) (lines : List DumpLine) → Accepts due (line ∷ lines) → Fits due line × Accepts (due_after due line) lines
-accepts_first dues.Header line lines h = h
-accepts_first (dues.Roots version) line lines h = h
-accepts_first (dues.Root version left last met) line lines h = h
-accepts_first (dues.Objects version met) line lines h = h
-accepts_first (dues.Object version number count met) line lines h = h
-accepts_first dues.End line lines h = h
-accepts_first dues.Nothing line lines h = h
-
 root_due_small : (version : Version) (left : ℕ) (last : Option RootId) (met : ℕ) → met ≤ 16777216 → IsDue (root_due version left last met)
 root_due_small version zero last met h = h
 root_due_small version (suc n) last met h = subst IsDue (sym (root_due-more version n last met)) h

@@ -18,7 +18,7 @@ use Rattle.rh_text.specs.Number.{IsU32, IsI64}
 use Rattle.rh_text.specs.Parts.{parts_of, is_filled, spell_parts, two_parts}
 use Rattle.rh_text.specs.RawLine.{lines_of}
 use Rattle.rh_text.specs.Root.{root_text}
-use Rattle.rh_text.specs.Steps.{◌>>=◌, or_fault, with_fault}
+use Rattle.rh_text.specs.Steps.{◌>>=◌, with_fault}
 use Rattle.rh_text.specs.lemmas.Integers.{integer_of-decimal}
 use Rattle.rh_text.specs.lemmas.Numbers.{number_of-decimal}
 use Rattle.rh_text.specs.lemmas.Roots.{root_of-text, root_part}
@@ -28,14 +28,14 @@ use Rattle.rh_dump.specs.declared.reading.due.Due.TheVariants as dues
 use Rattle.rh_dump.specs.declared.reading.due.Version.{Version}
 use Rattle.rh_dump.specs.declared.reading.due.Version.TheVariants.{One, Two}
 use Rattle.rh_dump.specs.declared.reading.fault.DumpKind.{DumpKind}
-use Rattle.rh_dump.specs.declared.reading.fault.DumpKind.TheVariants.{Long, Form, Number}
+use Rattle.rh_dump.specs.declared.reading.fault.DumpKind.TheVariants.{Long, Form}
 use Rattle.rh_dump.specs.declared.reading.fault.DumpFault.{DumpFault}
 use Rattle.rh_model.specs.Plain.{PlainObject}
 use Rattle.rh_dump.specs.Dump.{GraphState, root_values, met_with, met_after, IsNumberedAfter, AreNumbered, AreMetBefore, IsTold, IsRootTold, IsRootBefore, IsRootAfter, RootsRise, IsUnreferring, IsObjectTold, IsGraph}
 use Rattle.rh_dump.specs.texts.Line.{DumpLine, header_line, roots_line, root_line, objects_line, object_line, end_line, value_text, dump_line_parts, spell_dump_line, root_lines, object_lines, lines_in, dump_text, text_in, IsTextOf, kind_parts, HasKind, CanSay, root_due, object_due, due_after}
 use Rattle.rh_dump.specs.texts.Part.{number_up_to, whole_of, small_root_of, after_at, kind_and_rest, object_head}
 use Rattle.rh_dump.proofs.numbers.ObjectsIn.{joined}
-use Rattle.rh_dump.specs.texts.Reading.{formed_parts, part_after, number_or_fault, roots_of_parts, objects_of_parts, reference_or_fault, whole_or_fault, value_or_fault, plain_or_fault, field_or_fault, values_or_fault, is_root_before, is_root_after, root_or_fault, root_of_parts, own_number, fields_or_fault, object_of_parts, version_or_fault, line_due, line_or_kind, fault_at, lines_from, with_line, graph_of, graph_within}
+use Rattle.rh_dump.specs.texts.Reading.{formed_parts, part_after, roots_of_parts, objects_of_parts, reference_or_fault, whole_or_fault, value_or_fault, plain_or_fault, field_or_fault, values_or_fault, is_root_before, is_root_after, root_or_fault, root_of_parts, own_number, fields_or_fault, object_of_parts, version_or_fault, line_due, line_or_kind, fault_at, lines_from, with_line, graph_of, graph_within}
 use Rattle.rh_dump.proofs.numbers.MetValues.{met_after-append}
 
 -- ---- parts
@@ -63,9 +63,6 @@ value_part (Ref k) told short = at_part k (omega (arith, short))
 pub number_up_to-decimal : (limit n : ℕ) → n ≤ limit → limit < 2 ^ 32 → number_up_to limit (decimal n) ≡ Some n
 unfolding number_up_to
 number_up_to-decimal limit n small few = rw (number_of-decimal n (omega (arith, small, few)), le-leb n limit small) refl
-
-number_or_fault-decimal : (limit n : ℕ) → n ≤ limit → limit < 2 ^ 32 → number_or_fault limit (decimal n) ≡ Ok n
-number_or_fault-decimal limit n small few = ap (λ (o : Option ℕ). or_fault o Number) (number_up_to-decimal limit n small few)
 
 pub whole_of-decimal : (n : ℤ) → IsWhole n → whole_of (signed_decimal n) ≡ Some n
 unfolding whole_of
