@@ -1,6 +1,6 @@
 //! The lines of a trace that are no commands, and the biggest object that its commands ask for.
 
-ghost use Rattle.std.specs.Prelude.{◌≡◌, ◌<◌, ◌≤◌, length};
+ghost use Rattle.std.specs.Prelude.{◌≡◌, ◌<◌, length};
 ghost use Rattle.rh_paced_trace.specs.Lines.{biggest_of, commands_in, other_fault, words_asked};
 
 use rh_layout::limits::{MAX_FIELDS, MAX_LINES};

@@ -1,6 +1,5 @@
 //! The pace of a run.
 
-ghost use Rattle.std.specs.Prelude.{◌≡◌};
 ghost use Rattle.rh_paced_trace.specs.Pacing.{IsPaceOf};
 
 use crate::lines::biggest_of;

@@ -1,6 +1,6 @@
 //! The commands of a trace, run one after the other on a heap that collects by itself.
 
-ghost use Rattle.std.specs.Prelude.{◌≡◌, ◌<◌, ◌≤◌, ◌+◌, ◌^◌, false, is_err, IfOk, OnOk, OnErr};
+ghost use Rattle.std.specs.Prelude.{◌≡◌, ◌<◌, ◌+◌, false, is_err, IfOk, OnOk, OnErr};
 ghost use Rattle.std.specs.Io.KnownBytes.{Appends};
 ghost use Rattle.rh_text.specs.IoLog.{AreSpent, AreSpentSince, CountsDown};
 ghost use Rattle.rh_text.specs.Output.{AppendsLess};

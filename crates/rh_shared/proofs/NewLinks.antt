@@ -1,5 +1,5 @@
 -- Links that are made one after the other, and looked up by number.
-use Rattle.std.proofs.Common.{◌≡◌, ℕ, zero, suc, ◌+◌, ◌<◌, List, [], ◌∷◌, ◌++◌, Some, None, length, refl, sym, ap, subst, ◌∙◌, arith, add-zero}
+use Rattle.std.proofs.Common.{◌≡◌, ℕ, suc, ◌+◌, List, [], ◌∷◌, ◌++◌, Some, length, refl, sym, ap, subst, ◌∙◌, arith, add-zero}
 use Rattle.std.specs.Prelude.{map, slice_get}
 use Rattle.std.specs.List.{AllByRecursion}
 use Rattle.rh_rings.specs.Link.{LinkState, RingState}

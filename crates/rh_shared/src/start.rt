@@ -1,9 +1,7 @@
 //! What a shared heap starts with.
 
 ghost use Rattle.std.specs.Prelude.{◌≡◌, ◌↔◌, ◌≤◌, IfOk, Some, None, Err, length, map};
-ghost use Rattle.rh_model.specs.Plain.{empty_plain};
 ghost use Rattle.rh_mutator.specs.Config.{fault_of};
-ghost use Rattle.rh_mutator.specs.Mutator.{StandsFor};
 ghost use Rattle.rh_replay.specs.History.{empty_history};
 ghost use Rattle.rh_shared.specs.Kept.{IsStart};
 ghost use Rattle.rh_shared.specs.Shares.{new_mutators};

@@ -1,6 +1,6 @@
 //! Whether a history is of a trace.
 
-ghost use Rattle.std.specs.Prelude.{◌≡◌, ◌<◌, ℕ, [], ◌∷◌, List, IsTrue, IfSome};
+ghost use Rattle.std.specs.Prelude.{◌≡◌, ◌<◌, [], ◌∷◌, List, IsTrue, IfSome};
 ghost use Rattle.rh_replay.specs.declared.call.Call.{Call as CallOf};
 ghost use Rattle.rh_shared.specs.Shares.{calls_of};
 ghost use Rattle.rh_shared_trace.specs.Matching.{AreCallsFor, AreOfTrace, HaveOwnersBelow, MayLeaveOut, lines_of, may_be_limited};

@@ -1,6 +1,5 @@
 //! A trace of commands, played on a shared heap with mutators and replicators in threads.
 
-ghost use Rattle.std.specs.Prelude.{◌≡◌, ◌≤◌, [], length};
 ghost use Rattle.std.specs.List.{AllByRecursion};
 ghost use Rattle.rh_shared.specs.Start.{IsFresh};
 

@@ -1,7 +1,7 @@
 //! A trace of commands, run on a shared heap with mutators and replicators in threads.
 
 ghost use Rattle.std.specs.Prelude.{◌≡◌, ◌≤◌, List, ℕ, length, false, IsErrOf, IfSome};
-ghost use Rattle.std.specs.Io.KnownBytes.{Consumes, Keeps};
+ghost use Rattle.std.specs.Io.KnownBytes.{Consumes};
 ghost use Rattle.rh_text.specs.IoLog.{AreSpent, AreSpentSince, CountsDown};
 ghost use Rattle.rh_shared_trace.specs.Run.{Ends};
 

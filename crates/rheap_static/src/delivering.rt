@@ -1,6 +1,5 @@
 //! A text handed over in the caller's buffer, or a status alone.
 
-ghost use Rattle.std.specs.Prelude.{◌≡◌};
 ghost use Rattle.rheap_static.specs.Told.{AnswersText};
 
 use crate::status::{DONE, NO_ROOM};

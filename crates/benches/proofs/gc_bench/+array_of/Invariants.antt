@@ -1,4 +1,3 @@
-use Rattle.std.proofs.Common.{ℕ}
 use Rattle.benches.proofs.gc_bench.+array_of.Given as goal
 
 abbrev pub decreases-array_of : goal.decreases-array_of

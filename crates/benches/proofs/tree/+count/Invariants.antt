@@ -1,4 +1,3 @@
-use Rattle.std.proofs.Common.{ℕ}
 use Rattle.benches.proofs.tree.+count.Given as goal
 
 abbrev pub decreases-count : goal.decreases-count

@@ -1,4 +1,3 @@
-use Rattle.std.proofs.Common.{ℕ}
 use Rattle.benches.proofs.tree.+grow_down.Given as goal
 
 abbrev pub decreases-grow_down : goal.decreases-grow_down

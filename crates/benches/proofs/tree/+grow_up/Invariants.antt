@@ -1,4 +1,3 @@
-use Rattle.std.proofs.Common.{ℕ}
 use Rattle.benches.proofs.tree.+grow_up.Given as goal
 
 abbrev pub decreases-grow_up : goal.decreases-grow_up

@@ -1,10 +1,8 @@
-use Rattle.std.proofs.Common.{◌≡◌, None, Some, Ok, Err, refl, ap, subst, sym, ◌∙◌}
+use Rattle.std.proofs.Common.{◌≡◌, None, Some, Err, ap, sym, ◌∙◌}
 use Rattle.rh_mutator.specs.Config.{fault_of}
 use Rattle.rh_text.specs.lemmas.Appends.{Keeps-same}
 use Rattle.rh_syntax.specs.declared.line.Header.{Header}
-use Rattle.rh_syntax.specs.Spelling.{Script}
 use Rattle.rh_trace.specs.Run.{config_of}
-use Rattle.rh_replay.specs.History.{HistoryState}
 use Rattle.rh_increment.specs.SharedConfig.{shared_fault_of}
 use Rattle.rh_shared_trace.specs.Lines.{line_fault}
 use Rattle.rh_shared_trace.specs.Options.{shared_config_of}

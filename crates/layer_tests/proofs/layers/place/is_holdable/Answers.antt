@@ -1,4 +1,4 @@
-use Rattle.std.specs.Prelude.{◌≡◌, IsTrue, is_some}
+use Rattle.std.specs.Prelude.{IsTrue, is_some}
 use Rattle.std.proofs.Common.{ap, ◌∙◌, subst}
 use Rattle.rh_place.specs.lemmas.Placements.{is_some-forwarding}
 use Rattle.layer_tests.proofs.layers.place.is_holdable.Goals as goal

@@ -1,4 +1,4 @@
-use Rattle.std.proofs.Common.{◌≡◌, Some, Err, sym, ap, ◌∙◌, rules}
+use Rattle.std.proofs.Common.{◌≡◌, Some, Err, ap, ◌∙◌, rules}
 use Rattle.rh_mutator.specs.Config.{fault_of}
 use Rattle.rh_shared.proofs.KeptCalls.{IsKept-new}
 use Rattle.rh_shared.proofs.NewLinks.{count-rings}

@@ -1,7 +1,7 @@
-use Rattle.std.specs.Prelude.{◌≡◌, ℕ, ◌<◌, length, []}
+use Rattle.std.specs.Prelude.{length, []}
 use Rattle.std.specs.Option.{option_map_or}
 use Rattle.std.proofs.Common.{arith, ap, sym, ◌∙◌}
-use Rattle.rh_space.specs.Space.{Object, fields_at}
+use Rattle.rh_space.specs.Space.{Object}
 use Rattle.rh_place.specs.lemmas.Placements.{is_placed-forwarding}
 use Rattle.rh_place.specs.lemmas.Mirrors.{object_at-placed}
 use Rattle.layer_tests.proofs.layers.place.Spaces.hold.Goals as goal

@@ -3,7 +3,6 @@ use Rattle.std.proofs.Common.{sym, subst}
 use Rattle.rh_layout.specs.declared.shape.Shape.{Shape}
 use Rattle.rh_layout.specs.Shape.{shape_of}
 use Rattle.rh_space.specs.Space.{SpaceState, new_object}
-use Rattle.rh_place.specs.Joint.{JointState}
 use Rattle.rh_place.specs.Mirrors.{Agrees, Mirrors}
 use Rattle.layer_tests.proofs.layers.place.Spaces.make.Goals as goal
 

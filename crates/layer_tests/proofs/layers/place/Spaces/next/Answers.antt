@@ -1,4 +1,3 @@
-use Rattle.std.specs.Prelude.{◌≡◌}
 use Rattle.std.proofs.Common.{sym, subst}
 use Rattle.rh_place.specs.Mirrors.{Agrees, Mirrors}
 use Rattle.layer_tests.proofs.layers.place.Spaces.next.Goals as goal
