@@ -1,5 +1,5 @@
 -- Which histories are of a trace: each owner's lines stand there, in order, with their answers.
-use Rattle.std.specs.Prelude.{◌≡◌, ◌⊎◌, ℕ, ◌<◌, ◌==◌, Bool, true, is_some, if◌then◌else◌, List, [], ◌∷◌}
+use Rattle.std.specs.Prelude.{◌≡◌, ◌⊎◌, ℕ, ◌<◌, ◌==◌, Bool, true, false, is_some, if◌then◌else◌, List, [], ◌∷◌}
 use Rattle.std.specs.List.{AllByRecursion}
 use Rattle.rh_layout.specs.declared.command.Command.{Command}
 use Rattle.rh_layout.specs.declared.command.Command.TheVariants.{Store}
@@ -22,12 +22,13 @@ abbrev pub may_be_limited : Command → Bool
 may_be_limited (Store obj field operand) = true
 may_be_limited command = is_some (made_by command)
 
--- a command may be left out of a history: it may have been refused for a limit of the heap, or the
--- history is full
+-- a command may be left out: it may have been refused for a limit of the heap, or for a history that
+-- is full
 abbrev pub MayLeaveOut : Bool → Command → Type 0
 MayLeaveOut full command = (full ≡ true) ⊎ (may_be_limited command ≡ true)
 
--- the calls are of these commands, in order, each once; a command without a call may be left out
+-- the calls are of these commands, in order, each once; one without a call may be left out, for a
+-- history that is full only after all calls, since from then on none is noted
 abbrev pub AreCallsFor : Bool → List Command → List Call → Type 0
 AreCallsFor full [] [] = Unit {0}
 AreCallsFor full [] (call ∷ calls) = ⊥
@@ -35,7 +36,7 @@ AreCallsFor full (command ∷ commands) [] =
     MayLeaveOut full command × AreCallsFor full commands []
 AreCallsFor full (command ∷ commands) (call ∷ calls) =
     ((call.command ≡ command) × AreCallsFor full commands calls)
-    ⊎ (MayLeaveOut full command × AreCallsFor full commands (call ∷ calls))
+    ⊎ (MayLeaveOut false command × AreCallsFor full commands (call ∷ calls))
 
 -- each call is of one of so many owners
 abbrev pub HaveOwnersBelow : ℕ → List Call → Type 0

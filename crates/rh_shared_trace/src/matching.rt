@@ -1,6 +1,6 @@
 //! Whether a history is of a trace.
 
-ghost use Rattle.std.specs.Prelude.{◌≡◌, ◌<◌, [], ◌∷◌, List, IsTrue, IfSome};
+ghost use Rattle.std.specs.Prelude.{◌≡◌, ◌<◌, [], ◌∷◌, Bool, List, IsTrue, IfSome};
 ghost use Rattle.rh_replay.specs.declared.call.Call.{Call as CallOf};
 ghost use Rattle.rh_shared.specs.Shares.{calls_of};
 ghost use Rattle.rh_shared_trace.specs.Matching.{AreCallsFor, AreOfTrace, HaveOwnersBelow, MayLeaveOut, lines_of, may_be_limited};
@@ -11,7 +11,8 @@ use rh_syntax::{Request, Trace};
 use std::alloc::Allocator;
 
 /// Whether the calls are of the trace's owners, and each owner's calls are of its lines, in order.
-/// A line may be left out where a limit may have refused it, and any line where that is said.
+/// A line may be left out where a limit may have refused it, and where the history is full any line
+/// after the owner's last call.
 pub fn are_of_trace<A: Allocator>(is_full: bool, trace: &Trace<A>, calls: &[Call]) -> bool
     ensures { IsTrue result → AreOfTrace is_full trace.now calls.now }
 {
@@ -47,7 +48,7 @@ fn are_of_lines(is_full: bool, owner: u32, requests: &[Request], calls: &[Call])
     let mut rest = requests;
     for call in calls {
         if call.owner == owner {
-            match after_line(is_full, owner, rest, &call.command) {
+            match after_line(owner, rest, &call.command) {
                 Some(after) => rest = after,
                 None => return false,
             }
@@ -58,16 +59,10 @@ fn are_of_lines(is_full: bool, owner: u32, requests: &[Request], calls: &[Call])
 
 /// The requests after the owner's first line with this command, where the owner's lines before it
 /// may be left out.
-fn after_line<'a>(
-    is_full: bool,
-    owner: u32,
-    requests: &'a [Request],
-    command: &Command,
-) -> Option<&'a [Request]>
-    ensures { IfSome result (λ after. (call : CallOf) (calls : List CallOf)
-        → call.command ≡ command.now
-        → AreCallsFor is_full (lines_of owner after.now) calls
-        → AreCallsFor is_full (lines_of owner requests.now) (call ∷ calls)) }
+fn after_line<'a>(owner: u32, requests: &'a [Request], command: &Command) -> Option<&'a [Request]>
+    ensures { IfSome result (λ after. (full : Bool) (call : CallOf) (calls : List CallOf)
+        → call.command ≡ command.now → AreCallsFor full (lines_of owner after.now) calls
+        → AreCallsFor full (lines_of owner requests.now) (call ∷ calls)) }
 {
     let mut rest = requests;
     while let Some((request, after)) = rest.split_first() {
@@ -81,7 +76,7 @@ fn after_line<'a>(
                 if is_same_command(line, command) {
                     return Some(after);
                 }
-                if !may_leave_out(is_full, line) {
+                if !may_leave_out(false, line) {
                     return None;
                 }
             }
@@ -108,7 +103,7 @@ fn may_all_be_left_out(is_full: bool, owner: u32, requests: &[Request]) -> bool
     true
 }
 
-/// Whether a line with this command may be left out.
+/// Whether a line with this command may be left out after the owner's last call.
 fn may_leave_out(is_full: bool, command: &Command) -> bool
     ensures { IsTrue result → MayLeaveOut is_full command.now }
 {

@@ -72,9 +72,9 @@ where
 ///
 /// What is written is the text of a legal history of as many owners and slots as the trace says.
 /// Each owner's lines stand in it in order, each once, with their answers; left out are only those
-/// that a limit may have refused, which are allocations and stores, and any once the history has
-/// 65,536 calls. In which order the calls of two owners stand isn't said, and two runs may differ
-/// in it. It waits for the threads.
+/// that a limit may have refused, which are allocations and stores, and, where the history has
+/// 65,536 calls, any after an owner's last one. In which order the calls of two owners stand isn't
+/// said, and two runs may differ in it. It waits for the threads.
 ///
 /// # Errors
 ///

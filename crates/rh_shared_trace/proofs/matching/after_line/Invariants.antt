@@ -1,4 +1,4 @@
-use Rattle.std.proofs.Common.{List, ◌∷◌, length}
+use Rattle.std.proofs.Common.{Bool, List, ◌∷◌, length}
 use Rattle.rh_replay.specs.declared.call.Call.{Call}
 use Rattle.rh_shared_trace.specs.Matching.{AreCallsFor, lines_of}
 use Rattle.rh_shared_trace.proofs.matching.after_line.Given as goal
@@ -6,8 +6,8 @@ use Rattle.rh_shared_trace.proofs.matching.after_line.Given as goal
 -- calls, of which there is one at least, are of all lines where they are of the rest of them
 abbrev pub invariant-loop-request : goal.invariant-loop-request
 invariant-loop-request l =
-    (call : Call) (calls : List Call) → AreCallsFor l.is_full (lines_of l.owner l.rest) (call ∷ calls)
-    → AreCallsFor l.is_full (lines_of l.owner l.requests) (call ∷ calls)
+    (full : Bool) (call : Call) (calls : List Call) → AreCallsFor full (lines_of l.owner l.rest) (call ∷ calls)
+    → AreCallsFor full (lines_of l.owner l.requests) (call ∷ calls)
 
 abbrev pub decreases-loop-request : goal.decreases-loop-request
 decreases-loop-request l = length l.rest
