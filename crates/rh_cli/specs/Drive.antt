@@ -4,6 +4,8 @@ use Rattle.rh_trace.specs.declared.summary.Summary.{Summary}
 use Rattle.rh_trace.specs.declared.run_fault.RunFault.{RunFault}
 use Rattle.rh_trace.specs.declared.run_fault.RunFault.TheVariants as faults
 use Rattle.rh_trace.specs.Run.{Ends, run_of}
+use Rattle.rh_cli.specs.declared.fault.LineFault.{LineFault}
+use Rattle.rh_cli.specs.declared.fault.LineFault.TheVariants as line_faults
 use Rattle.rh_cli.specs.declared.ask.Subcommand.{Subcommand}
 use Rattle.rh_cli.specs.declared.ask.Subcommand.TheVariants.{Run, RunPaced, Threads, Replay, Dump}
 use Rattle.rh_cli.specs.Count.{ConcludesCount}
@@ -19,6 +21,15 @@ run_status (faults.Trace fault) = 1
 run_status (faults.New fault) = 1
 run_status faults.Write = 1
 run_status faults.OutOfMemory = 3
+
+-- the fault of the program that a run's is told as
+abbrev pub run_told_as : RunFault → LineFault
+run_told_as faults.Read = line_faults.Read
+run_told_as faults.Long = line_faults.TooLong
+run_told_as (faults.Trace fault) = line_faults.Trace fault
+run_told_as (faults.New fault) = line_faults.Heap fault
+run_told_as faults.Write = line_faults.Write
+run_told_as faults.OutOfMemory = line_faults.OutOfMemory
 
 -- the status after a run: 0 where it is done, or 1 where the last flush failed
 abbrev pub IsRunStatus : Result Summary RunFault → ℕ → Type 0

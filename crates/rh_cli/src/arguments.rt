@@ -1,6 +1,6 @@
 //! The arguments of the program.
 
-ghost use Rattle.std.specs.Prelude.{◌≡◌, ◌⊎◌, map, option_map, false, Ok, Err, IsTrue, IfOk, IfErr, codes};
+ghost use Rattle.std.specs.Prelude.{◌≡◌, ◌≢◌, ◌⊎◌, map, option_map, false, Ok, Err, IsTrue, IfOk, IfErr, codes};
 ghost use Rattle.clap.specs.declared.builder.command.Command.TheViews.{out-Command as fields_of};
 ghost use Rattle.clap.specs.Words.{kind_of, app_of, subcommand_rows_of};
 ghost use Rattle.rh_cli.specs.Ask.{command_and_file, command_and_file_in, command_and_file_of, command_named, file_app, number_within, run_app, rheap_app, is_set, is_taken, run_asked, threads_app, threads_asked};
@@ -74,9 +74,9 @@ fn threads_command<'a>(alloc: Global) -> Result<Command<'a>, AllocError>
     let replicators = Arg::new(alloc, "replicators")
         .long("replicators")
         .value_name("N")
-        .help("The replicators, in threads of their own: 0 to 8, else 2");
+        .help("The replicators, in threads of their own: 0 to 8, 2 where it isn't said");
     let idle = Arg::new(alloc, "idle").long("idle").value_name("N").help(
-        "The idle words of an increment in a cycle: 0 to 65535, else 0",
+        "The idle words of an increment in a cycle: 0 to 65535, 0 where it isn't said",
     );
     file_command(alloc, "threads", about, help::THREADS)?
         .arg(replicators)?
@@ -273,6 +273,8 @@ fn number_within(usual: u32, most: u32, given: Option<&str>) -> Option<u32>
 /// The fault that an error of clap's is.
 fn fault_of(error: clap::Error) -> LineFault
     ensures memory { kind_of error ≡ ErrorKind.OutOfMemory → result ≡ LineFault.OutOfMemory }
+    // Else it is told as what clap says.
+    ensures told { kind_of error ≢ ErrorKind.OutOfMemory → result ≡ LineFault.Arguments error }
     ensures kinds { IsArgumentsFault result }
 {
     if error.kind() == ErrorKind::OutOfMemory {

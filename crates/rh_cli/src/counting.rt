@@ -67,7 +67,6 @@ fn conclude(sent: Result<(), Unsent>, flushed: bool) -> Result<Ending, LineFault
 {
     match sent {
         Ok(()) if flushed => Ok(Ending::Done),
-        Ok(()) => Err(LineFault::Write),
-        Err(_) => Err(LineFault::Write),
+        _ => Err(LineFault::Write),
     }
 }

@@ -55,7 +55,8 @@ pub enum LineFault {
     /// The file can't be opened.
     #[error("rheap: open failed")]
     Open,
-    /// The history of a shared heap isn't that of the calls of the mutators, or isn't legal.
+    /// The history of a shared heap isn't that of the calls of the mutators, isn't of the trace, or
+    /// isn't legal.
     #[error("rheap: history differs")]
     HistoryDiffers,
     /// A read failed, or as many as may be made didn't come to the end: 33,554,432 of a trace or a

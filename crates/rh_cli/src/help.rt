@@ -12,38 +12,41 @@ no blank lines. The first line makes a heap; each further line is answered.
     OWNERS  the owners of roots, from 0, 1 to 16
     SLOTS   the slots of each owner, from 0, 1 to 256
 
-Commands of an owner       Answer
-  OWNER alloc ROOT FIELDS    object FIELDS
-  OWNER raw ROOT FIELDS      raw FIELDS: a raw object, whose fields hold no reference
-  OWNER load DST SRC FIELD   nil, int N, object FIELDS, raw FIELDS: what the field holds
-  OWNER store OBJ FIELD VAL  done
-  OWNER copy DST SRC         nil, int N, object FIELDS, raw FIELDS: what SRC holds
-  OWNER same A B             same yes, same no
-  OWNER drop ROOT            done
+Commands of an owner             Answer
+  OWNER alloc ROOT FIELDS        object FIELDS
+  OWNER raw ROOT FIELDS          raw FIELDS: a raw object, whose fields hold no reference
+  OWNER load DST SRC FIELD       nil, int N, object FIELDS, raw FIELDS: what the field holds
+  OWNER store OBJ FIELD OPERAND  done
+  OWNER copy DST SRC             nil, int N, object FIELDS, raw FIELDS: what SRC holds
+  OWNER same A B                 same yes, same no
+  OWNER drop ROOT                done
 
-Lines of a cycle           Answer
-  begin                      cycle EPOCH
-  shade ROOT                 placed, already, no reference
-  deal copies MOST TRAY      dealt ITEMS passed 0
-  deal entries MOST TRAY     dealt ITEMS passed ENTRIES
-  give TRAY                  given joined J repeated R stale S placed P
-  join TRAY TRAY             joined ENTRIES
-  flip                       flipped roots ROOTS live WORDS
-  recall                     cycle EPOCH: all that was dealt is to be dealt again
-  abandon                    abandoned OBJECTS: the cycle ends without a flip
-  idle N                     idle WORDS: units that the cycle has beside those of allocation
+Lines of a cycle                 Answer
+  begin                          cycle EPOCH
+  shade ROOT                     placed, already, no reference
+  deal copies MOST TRAY          dealt ITEMS passed 0
+  deal entries MOST TRAY         dealt ITEMS passed ENTRIES
+  give TRAY                      given joined J repeated R stale S placed P
+  join TRAY TRAY                 joined ENTRIES
+  flip                           flipped roots ROOTS live WORDS
+  recall                         cycle EPOCH: all fields of placed objects are to be dealt again,
+                                 and the log is empty
+  abandon                        abandoned OBJECTS: the cycle ends without a flip
+  idle N                         idle WORDS: units that the cycle has beside those of allocation
 
-Listings                   Answer
-  trays                      tray NAME epoch E entries N, for each tray
-  stat                       stat used U free F cycle on epoch E ..: the numbers of the heap
-  dump                       what the roots reach, in the lines that `rheap dump` reads
-  at the end                 total commands C refused R flips F rootwords W
+Listings                         Answer
+  trays                          tray NAME epoch E entries N, for each tray
+  stat                           stat used U free F cycle on epoch E ..: the numbers of the heap
+  dump                           what the roots reach, in the lines that `rheap dump` reads
+  at the end                     total commands C refused R flips F rootwords W
 
-ROOT, DST, SRC, OBJ, A and B are roots, OWNER.SLOT, as 1.0; owner 0's slots are shared. FIELD counts
-from 0. VAL is nil, a root or a whole number. N is 0 to 4294967295. TRAY is a letter a to z and at
-most 15 of a to z, 0 to 9 and _. What can't be done is answered `refused NAME`, changes nothing, and
-the run goes on. Two heaps are the same graph exactly where their dumps are the same text: cut them
-out, from `rheap 2` to `end`, and use cmp.
+ROOT, DST, SRC, OBJ, A and B are roots, OWNER.SLOT, as 1.0; owner 0's slots are shared. OPERAND is
+nil, a root or a whole number; a whole number that isn't from -2^61 to 2^61 - 1 is refused IntRange.
+FIELD, from 0, FIELDS, MOST and the N of `idle` are 0 to 4294967295; an object of more than 4095
+FIELDS is refused FieldsRange. TRAY is a letter a to z and at most 15 of a to z, 0 to 9 and _. What
+can't be done is answered `refused NAME`, changes nothing, and the run goes on. Two heaps are the
+same graph exactly where their dumps are the same text: cut them out, from `rheap 2` to `end`, and
+use cmp.
 
 With --paced the heap collects by itself, an increment of a cycle after each accepted allocation,
 and in a cycle after each accepted store. The trace has commands alone: once it has been read a line
@@ -51,7 +54,8 @@ of a cycle or a listing is the fault Word. A cycle begins where fewer than N wor
 --mark N says; 0 begins none. Without it the program takes the lowest mark that keeps up with the
 biggest object that the trace asks for, also where it is refused. While no more is reached, as a
 cycle begins, than about 45, 68, 83 or 91 % of WORDS at RATIO 8, 16, 32 or 64, where objects are
-small, SpaceFull doesn't come, nor LogFull where LOG is half of WORDS; above that both can come.
+small, SpaceFull doesn't come, nor LogFull where LOG is half of WORDS; above that both can come. LOG
+goes up to 1048576: in a heap of more than 2097152 words that may be too few, and LogFull can come.
 
 Statuses:
   0  done; a refused line is an answer, and no failure
@@ -90,9 +94,9 @@ The history of the calls is printed, in the order in which they were made; `rhea
 
 Its answers are those of a heap that never moves its objects, and each owner's lines stand in it in
 their order, each once. Left out are allocations and stores that were refused by a limit (SpaceFull,
-LogFull, NumbersSpent), and what comes after 65536 calls. Two runs may print the calls of two owners
-in another order and, as replicators fold sooner or later, leave out other lines. A trace of one
-owner prints the same lines each time with --replicators 0.
+LogFull, NumbersSpent), and, once the history has 65536 calls, what comes after them. Two runs may
+print the calls of two owners in another order and, as replicators fold sooner or later, leave out
+other lines. A trace of one owner prints the same lines each time with --replicators 0.
 
   --replicators N  0 to 8, 2 where it isn't said. With 0 pieces are folded under the lock
   --idle N         0 to 65535, 0 where it isn't said: units of collector work that each increment in
@@ -103,7 +107,7 @@ Statuses:
   1  a fault in the file, or it can't be opened or read, or a write failed
   2  the command line isn't understood
   3  memory or a thread was refused
-  4  the history isn't that of the calls, or isn't legal, and isn't printed
+  4  the history isn't that of the calls, not of the trace, or not legal, and isn't printed
 
 On failure standard error has one line, as `rheap: line 3: Word`. Faults are those of `run`, and
   line L: Word     the line is of a cycle or a listing

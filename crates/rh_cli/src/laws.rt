@@ -126,8 +126,8 @@ pub fn status_2_says_that_the_command_line_is_not_understood()
         → status_of (FaultOf.Arguments error) ≡ 2 }
 {}
 
-/// 3 says that memory was refused, or a thread, and of no other fault: a run has then written
-/// nothing of its total line, and one in threads, a check and a count nothing at all.
+/// 3 says that memory was refused, or a thread, and no other fault has it: a run has then written
+/// nothing of its total line, and a paced run, one in threads, a check and a count nothing at all.
 pub fn status_3_says_want_of_memory()
     ensures fault { (fault : FaultOf) → (status_of fault ≡ 3) ↔ (fault ≡ FaultOf.OutOfMemory) }
     ensures run_fault { (fault : RunFaultOf)

@@ -3,7 +3,7 @@
 ghost use Rattle.std.specs.Prelude.{◌≡◌, ◌↔◌, List, ℕ, IfSome, IfErr, IsOk, IsTrue};
 ghost use Rattle.std.specs.Io.KnownBytes.{Consumes};
 ghost use Rattle.rh_trace.specs.Run.{run_of};
-ghost use Rattle.rh_cli.specs.Drive.{ConcludesRun, IsRunStatus, run_status};
+ghost use Rattle.rh_cli.specs.Drive.{ConcludesRun, IsRunStatus, run_status, run_told_as};
 ghost use Rattle.rh_cli.specs.Fault.{status_of, status_after, IsUsualFault};
 
 use crate::ending::Ending;
@@ -49,6 +49,8 @@ fn conclude(ran: Result<Summary, RunFault>, flushed: bool) -> Result<Ending, Lin
 fn fault_of_run(fault: RunFault) -> LineFault
     ensures status { status_of result ≡ run_status fault }
     ensures late { IsUsualFault result }
+    // It is told as what it is.
+    ensures told { result ≡ run_told_as fault }
 {
     match fault {
         RunFault::Read => LineFault::Read,
