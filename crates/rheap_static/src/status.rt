@@ -4,7 +4,7 @@
 /// The text is delivered.
 pub const DONE: u8 = 0;
 
-/// The trace has a fault.
+/// The trace has a fault, or no pace keeps up with it.
 pub const FAULT: u8 = 1;
 
 /// Memory was refused.
