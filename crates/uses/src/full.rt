@@ -11,7 +11,7 @@ const RATIO: u32 = 32;
 
 const OBJECT_WORDS: u32 = 34;
 
-/// As many words as the objects that the slots hold fill the space.
+/// As many slots as objects of so many words fit into the space.
 const SLOTS: u32 = 7;
 
 /// Fills the slots with objects until the space has no room, makes one more once two are dropped,
