@@ -132,6 +132,9 @@ where
 fn main(rt: HostRuntime) -> ExitCode {
     match run(&rt) {
         Some(()) => ExitCode::SUCCESS,
-        None => ExitCode::FAILURE,
+        None => {
+            let _ = eprintln!(rt; "shared_benches: no such bench or numbers, or it failed");
+            ExitCode::FAILURE
+        }
     }
 }
