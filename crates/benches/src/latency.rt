@@ -39,14 +39,16 @@ impl Latency {
         self.longest
     }
 
-    /// The nanoseconds within which so many of a million batches end.
+    /// The nanoseconds within which so many of a million batches end: the most of the bucket of the
+    /// longest of these.
     pub fn within(&self, millionths: u64) -> u64 {
         let rank = (self.batches / 1_000).wrapping_mul(millionths) / 1_000;
         let mut batches = 0u64;
         for (bucket, count) in self.buckets.iter().enumerate() {
             batches = batches.wrapping_add(*count);
             if batches > rank {
-                return least_of(bucket as u64);
+                let most = least_of((bucket as u64).wrapping_add(1)).wrapping_sub(1);
+                return most.min(self.longest);
             }
         }
         self.longest
