@@ -14,10 +14,12 @@ fn copied(rt: &(impl Input + AllocGlobal), is_copied: bool) -> Option<(u64, usiz
     Some((graph.objects(), text.len()))
 }
 
-/// Runs the bench, which writes the dump too where its argument is `copy`; nothing where it failed.
+/// Runs the bench, which writes the dump too where its argument is `copy`; nothing where it failed,
+/// or has another argument.
 pub fn run(rt: &(impl Print + Input + AllocGlobal), what: Option<&str>) -> Option<()> {
     let is_copied = match what {
-        Some(text) => text == "copy",
+        Some("copy") => true,
+        Some(_) => return None,
         None => false,
     };
     let (objects, bytes) = copied(rt, is_copied)?;

@@ -38,21 +38,12 @@ fn shortest_flip(rt: &(impl CpuClock + AllocGlobal), words: u32) -> Option<(Flip
     shortest_of(rt, &mut heap)
 }
 
-/// Runs the bench on a heap of which as many words live, rounded down to whole objects, as the
-/// first argument says, or 1,000. Where there is a second one the time of the shortest flip is
-/// told. Nothing where it failed.
-pub fn run(
-    rt: &(impl Print + CpuClock + AllocGlobal),
-    words: Option<&str>,
-    timed: Option<&str>,
-) -> Option<()> {
-    let words = match words {
-        Some(text) => text.parse::<u32>().unwrap_or(1000),
-        None => 1000,
-    };
+/// Runs the bench on a heap of which so many words live, rounded down to whole objects, and tells
+/// the time of the shortest flip where that is asked. Nothing where it failed.
+pub fn run(rt: &(impl Print + CpuClock + AllocGlobal), words: u32, is_timed: bool) -> Option<()> {
     let (flipped, time) = shortest_flip(rt, words)?;
     let (roots, words) = (flipped.roots, flipped.live_words);
-    if timed.is_some() {
+    if is_timed {
         let nanoseconds = time.as_nanos();
         println!(rt; "roots {roots} live words {words} nanoseconds {nanoseconds}").ok()
     } else {

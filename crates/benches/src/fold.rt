@@ -73,21 +73,13 @@ fn refilled(alloc: Global, items: u64) -> Option<usize> {
     Some(replica.len())
 }
 
-/// Runs the bench that the first argument names, `fold` or `refill`, on as many items as the second
-/// says: a fold, on 64, where they don't say. Nothing where it failed.
-pub fn run(rt: &(impl Print + AllocGlobal), what: Option<&str>, items: Option<&str>) -> Option<()> {
-    let is_refilled = match what {
-        Some(text) => text == "refill",
-        None => false,
-    };
-    let items = match items {
-        Some(text) => text.parse::<u64>().unwrap_or(64),
-        None => 64,
-    };
-    let places = if is_refilled {
-        refilled(rt.alloc(), items)?
-    } else {
-        folded(rt.alloc(), items)?
+/// Runs the bench of this name, `fold` or `refill`, on so many items; nothing where it failed or
+/// has another name.
+pub fn run(rt: &(impl Print + AllocGlobal), what: &str, items: u64) -> Option<()> {
+    let places = match what {
+        "fold" => folded(rt.alloc(), items)?,
+        "refill" => refilled(rt.alloc(), items)?,
+        _ => return None,
     };
     println!(rt; "places {places}").ok()
 }

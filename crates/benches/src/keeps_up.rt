@@ -99,7 +99,7 @@ fn play_at(
 }
 
 /// Plays a program in exactly the words that the rule asks for, and prints what that came to;
-/// nothing where one of its commands was refused.
+/// nothing where the heap or one of its commands was refused, which is printed.
 fn play_in_least(
     rt: &(impl Print + AllocGlobal),
     name: &str,
@@ -109,14 +109,17 @@ fn play_in_least(
     let (live, biggest, ratio) = (mutator.live, mutator.biggest, asked.ratio);
     let words = least_words(live, biggest, ratio)?;
     let pace = Pace::of(words, live, biggest, ratio).ok()?;
-    let (given, cycles) = play_at(rt.alloc(), mutator, asked, words, pace)?;
+    let Some((given, cycles)) = play_at(rt.alloc(), mutator, asked, words, pace) else {
+        let _ = println!(rt; "{name} ratio {ratio}: refused");
+        return None;
+    };
     let mark = pace.mark;
     println!(rt; "{name} ratio {ratio} live {live} words {words} mark {mark}").ok()?;
     println!(rt; "commands {given} cycles {cycles}: none was refused").ok()
 }
 
 /// Plays the program of this name in exactly the words that the rule asks for, and prints what that
-/// came to; nothing where one of its commands was refused.
+/// came to; nothing where none has this name, or the heap or a command was refused.
 pub fn run(rt: &(impl Print + AllocGlobal), name: &str, asked: Asked) -> Option<()> {
     let mutator = mutator(rt.alloc(), name, asked.cells)?;
     play_in_least(rt, name, &mutator, asked)

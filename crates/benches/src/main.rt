@@ -24,10 +24,10 @@ use std::time::CpuClock;
 
 /// Each bench once, on little; nothing where one failed.
 fn run_each(rt: &(impl Print + Input + CpuClock + AllocGlobal)) -> Option<()> {
-    fold::run(rt, Some("fold"), Some("6400"))?;
+    fold::run(rt, "fold", 6400)?;
     dump::run(rt, Some("copy"))?;
-    place::run(rt, Some("64"))?;
-    flip::run(rt, Some("1000"), None)?;
+    place::run(rt, 64)?;
+    flip::run(rt, 1000, false)?;
     binary_trees::run(rt, 8, 8192)?;
     gc_bench::run(rt, gc_bench::Depths::LITTLE, 32_768)?;
     let names = [
@@ -49,7 +49,8 @@ fn number(text: Option<&str>) -> Option<u32> {
     text?.parse::<u32>().ok()
 }
 
-/// The bench of this name with these arguments; nothing where it failed or has another name.
+/// The bench of this name with these arguments; nothing where it failed, or has another name or
+/// other arguments.
 fn run_one(
     rt: &(impl Print + Input + Clock + CpuClock + AllocGlobal),
     name: &str,
@@ -59,10 +60,10 @@ fn run_one(
     fourth: Option<&str>,
 ) -> Option<()> {
     match name {
-        "fold" => fold::run(rt, first, second),
+        "fold" => fold::run(rt, first?, number(second)?.into()),
         "dump" => dump::run(rt, first),
-        "place" => place::run(rt, first),
-        "flip" => flip::run(rt, first, second),
+        "place" => place::run(rt, number(first)?),
+        "flip" => flip::run(rt, number(first)?, second.is_some()),
         "binary-trees" => binary_trees::run(rt, number(first)?, number(second)?),
         "gc-bench" => gc_bench::run(rt, gc_bench::Depths::WHOLE, number(first)?),
         "stream" => {
@@ -107,6 +108,9 @@ fn run(rt: &(impl Env + Print + Input + Clock + CpuClock + AllocGlobal)) -> Opti
 fn main(rt: HostRuntime) -> ExitCode {
     match run(&rt) {
         Some(()) => ExitCode::SUCCESS,
-        None => ExitCode::FAILURE,
+        None => {
+            let _ = eprintln!(rt; "benches: no such bench or arguments, or it failed");
+            ExitCode::FAILURE
+        }
     }
 }

@@ -29,13 +29,8 @@ fn collected(alloc: Global, words: u32) -> Option<u32> {
     if spaces.exchange() { Some(items) } else { None }
 }
 
-/// Runs the bench on a from-space of as many words as the argument says, or 64; nothing where it
-/// failed.
-pub fn run(rt: &(impl Print + AllocGlobal), words: Option<&str>) -> Option<()> {
-    let words = match words {
-        Some(text) => text.parse::<u32>().unwrap_or(64),
-        None => 64,
-    };
+/// Runs the bench on a from-space of so many words; nothing where it failed.
+pub fn run(rt: &(impl Print + AllocGlobal), words: u32) -> Option<()> {
     let items = collected(rt.alloc(), words)?;
     println!(rt; "items {items}").ok()
 }
