@@ -43,11 +43,16 @@ const NINE: RunOptions = RunOptions {
     idle: 0,
 };
 
-/// A number that is stored and read.
-const STORED: &[u8] = b"heap 64 8 8 2 2\n1 alloc 1.0 1\n1 store 1.0 0 5\n1 load 1.1 1.0 0\n";
+/// A number that is stored, and read once a cycle is on: the fifth object leaves less than half of
+/// the words.
+const HALF_FULL: &[u8] = b"heap 64 8 8 2 2\n1 alloc 1.0 6\n1 store 1.0 0 5\n\
+    1 alloc 1.1 6\n1 alloc 1.1 6\n1 alloc 1.1 6\n1 alloc 1.1 6\n1 alloc 1.1 6\n\
+    1 store 1.0 1 1.1\n1 load 1.1 1.0 0\n";
 
-const STORED_HISTORY: &[u8] = b"history 2 2\n1 alloc 1.0 1 = object 1\n1 store 1.0 0 5 = done\n\
-        1 load 1.1 1.0 0 = int 5\nend 3\n";
+const HALF_FULL_HISTORY: &[u8] = b"history 2 2\n1 alloc 1.0 6 = object 6\n1 store 1.0 0 5 = done\n\
+    1 alloc 1.1 6 = object 6\n1 alloc 1.1 6 = object 6\n1 alloc 1.1 6 = object 6\n\
+    1 alloc 1.1 6 = object 6\n1 alloc 1.1 6 = object 6\n\
+    1 store 1.0 1 1.1 = done\n1 load 1.1 1.0 0 = int 5\nend 9\n";
 
 /// An allocation for which there is no room, and a line whose root isn't there.
 const LEFT_OUT: &[u8] = b"heap 16 8 4 1 1\n0 alloc 0.0 15\n0 drop 1.0\n0 drop 0.0\n";
@@ -55,7 +60,7 @@ const LEFT_OUT: &[u8] = b"heap 16 8 4 1 1\n0 alloc 0.0 15\n0 drop 1.0\n0 drop 0.
 const LEFT_OUT_HISTORY: &[u8] =
     b"history 1 1\n0 drop 1.0 = refused NoRoot\n0 drop 0.0 = done\nend 2\n";
 
-/// Two owners that share objects, and fill the space with what isn't reached any more.
+/// Two owners that share objects, and use 48 of 64 words, some of which nothing reaches any more.
 const SHARED: &[u8] = b"heap 64 8 32 3 2\n\
     1 alloc 1.0 6\n2 alloc 2.0 6\n1 store 1.0 0 1\n2 store 2.0 0 2\n\
     1 copy 0.0 1.0\n2 copy 0.1 2.0\n1 load 1.1 0.1 0\n2 load 2.1 0.0 0\n\
@@ -121,9 +126,9 @@ fn runs_to<R: AllocGlobal + Abort + Threads + Wait + Sync>(
 
 /// Traces of one owner, with their histories, and what they are played with.
 const ONE_OWNER: &[(RunOptions, &[u8], &[u8])] = &[
-    (ALONE, STORED, STORED_HISTORY),
-    (ONE, STORED, STORED_HISTORY),
-    (TWO, STORED, STORED_HISTORY),
+    (ALONE, HALF_FULL, HALF_FULL_HISTORY),
+    (ONE, HALF_FULL, HALF_FULL_HISTORY),
+    (TWO, HALF_FULL, HALF_FULL_HISTORY),
     (TWO, LEFT_OUT, LEFT_OUT_HISTORY),
     (TWO, b"heap 64 8 8 2 2\n", b"history 2 2\nend 0\n"),
 ];
@@ -152,7 +157,7 @@ fn faults_of_traces(rt: HostRuntime) {
         runs_to(&rt, TWO, text, Err(SharedRunFault::New(fault)), b"");
     }
     let fault = SharedRunFault::Shared(SharedFault::BadReplicators);
-    runs_to(&rt, NINE, STORED, Err(fault), b"");
+    runs_to(&rt, NINE, HALF_FULL, Err(fault), b"");
 }
 
 /// Ends the test unless the history of two owners is read, is legal and has all their calls: none
