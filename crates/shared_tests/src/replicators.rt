@@ -14,7 +14,7 @@ use std::sync::atomic::AtomicBool;
 use std::test::Fail;
 
 /// New rings to the replicator of this number and back, and that replicator.
-pub fn rings_of<R: AllocGlobal + Abort>(rt: &R, number: u32) -> (Link, Replicator) {
+fn rings_of<R: AllocGlobal + Abort>(rt: &R, number: u32) -> (Link, Replicator) {
     let Ok((link, ends)) = new_link(rt.alloc(), number) else {
         panic!(rt; "memory is ample")
     };
@@ -22,7 +22,7 @@ pub fn rings_of<R: AllocGlobal + Abort>(rt: &R, number: u32) -> (Link, Replicato
 }
 
 /// A piece of this epoch with so many items, each of a place of its own, with this number.
-pub fn piece_of(epoch: u64, items: u32, number: u64) -> Piece {
+fn piece_of(epoch: u64, items: u32, number: u64) -> Piece {
     let mut piece = Piece::new(epoch);
     for field in 0..items {
         let item = Item {
@@ -37,7 +37,7 @@ pub fn piece_of(epoch: u64, items: u32, number: u64) -> Piece {
 }
 
 /// Pushes a piece, unless the ring has no place. Answers whether it had.
-pub fn push<A: Allocator + Copy>(link: &mut Link<A>, piece: Piece) -> bool
+fn push<A: Allocator + Copy>(link: &mut Link<A>, piece: Piece) -> bool
     ensures pieces { link.new.ring.pieces_ring ≡ link.old.ring.pieces_ring }
     ensures replicas { link.new.ring.replicas_ring ≡ link.old.ring.replicas_ring }
 {
@@ -49,7 +49,7 @@ pub fn push<A: Allocator + Copy>(link: &mut Link<A>, piece: Piece) -> bool
 }
 
 /// The epoch of the replica that waits, how many entries it has, and the number of its first.
-pub fn waiting<A: Allocator + Copy>(link: &Link<A>) -> Option<(u64, usize, u64)> {
+fn waiting<A: Allocator + Copy>(link: &Link<A>) -> Option<(u64, usize, u64)> {
     let replica = link.waiting()?;
     if replica.is_empty() {
         return Some((replica.epoch(), 0, 0));
@@ -111,7 +111,7 @@ fn a_ring_has_eight_places_each_way(rt: HostRuntime) {
 }
 
 #[test]
-fn what_went_through_is_settled(rt: HostRuntime) -> Result<(), Fail> {
+fn new_rings_are_settled_with_nothing(rt: HostRuntime) -> Result<(), Fail> {
     let Ok((mut link, ends)) = new_link(rt.alloc(), 3) else {
         return Err(Fail::from("memory is ample"));
     };
