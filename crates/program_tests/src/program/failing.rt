@@ -3,11 +3,11 @@
 
 use crate::devices::{Broken, SlowReader, SlowWriter, Unflushed};
 use crate::expectations::{Row, expect_bytes, expect_equal, expect_prefix, expect_refusals};
-use crate::program::driving::{DUMP, PACED, REPLAY, RUN, THREADS, drives_to, is_refused};
+use crate::program::driving::{DUMP, PACED, REPLAY, RUN, THREADS, is_refused};
 use crate::texts::{
     JOINED, JOINED_ANSWERS, RIGHT, RIGHT_REPORT, STORED, STORED_HISTORY, TWO_FLIPS,
-    TWO_FLIPS_ANSWERS, WHOLE_CYCLE, WHOLE_CYCLE_ANSWERS, WRONG, WRONG_REPORT, add_numbered,
-    ended_lines, repeated, without_last_line,
+    TWO_FLIPS_ANSWERS, WHOLE_CYCLE, WHOLE_CYCLE_ANSWERS, WITHOUT_FIELDS, WITHOUT_FIELDS_ANSWERS,
+    WRONG, WRONG_REPORT, add_numbered, ended_lines, repeated, without_last_line,
 };
 use refusing::refused_in_turn;
 use rh_cli::{Ask, Subcommand, drive};
@@ -53,10 +53,11 @@ const MARKED_ANSWERS: &[u8] =
 const ITSELF: &[u8] = b"rheap 1\nroots 1\n1.0 @0\nobjects 1\n@0 1 @0\nend\n";
 
 const BESIDE_RAW: &[u8] =
-    b"rheap 2\nroots 2\n0.3 @0\n1.0 -7\nobjects 2\n@0 2 @1 @0\n@1 raw 2 5 nil\nend\n";
+    b"rheap 2\nroots 2\n0.3 @0\n1.0 -7\nobjects 2\n@0 4 @1 nil @0 5\n@1 raw 2 5 nil\nend\n";
 
 /// What is asked, of which text, the status, and what is written.
 const PLAYED: &[(Ask<'static>, &[u8], u8, &[u8])] = &[
+    (RUN, WITHOUT_FIELDS, 0, WITHOUT_FIELDS_ANSWERS),
     (RUN, WHOLE_CYCLE, 0, WHOLE_CYCLE_ANSWERS),
     (RUN, JOINED, 0, JOINED_ANSWERS),
     (PACED, TWO_FLIPS, 0, TWO_FLIPS_ANSWERS),
@@ -125,14 +126,15 @@ fn each_write_fails_in_turn(rt: HostRuntime) {
         let rt = Row { rt: &rt, row };
         let writes = fail_writes(&rt, played, 1000);
         assert!(rt; 0 < writes);
+        if played.0.subcommand == Subcommand::Run {
+            // Its lines each come in one write.
+            expect_equal(&rt, writes as usize, ended_lines(played.3));
+        }
         expect_equal(&rt, fail_writes(&rt, played, 1) as usize, played.3.len());
         let (status, out, err) = play(&rt, &played.0, played.1, (0, 0, 0));
         expect_equal(&rt, (status, out.writes, out.text.len()), (1, 1, 0));
         expect_bytes(&rt, &err, b"rheap: write failed\n");
     }
-    // The lines of a run each come in one write.
-    let [run, ..] = PLAYED else { return };
-    expect_equal(&rt, fail_writes(&rt, run, 1000), 11);
 }
 
 #[test]
@@ -150,7 +152,7 @@ fn devices_that_fail(rt: HostRuntime) {
         expect_bytes(&rt, &err, b"rheap: write failed\n");
         failed = failed.saturating_add(1);
     }
-    expect_equal(&rt, failed, 11);
+    expect_equal(&rt, failed, 12);
 }
 
 /// The first eight reads of a text that comes a byte a time, and the two after its last byte.
@@ -174,7 +176,7 @@ fn first_and_last_reads_fail(rt: HostRuntime) {
             failed = failed.saturating_add(1);
         }
     }
-    expect_equal(&rt, failed, 110);
+    expect_equal(&rt, failed, 120);
 }
 
 /// What is asked, of which text, what is wrong with it where it is cut: before its first byte,
@@ -202,8 +204,8 @@ fn is_cut<R: AllocGlobal + Abort + Threads + Wait + Sync>(
         Some(_) => kinds[1],
     };
     let ended = ended_lines(text);
+    let (status, out, err) = play(rt, &ask, text, (0, 0, 1000));
     if kind.is_empty() {
-        let (status, out, err) = play(rt, &ask, text, (0, 0, 1000));
         expect_equal(rt, (status, err.len()), (0, 0));
         expect_prefix(rt, answers, without_last_line(&out.text));
         let left_out = ended_lines(whole).saturating_sub(ended);
@@ -213,7 +215,8 @@ fn is_cut<R: AllocGlobal + Abort + Threads + Wait + Sync>(
     }
     let line = ended.saturating_add(1);
     let told = format!(in rt.alloc(); "rheap: line {line}: {kind}\n").expect(rt, "memory is ample");
-    drives_to(rt, &ask, text, 1, b"", told.as_bytes());
+    expect_equal(rt, (status, out.writes), (1, 0));
+    expect_bytes(rt, &err, told.as_bytes());
     true
 }
 
@@ -308,7 +311,7 @@ fn each_allocation_is_refused(rt: HostRuntime) {
         refuse(&rt, &(ask, text, 1, b""), told, 1);
         refused = refused.saturating_add(1);
     }
-    expect_equal(&rt, refused, 18);
+    expect_equal(&rt, refused, 19);
 }
 
 /// Sizes around those at which vectors grow.
