@@ -2,10 +2,9 @@
 
 use crate::expectations::{Row, expect_bytes, expect_equal};
 use crate::texts::WITHOUT_FIELDS;
-use rh_core::{GiveError, Heap};
+use rh_core::Heap;
 use rh_dump::limits::MAX_OBJECTS;
 use rh_dump::{Graph, plain_graph, same_text, write_dump};
-use rh_layout::{Item, Value};
 use rh_model::{CommandError, Plain};
 use rh_partial::{PartialReplica, Piece};
 use rh_trace::{Request, config_of, graph, parse, write_answer};
@@ -150,70 +149,4 @@ fn heaps_answer_as_plain_heaps_and_have_their_dumps(rt: HostRuntime) {
         played = played.saturating_add(1);
     }
     expect_equal(&rt, played, 8);
-}
-
-/// A trace that places an object at word 0, and the dump after it.
-const PLACED: (&[u8], &[u8]) = (
-    b"heap 64 8 8 2 2\n1 alloc 1.0 1\nbegin\n1 alloc 1.1 0\n1 store 1.0 0 5\nshade 1.0\n",
-    b"rheap 2\nroots 2\n1.0 @0\n1.1 @1\nobjects 2\n@0 1 5\n@1 0\nend\n",
-);
-
-/// Entries of field 0 that nobody dealt: the object, the number and the value, and why a replica
-/// that has one is refused.
-const INVENTED: &[(u32, u64, Value, GiveError)] = &[
-    (
-        1,
-        0,
-        Value::Nil,
-        GiveError::Stranger {
-            object: 1,
-            field: 0,
-        },
-    ),
-    (
-        0,
-        2,
-        Value::Int(5),
-        GiveError::FromFuture {
-            object: 0,
-            field: 0,
-        },
-    ),
-    (
-        0,
-        1,
-        Value::Int(6),
-        GiveError::Forged {
-            object: 0,
-            field: 0,
-        },
-    ),
-];
-
-#[test]
-fn invented_replicas_leave_the_dump(rt: HostRuntime) {
-    let (mut heap, plain, _) = play(&rt, PLACED.0);
-    let mut refused: u32 = 0;
-    for (row, &epoch) in [1, 2].iter().enumerate() {
-        let rt = Row { rt: &rt, row };
-        expect_equal(&rt, heap.epoch(), epoch);
-        for (row, &(object, number, value, fault)) in INVENTED.iter().enumerate() {
-            let rt = Row { rt: &rt, row };
-            let mut piece = Piece::new(epoch);
-            let field = 0;
-            let item = Item {
-                object,
-                field,
-                number,
-                value,
-            };
-            piece.push(item).expect(&rt, "there is room");
-            let replica = replica_of(&rt, &piece);
-            expect_equal(&rt, heap.give(&replica), Err(fault));
-            expect_dumps(&rt, &heap, &plain, PLACED.1);
-            refused = refused.saturating_add(1);
-        }
-        expect_equal(&rt, heap.recall().is_ok(), true);
-    }
-    expect_equal(&rt, refused, 6);
 }

@@ -3,9 +3,7 @@
 use crate::devices::{SlowReader, SlowWriter};
 use crate::expectations::{Row, expect_bytes, expect_equal};
 use crate::texts::repeated;
-use rh_dump::{
-    DumpFault, DumpKind, DumpReadError, read_dump, read_dump_logged, same_text, write_dump,
-};
+use rh_dump::{DumpReadError, read_dump, read_dump_logged, same_text, write_dump};
 use rh_text::IoLog;
 use std::io;
 use std::process::Abort;
@@ -83,21 +81,6 @@ fn graphs_have_one_text(rt: HostRuntime) {
             let graph = read_dump(rt.alloc(), &mut { text }).expect(&rt, "a dump");
             let second = read_dump(rt.alloc(), &mut { other }).expect(&rt, "a dump");
             expect_equal(&rt, same_text(&graph, &second), i == k);
-        }
-    }
-}
-
-#[test]
-fn a_text_that_is_cut_ends_too_early(rt: HostRuntime) {
-    let kind = DumpKind::End;
-    let mut line = 1u32;
-    for (n, byte) in EACH_KIND.iter().enumerate() {
-        let rt = Row { rt: &rt, row: n };
-        let mut reader = &EACH_KIND[..n];
-        let fault = DumpReadError::Fault(DumpFault { line, kind });
-        expect_equal(&rt, read_dump(rt.alloc(), &mut reader).err(), Some(fault));
-        if *byte == b'\n' {
-            line = line.wrapping_add(1);
         }
     }
 }

@@ -9,8 +9,7 @@ use crate::texts::{
     WITHOUT_FIELDS, WITHOUT_FIELDS_ANSWERS, add_numbered, repeated, without_last_line,
 };
 use refusing::refused_in_turn;
-use rh_core::ConfigFault;
-use rh_trace::{Kind, RunFault, Summary, TraceFault, run_trace};
+use rh_trace::{RunFault, Summary, run_trace};
 use std::alloc::Allocator;
 use std::cell::Cell;
 use std::process::Abort;
@@ -137,34 +136,6 @@ fn the_greatest_trace(rt: HostRuntime) -> Result<(), Fail> {
     Ok(())
 }
 
-/// Texts that aren't run, the read that fails, and why they aren't.
-const NOT_RUN: &[(&[u8], u32, RunFault)] = &[
-    (WITHOUT_FIELDS, 1, RunFault::Read),
-    (WITHOUT_FIELDS, 2, RunFault::Read),
-    (WITHOUT_FIELDS, 3, RunFault::Read),
-    (
-        b"heap 16 8 4 2 2\n1 alloc 1.0 2\n1 alloc 1.0",
-        0,
-        RunFault::Trace(TraceFault {
-            line: 3,
-            kind: Kind::Cut,
-        }),
-    ),
-    (b"heap 7 8 4 2 2\n", 0, RunFault::New(ConfigFault::BadSpace)),
-];
-
-#[test]
-fn what_is_not_run_writes_nothing(rt: HostRuntime) {
-    for (row, &(text, nth, fault)) in NOT_RUN.iter().enumerate() {
-        let rt = Row { rt: &rt, row };
-        let mut reader = SlowReader::new(text, nth);
-        let mut written = Vec::new(rt.alloc());
-        let outcome = run_trace(rt.alloc(), &mut reader, &mut written);
-        expect_equal(&rt, outcome, Err(fault));
-        expect_equal(&rt, written.len(), 0);
-    }
-}
-
 #[test]
 fn interrupted_writes_are_made_again(rt: HostRuntime) {
     // How many of two writes each are interrupted, and what that comes to.
@@ -181,53 +152,6 @@ fn interrupted_writes_are_made_again(rt: HostRuntime) {
         expect_equal(&rt, outcome.err(), fault);
         expect_bytes(&rt, &writer.text, answers);
         expect_equal(&rt, writer.writes, writes);
-    }
-}
-
-/// A trace, how many bytes of a write are taken, the write that fails, what is written by then, and
-/// how many writes were asked for. A write that takes no byte isn't made again.
-const FAILING: &[(&[u8], usize, u32, &[u8], u32)] = &[
-    (WITHOUT_FIELDS, 1000, 1, b"", 1),
-    (WITHOUT_FIELDS, 1000, 2, b"object 0\n", 2),
-    (WITHOUT_FIELDS, 1000, 3, b"object 0\nrefused NoField\n", 3),
-    (WITHOUT_FIELDS, 3, 3, b"object", 3),
-    (WITHOUT_FIELDS, 0, 0, b"", 1),
-    (TWO_EPOCHS, 1000, 4, b"object 2\ncycle 1\nobject 3\n", 4),
-    (WHOLE_CYCLE, 1000, 1, b"", 1),
-    (WHOLE_CYCLE, 1000, 4, b"object 2\ncycle 1\nobject 1\n", 4),
-];
-
-/// Runs a trace whose nth write fails.
-fn expect_failed(
-    rt: &(impl AllocGlobal + Abort),
-    input: &[u8],
-    (most, nth): (usize, u32),
-    written: &[u8],
-    writes: u32,
-) {
-    let mut reader = input;
-    let mut writer = SlowWriter::new(rt, most, nth);
-    let outcome = run_trace(rt.alloc(), &mut reader, &mut writer);
-    expect_equal(rt, outcome, Err(RunFault::Write));
-    expect_bytes(rt, &writer.text, written);
-    expect_equal(rt, writer.writes, writes);
-}
-
-#[test]
-fn failing_writer(rt: HostRuntime) {
-    for (row, &(input, most, nth, written, writes)) in FAILING.iter().enumerate() {
-        let rt = Row { rt: &rt, row };
-        expect_failed(&rt, input, (most, nth), written, writes);
-    }
-    // The write of the total line.
-    let totals = [
-        (TWO_EPOCHS, TWO_EPOCHS_ANSWERS, 23),
-        (WHOLE_CYCLE, WHOLE_CYCLE_ANSWERS, 11),
-    ];
-    for (row, &(input, answers, writes)) in totals.iter().enumerate() {
-        let rt = Row { rt: &rt, row };
-        let written = answers.split_at(answers.len().saturating_sub(47)).0;
-        expect_failed(&rt, input, (1000, writes), written, writes);
     }
 }
 
