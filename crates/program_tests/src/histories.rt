@@ -13,13 +13,6 @@ use rh_replay::{
 use rh_trace::{Kind, Write, command_of, write_answer, write_command};
 use std::test::Fail;
 
-/// A history whose third answer is another number, and the report on it.
-const OTHER_NUMBER: &[u8] =
-    b"history 2 2\n1 alloc 1.0 1 = object 1\n1 store 1.0 0 5 = done\n1 load 1.1 1.0 0 = int 6\n\
-        end 3\n";
-
-const OTHER_NUMBER_REPORT: &[u8] = b"owner 1 calls 3\nwrong 3 expected int 5\n";
-
 /// A history that tells a raw object as one that isn't, and the report on it.
 const OBJECT_FOR_RAW: &[u8] = b"history 2 2\n1 raw 1.0 2 = object 2\nend 1\n";
 
@@ -29,9 +22,6 @@ const OBJECT_FOR_RAW_REPORT: &[u8] = b"owner 1 calls 1\nwrong 1 expected raw 2\n
 const NOT_REFUSED: &[u8] = b"history 2 2\n1 raw 1.0 1 = raw 1\n1 store 1.0 0 1.0 = done\nend 2\n";
 
 const NOT_REFUSED_REPORT: &[u8] = b"owner 1 calls 2\nwrong 2 expected refused RawField\n";
-
-/// A history without a call.
-const EMPTY: &[u8] = b"history 2 2\nend 0\n";
 
 const A: RootId = RootId { owner: 1, slot: 0 };
 
@@ -47,14 +37,6 @@ const HISTORIES: &[(&[u8], Verdict, &[u8])] = &[
             expected: Err(Refusal::NoRoot),
         },
         WRONG_REPORT,
-    ),
-    (
-        OTHER_NUMBER,
-        Verdict::Wrong {
-            at: 3,
-            expected: Ok(Reply::Int(5)),
-        },
-        OTHER_NUMBER_REPORT,
     ),
     (RAW_HISTORY, Verdict::Legal(5), RAW_HISTORY_REPORT),
     (
@@ -73,7 +55,6 @@ const HISTORIES: &[(&[u8], Verdict, &[u8])] = &[
         },
         NOT_REFUSED_REPORT,
     ),
-    (EMPTY, Verdict::Legal(0), b"legal 0\n"),
 ];
 
 #[test]
