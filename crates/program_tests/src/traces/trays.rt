@@ -1,10 +1,6 @@
-//! The names of trays, and their laws.
+//! The names of trays.
 
 use crate::expectations::{Row, expect_equal};
-use rh_trace::laws::trays::{
-    a_tray_takes_its_name_alone, deals_into_trays_are_refused_in_order,
-    joined_items_are_the_newest, the_names_of_trays_are_read,
-};
 use rh_trace::tray_name_of;
 
 /// What may be the name of a tray, and whether it is one.
@@ -30,10 +26,6 @@ const NAMES: &[(&[u8], bool)] = &[
 
 #[test]
 fn names(rt: HostRuntime) {
-    the_names_of_trays_are_read();
-    a_tray_takes_its_name_alone();
-    joined_items_are_the_newest();
-    deals_into_trays_are_refused_in_order();
     for (row, &(part, is_name)) in NAMES.iter().enumerate() {
         let rt = Row { rt: &rt, row };
         expect_equal(&rt, tray_name_of(part).is_some(), is_name);
