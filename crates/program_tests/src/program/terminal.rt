@@ -58,8 +58,8 @@ impl Print for Terminal<'_> {
 impl<'a> Input for Terminal<'a> {
     type Reader = &'a [u8];
 
-    fn read_line<A: Allocator + Clone>(&self, buf: &mut String<A>) -> io::Result<usize> {
-        self.rt.read_line(buf)
+    fn read_line<A: Allocator + Clone>(&self, _buf: &mut String<A>) -> io::Result<usize> {
+        Err(unsupported())
     }
 
     fn lines<A: Allocator>(&self, alloc: A) -> Lines<&'a [u8], A> {
