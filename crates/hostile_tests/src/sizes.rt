@@ -239,9 +239,10 @@ fn memory_is_wanted_only_where_a_growth_is_refused(rt: HostRuntime) {
                 || history(&Row { rt, row: 5 }, memory, size).is_none()
                 || shared(&Row { rt, row: 6 }, memory, size).is_none()
         });
-        // Four of a map, four of a replica, three of a plain heap, of a heap and of each graph, two
-        // of a history, and ten of a shared heap and a replicator's rings.
-        expect_refusals(rt, refused, 30);
+        // At size 1, where fewest are asked for: four of a map, four of a replica, three of a plain
+        // heap, five of a heap and its answers, five of each graph, two of a history, and fifteen
+        // of a shared heap with one replicator, whose rings take four of these.
+        expect_refusals(rt, refused, 43);
         tried = tried.saturating_add(1);
     }
     expect_equal(&rt, tried, 9);
