@@ -14,7 +14,7 @@ const MANY: u64 = 1000;
 /// # Errors
 ///
 /// The number of the refused allocation at which the attempt answered otherwise than its allocator,
-/// or 1000 where it asks for as many.
+/// or 1000 where it asks for 999 or more.
 pub fn refused_in_turn<A, F>(inner: A, attempt: F) -> Result<u64, u64>
 where
     A: Allocator + Copy,
