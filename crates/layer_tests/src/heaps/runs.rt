@@ -3,11 +3,6 @@
 use crate::commands::{SIZES, alloc, drop_root, item, piece, root, store};
 use crate::expectations::{Row, expect_equal, expect_refusals};
 use refusing::refused_in_turn;
-use rh_core::laws::runs::{
-    a_run_keeps_what_was_dealt_logged_and_granted, an_event_answers_as_the_plain_heap,
-    an_event_keeps_what_was_dealt_logged_and_granted, an_event_moves_the_store_list,
-    events_spend_their_units, every_event_keeps_a_heap_well_formed,
-};
 use rh_core::{Answer, Config, Event, Heap, HeapError, Kind, Shaded};
 use rh_layout::{Command, Item, Operand, OutOfMemory, Reply, Value};
 use rh_partial::PartialReplica;
@@ -175,14 +170,4 @@ fn a_cycle_whose_memory_is_refused_in_turn(rt: HostRuntime) {
     // The events and their growth, two replicas and what is made of them, and the heap and the
     // answers.
     expect_refusals(&rt, refused, 12);
-}
-
-#[test]
-fn the_laws_hold() {
-    an_event_answers_as_the_plain_heap::<Global>();
-    an_event_moves_the_store_list::<Global>();
-    an_event_keeps_what_was_dealt_logged_and_granted::<Global>();
-    events_spend_their_units::<Global>();
-    every_event_keeps_a_heap_well_formed::<Global>();
-    a_run_keeps_what_was_dealt_logged_and_granted::<Global>();
 }

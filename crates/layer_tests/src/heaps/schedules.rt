@@ -8,12 +8,10 @@ ghost use Rattle.rh_core.specs.runs.Schedules.{dealing_over, no_dealing, AreGive
 
 use crate::commands::{SIZES, alloc, root};
 use crate::expectations::expect_equal;
-use rh_core::laws::schedules::{
-    all_that_was_dealt_is_current, two_heaps, what_was_current_is_told_ever_after,
-};
+use rh_core::laws::schedules::all_that_was_dealt_is_current;
 use rh_core::{Answer, Event, Heap};
 use rh_layout::OutOfMemory;
-use std::alloc::{Allocator, Global};
+use std::alloc::Allocator;
 
 /// Runs events. Where the dealing of the present epoch began in them, nothing is undealt, and each
 /// item that was dealt since was given, nothing is missing.
@@ -44,11 +42,4 @@ fn an_object_without_fields_lacks_nothing(rt: HostRuntime) {
     let mut answers = Vec::new(rt.alloc());
     expect_equal(&rt, run_whole(&mut heap, &events, &mut answers), Ok(()));
     expect_equal(&rt, (heap.stat().placed, heap.stat().missing), (1, 0));
-}
-
-#[test]
-fn the_laws_hold() {
-    two_heaps::<Global, Global>();
-    what_was_current_is_told_ever_after::<Global>();
-    all_that_was_dealt_is_current::<Global>();
 }
