@@ -181,6 +181,7 @@ fn expect_object<M: Allocator + Copy>(
         return;
     };
     expect_equal(rt, heap.fields(address), Some(fields));
+    expect_equal(rt, heap.raw(address), Some(false));
     let value = heap
         .field(address, fields.saturating_sub(1))
         .map(|pair| pair.1);
@@ -207,4 +208,5 @@ fn calls_one_by_one(rt: HostRuntime) {
     expect_equal(&rt, heap.root(root(2, 0)), None);
     expect_equal(&rt, heap.fields(1), None);
     expect_equal(&rt, heap.command(2, &drop_root(C)), Err(Refusal::NoRoot));
+    expect_equal(&rt, heap.alloc_raw(1, B, 1), Ok(Reply::Raw(1)));
 }
