@@ -5,7 +5,8 @@ use std::alloc::Global;
 use std::fmt::{Debug, Display};
 use std::process::Abort;
 
-/// The handle of a row of a table: what fails under it is told with the row's number, from 0.
+/// The handle of a row of a table, or of one turn of a loop: what fails under it is told with the
+/// row's number, from 0, or with the number that the loop counts.
 #[derive(Drop)]
 pub struct Row<'a, R> {
     pub rt: &'a R,

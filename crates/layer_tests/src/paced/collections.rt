@@ -73,7 +73,7 @@ fn insisting_where_the_heap_is_full(rt: HostRuntime) {
     );
     expect_equal(&rt, heap.insist(1, &alloc(D, 3)), Ok(Reply::Object(3)));
     expect_equal(&rt, (heap.stat().flips, heap.stat().free), (3, 0));
-    // What D named is unreachable now, but for the first collection.
+    // What D named before isn't reached: the first collection makes room.
     expect_equal(&rt, heap.insist(1, &alloc(D, 0)), Ok(Reply::Object(0)));
 }
 

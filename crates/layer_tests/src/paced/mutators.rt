@@ -97,7 +97,7 @@ const LIST: &[Command] = &[
     IS_FIRST,
 ];
 
-/// Objects of 62 words, and the last field of each refers to another one.
+/// Objects of 62 words, and the last field of every other one refers to the one before it.
 const BIG_OBJECTS: &[Command] = &[
     Command::Alloc { dst: A, fields: 60 },
     Command::Store {
