@@ -32,7 +32,7 @@ ghost use Rattle.rh_layout.specs.Shape.{shape_of};
 ghost use Rattle.rh_model.specs.Effects.{
   IsObject,
   RefersToObjects,
-  IsPlainHeap,
+  IsWellFormedPlain,
   HoldsField,
   TellsValue,
   RootTakes,
@@ -42,7 +42,7 @@ ghost use Rattle.rh_model.specs.Effects.{
   TellsSame,
 };
 ghost use Rattle.rh_model.specs.Graph.{Graph, root_value, value_fields, refusal_of, reply_to, same_value};
-ghost use Rattle.rh_model.specs.Plain.{PlainHeap, empty_plain, graph_of, step};
+ghost use Rattle.rh_model.specs.Plain.{PlainHeap, IsPlain, empty_plain, graph_of, step};
 ghost use Rattle.rh_model.specs.SameGraph.{SameGraph, IsPairing};
 ghost use Rattle.rh_model.specs.Reach.{Reached};
 ghost use Rattle.rh_model.specs.Refusals.{RefusalHolds};
@@ -157,17 +157,19 @@ pub fn a_reference_has_its_objects_fields()
         ↔ ((a : ℕ) × (v ≡ Ref a) × (g.fields a ≡ Some fields)) }
 {}
 
-/// A new plain heap is well formed, and each command of each owner leaves a well-formed one so.
+/// A new plain heap is well formed, and so is each that a program has; and each command of each
+/// owner leaves a well-formed one so.
 pub fn plain_heaps_stay_well_formed()
-    ensures empty { (owners slots : ℕ) → IsPlainHeap (empty_plain owners slots) }
-    ensures step { (p : PlainHeap) → IsPlainHeap p → (owner : ℕ) (command : Command)
-        → IsPlainHeap (step p owner command).0 }
+    ensures empty { (owners slots : ℕ) → IsWellFormedPlain (empty_plain owners slots) }
+    ensures program { (p : PlainHeap) → IsPlain p → IsWellFormedPlain p }
+    ensures step { (p : PlainHeap) → IsWellFormedPlain p → (owner : ℕ) (command : Command)
+        → IsWellFormedPlain (step p owner command).0 }
 {}
 
 /// An accepted `Alloc` makes an object that was none before and that nothing referred to, of the
 /// number of fields asked for, all nil; the root names it, and all else stays.
 pub fn alloc_makes_an_object()
-    ensures { (p q : PlainHeap) → IsPlainHeap p
+    ensures { (p q : PlainHeap) → IsWellFormedPlain p
         → (owner : ℕ) (dst : RootId) (fields : ℕ) (reply : Reply)
         → step p owner (commands.Alloc dst fields) ≡ (q, Ok reply)
         → (reply ≡ replies.Object fields)
@@ -177,7 +179,7 @@ pub fn alloc_makes_an_object()
 /// An accepted `Raw` makes a raw object that was none before and that nothing referred to, of the
 /// number of fields asked for, all nil; the root names it, and all else stays.
 pub fn raw_makes_a_raw_object()
-    ensures { (p q : PlainHeap) → IsPlainHeap p
+    ensures { (p q : PlainHeap) → IsWellFormedPlain p
         → (owner : ℕ) (dst : RootId) (fields : ℕ) (reply : Reply)
         → step p owner (commands.Raw dst fields) ≡ (q, Ok reply)
         → (reply ≡ replies.Raw fields)
@@ -186,14 +188,14 @@ pub fn raw_makes_a_raw_object()
 
 /// A well-formed plain heap has no reference in a field of a raw object.
 pub fn raw_objects_hold_no_references()
-    ensures { (p : PlainHeap) → IsPlainHeap p → (a f b : ℕ)
+    ensures { (p : PlainHeap) → IsWellFormedPlain p → (a f b : ℕ)
         → IsTrue ((graph_of p).raw a) → ¬ HoldsField (graph_of p) a f (Ref b) }
 {}
 
 /// After an accepted `Load` the root `dst` holds what the field held of the object that `src`
 /// named, the reply tells that value, and all else stays.
 pub fn load_reads_a_field()
-    ensures { (p q : PlainHeap) → IsPlainHeap p
+    ensures { (p q : PlainHeap) → IsWellFormedPlain p
         → (owner : ℕ) (dst src : RootId) (field : ℕ) (reply : Reply)
         → step p owner (commands.Load dst src field) ≡ (q, Ok reply)
         → LoadsField (graph_of p) (graph_of q) dst src field reply }
@@ -202,15 +204,15 @@ pub fn load_reads_a_field()
 /// After an accepted `Store` the field of the object that `obj` names holds nil, the number, or
 /// what the operand's root holds, and all else stays.
 pub fn store_writes_a_field()
-    ensures nil { (p q : PlainHeap) → IsPlainHeap p
+    ensures nil { (p q : PlainHeap) → IsWellFormedPlain p
         → (owner : ℕ) (obj : RootId) (field : ℕ) (reply : Reply)
         → step p owner (commands.Store obj field operands.Nil) ≡ (q, Ok reply)
         → (reply ≡ replies.Done) × StoresField (graph_of p) (graph_of q) obj field Nil }
-    ensures number { (p q : PlainHeap) → IsPlainHeap p
+    ensures number { (p q : PlainHeap) → IsWellFormedPlain p
         → (owner : ℕ) (obj : RootId) (field : ℕ) (n : ℤ) (reply : Reply)
         → step p owner (commands.Store obj field (operands.Int n)) ≡ (q, Ok reply)
         → (reply ≡ replies.Done) × StoresField (graph_of p) (graph_of q) obj field (Int n) }
-    ensures root { (p q : PlainHeap) → IsPlainHeap p
+    ensures root { (p q : PlainHeap) → IsWellFormedPlain p
         → (owner : ℕ) (obj : RootId) (field : ℕ) (src : RootId) (reply : Reply)
         → step p owner (commands.Store obj field (operands.Root src)) ≡ (q, Ok reply)
         → (reply ≡ replies.Done)
@@ -220,7 +222,7 @@ pub fn store_writes_a_field()
 /// After an accepted `Copy` the root `dst` holds what `src` held, the reply tells that value, and
 /// all else stays.
 pub fn copy_copies_a_root()
-    ensures { (p q : PlainHeap) → IsPlainHeap p
+    ensures { (p q : PlainHeap) → IsWellFormedPlain p
         → (owner : ℕ) (dst src : RootId) (reply : Reply)
         → step p owner (commands.Copy dst src) ≡ (q, Ok reply)
         → RootTakes (graph_of p) (graph_of q) dst (root_value (graph_of p) src)
@@ -236,7 +238,7 @@ pub fn same_compares_two_roots()
 
 /// After an accepted `Drop` the root holds nil, and all else stays.
 pub fn drop_makes_a_root_nil()
-    ensures { (p q : PlainHeap) → IsPlainHeap p
+    ensures { (p q : PlainHeap) → IsWellFormedPlain p
         → (owner : ℕ) (root : RootId) (reply : Reply)
         → step p owner (commands.Drop root) ≡ (q, Ok reply)
         → (reply ≡ replies.Done) × RootTakes (graph_of p) (graph_of q) root Nil }
