@@ -191,7 +191,6 @@ fn fold_into_replica<A: Allocator + Copy>(
             Ok(())
         }
         Err(refused) => {
-            let _ = refused.back.len();
             *replica = refused.back;
             Err(OutOfMemory)
         }

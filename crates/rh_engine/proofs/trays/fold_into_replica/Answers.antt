@@ -1,6 +1,6 @@
 use Rattle.std.proofs.Common.{◌∙◌, ap}
 use Rattle.rh_engine.specs.Trays.{tray_of, tray_with}
-use Rattle.rh_engine.proofs.TrayEntries.{tray-taken, tray-copied}
+use Rattle.rh_engine.proofs.TrayEntries.{tray-taken}
 use Rattle.rh_engine.proofs.trays.fold_into_replica.Goals as goal
 
 pub returns-in-Ok-clause-folded : goal.returns-in-Ok-clause-folded
@@ -10,5 +10,4 @@ returns-in-Ok-clause-folded g c =
 
 pub returns-in-Err-clause-unchanged : goal.returns-in-Err-clause-unchanged
 returns-in-Err-clause-unchanged g c =
-    tray-copied c.in-Err.refused.back c.replace-whole.result c.len-in-Err.ensures.rising c.len.ensures.rising c.in-Err.ensures.back
-    ∙ ap tray_of c.replace-whole.ensures.value
+    ap tray_of (c.in-Err.ensures.back ∙ c.replace-whole.ensures.value)
