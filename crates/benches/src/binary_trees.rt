@@ -23,8 +23,8 @@ fn counted(heap: &mut PacedHeap, trees: u32, depth: u32) -> Option<u32> {
     Some(nodes)
 }
 
-/// Runs the bench with trees of at most this depth, 4 to 20, in a heap of so many words; nothing
-/// where a call was refused.
+/// Runs the bench with trees of at most this depth, 6 to 20, in a heap of so many words; another
+/// depth is taken as the nearest of these. Nothing where a call was refused.
 pub fn run(rt: &(impl Print + AllocGlobal), most: u32, words: u32) -> Option<()> {
     let most = most.clamp(LEAST + 2, 20);
     let mut heap = heap_of(rt.alloc(), words, 4)?;

@@ -129,7 +129,8 @@ pub fn queue(memory: Global, cells: u32) -> Option<Mutator> {
     })
 }
 
-/// Big objects, of which three live, and the last field of each refers to another one.
+/// Big objects, of which three live, and the last field of every other one refers to the one before
+/// it.
 pub fn big_objects(memory: Global) -> Option<Mutator> {
     let mut round = Vec::new(memory);
     let both = [
@@ -149,7 +150,7 @@ pub fn big_objects(memory: Global) -> Option<Mutator> {
 }
 
 /// Buffers, which are raw or aren't, each named by a small object: nine tenths of the words are
-/// theirs. Two live of each.
+/// theirs. Two buffers live, and one object that names one.
 pub fn buffers(memory: Global, raw: bool) -> Option<Mutator> {
     let buffer = if raw {
         alloc_raw(0, BIG_FIELDS)
@@ -165,7 +166,7 @@ pub fn buffers(memory: Global, raw: bool) -> Option<Mutator> {
     ];
     add(&mut round, &named)?;
     Some(Mutator {
-        live: 2 * (BIG_WORDS + NAMING_WORDS),
+        live: 2 * BIG_WORDS + NAMING_WORDS,
         biggest: BIG_WORDS,
         first: Vec::new(memory),
         outside: round,
