@@ -1,8 +1,7 @@
--- An owner's lines, and calls that are of them, request by request.
+-- An owner's calls, call by call.
 use Rattle.std.proofs.Common.{◌≡◌, ℕ, Bool, true, false, List, ◌∷◌, refl}
 use Rattle.std.specs.Prelude.{◌==◌}
 use Rattle.std.proofs.lemmas.Bool.{eqb-true, eq-eqb}
-use Rattle.rh_syntax.specs.declared.request.Request.TheVariants as requests
 use Rattle.rh_replay.specs.declared.call.Call.{Call}
 use Rattle.rh_shared.specs.Shares.{calls_of}
 
