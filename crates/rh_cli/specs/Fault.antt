@@ -14,8 +14,8 @@ arguments_status DisplayHelp = 0
 arguments_status DisplayVersion = 0
 arguments_status kind = 2
 
--- 0 done, 1 a fault in the file or in reading or writing, 2 the command line, 3 want of memory, 4 a
--- history that differs
+-- 0 done, 1 a fault in the file, sizes that make no heap, no pace, or a failed open, read or write, 2
+-- the command line, 3 memory or a thread was refused, 4 a history that differs
 abbrev pub status_of : LineFault → ℕ
 status_of (faults.Arguments error) = arguments_status (kind_of error)
 status_of faults.NoText = 2
