@@ -41,12 +41,13 @@ Listings                         Answer
   at the end                     total commands C refused R flips F rootwords W
 
 ROOT, DST, SRC, OBJ, A and B are roots, OWNER.SLOT, as 1.0; owner 0's slots are shared. OPERAND is
-nil, a root or a whole number; a whole number that isn't from -2^61 to 2^61 - 1 is refused IntRange.
-FIELD, from 0, FIELDS, MOST and the N of `idle` are 0 to 4294967295; an object of more than 4095
-FIELDS is refused FieldsRange. TRAY is a letter a to z and at most 15 of a to z, 0 to 9 and _. What
-can't be done is answered `refused NAME`, changes nothing, and the run goes on. Two heaps are the
-same graph exactly where their dumps are the same text: cut them out, from `rheap 2` to `end`, and
-use cmp.
+nil, a root, or a whole number from -2^63 to 2^63 - 1 (any other is the fault Number), of which one
+that isn't from -2^61 to 2^61 - 1 is refused IntRange. FIELD, from 0, FIELDS, MOST and the N of
+`idle` are 0 to 4294967295; an object of more than 4095 FIELDS is refused FieldsRange. A number has
+no leading zero and no +, and -0 is none. TRAY is a letter a to z and at most 15 of a to z, 0 to 9
+and _. What can't be done is answered `refused NAME`, changes nothing, and the run goes on. Two
+heaps are the same graph exactly where their dumps are the same text: cut them out, from `rheap 2`
+to `end`, and use cmp.
 
 With --paced the heap collects by itself, an increment of a cycle after each accepted allocation,
 and in a cycle after each accepted store. The trace has commands alone: once it has been read a line
@@ -63,9 +64,10 @@ Statuses:
   2  the command line isn't understood
   3  memory was refused
 
-On failure standard error has one line, as `rheap: line 3: Cut` or `rheap: heap: BadSpace`.
-  line L: KIND   the first faulty line. KIND is Empty, Long, Cut, Form, Header, Word, Number, Root
-                 or Tray; a history or a dump given to `run` is the fault Header
+On failure standard error has one line, as `rheap: line 3: Cut` or `rheap: heap: BadSpace`; where
+the command line isn't understood it may have several.
+  line L: KIND   the first faulty line and its fault, as below; a history or a dump given to `run`
+                 is the fault Header
   heap: NAME     the first of these that is out of range: BadSpace (WORDS), BadRatio (RATIO),
                  BadRoots (OWNERS or SLOTS), BadLog (LOG)
   pace: NAME     with --paced and without --mark: RatioTooLow, the RATIO is below 4, or TooSmall
@@ -75,6 +77,21 @@ On failure standard error has one line, as `rheap: line 3: Cut` or `rheap: heap:
   write failed   standard output is closed or full, or its device failed
   too long       the file has more than 16777216 bytes
   out of memory  the status is 3
+
+Faults of a line, of which the first that holds is told, the last four part by part, from left to
+right:
+  Empty   the file has no byte
+  Long    the line's number is above 1048576, or it has more than 256 bytes
+  Cut     the line has no line end
+  Form    a byte isn't printable, as a tab or the CR of CR LF, or a part is empty
+  Header  the first line doesn't begin with `heap`, or hasn't six parts
+  Form    an owner, a part that begins with a digit, stands alone
+  Word    no such keyword stands after an owner, or first where the line has no owner
+  Form    the number of parts is wrong
+  Word    what `deal` deals is neither `copies` nor `entries`
+  Number  a part isn't the number that it should be
+  Root    a part isn't the root that it should be; an OPERAND with a dot should be one
+  Tray    a part isn't the TRAY that it should be
 
 The tables of lines, answers, refusals and faults are in docs/formats.md.";
 
@@ -109,7 +126,8 @@ Statuses:
   3  memory or a thread was refused
   4  the history isn't that of the calls, not of the trace, or not legal, and isn't printed
 
-On failure standard error has one line, as `rheap: line 3: Word`. Faults are those of `run`, and
+On failure standard error has one line, as `rheap: line 3: Word`; where the command line isn't
+understood it may have several. Faults are those of `run`, and
   line L: Word     the line is of a cycle or a listing
   line L: Root     the line's owner isn't below OWNERS
   history differs  the status is 4
@@ -127,24 +145,24 @@ A history is the calls of a heap with their answers, in the order in which they 
 ANSWER is that of a trace, or `refused` and a name; calls that a limit refused (SpaceFull, LogFull,
 NumbersSpent) are left out, so these names are the fault Answer.
 
-The report has a line `owner O calls N` for each owner that has calls, and then `legal N`, or `wrong
-AT expected ANSWER` for the first call, counted from 1, whose answer isn't that of a heap that never
-moves its objects.
+The report has a line `owner O calls N` for each owner below OWNERS that has calls, and then `legal
+N`, or `wrong AT expected ANSWER` for the first call, counted from 1, whose answer isn't that of a
+heap that never moves its objects.
 
 On failure standard error has one line, as `rheap: line 3: Cut`, or as `run` has it where no line is
-at fault.
+at fault; where the command line isn't understood it may have several.
 
 Faults of a line, of which the first that holds is told:
   Empty     the file has no byte
   Long      the line's number is above 1048576, or it has more than 256 bytes
   Cut       the line has no line end
   Trailing  the line stands after the `end` line
-  Form      a byte isn't printable, or a part is empty
+  Form      a byte isn't printable, as a tab or the CR of CR LF, or a part is empty
   Header    the first line doesn't begin with `history`, or hasn't three parts
   Form      `end` hasn't two parts
   Number    the owners aren't 1 to 16, the slots aren't 1 to 256, or what follows `end` isn't a
             number up to 4294967295
-  Word, Form, Number, Root  of a command, as in traces
+  Word, Form, Number, Root  of a command, as `rheap run --help` has them
   Answer    no part is `=`, or what follows it isn't an answer that a history may have
   Count     `end` has another number than that of the calls
   End       there is no `end` line; it is the fault of the line after the last
@@ -170,17 +188,19 @@ A dump is what the roots of a heap reach, as `dump` in a trace prints it:
                             raw
   end
 
-VALUE is nil (in objects alone), a whole number, or @K.
+VALUE is nil (in objects alone), a whole number, or @K. What `run` prints has other answers around
+it: cut out the lines from `rheap 2` to `end`. What this command prints is no dump.
 
 On failure standard error has one line, as `rheap: line 3: Order`, or `rheap: open failed`; the
-others are read failed, write failed and out of memory, as `rheap run --help` tells them.
+others are read failed, write failed and out of memory, as `rheap run --help` tells them. Where the
+command line isn't understood it may have several.
 
 Faults of a line, of which the first that holds is told, the last three part by part, from left to
 right:
   Long      the text passes 268435456 bytes in this line
   End       the file ends before this line's line end
-  Header    the first line is neither `rheap 2` nor `rheap 1`, of the version before, in which no
-            object is raw
+  Header    the first line isn't just `rheap 2`, or `rheap 1`, of the version before, in which no
+            object is raw; CR LF at its end is this fault too
   Trailing  the line stands after the line `end`
   Form      a byte isn't printable, a part is empty, a keyword or the number of parts is wrong, or a
             root is nil; how many values an object has is looked at after its number and its fields
