@@ -254,7 +254,8 @@ fn push_name<A: Allocator + Copy>(names: &mut Vec<u32, A>, name: u32) -> Result<
 /// The dump of a heap that is read so: what its roots reach, with objects numbered breadth first
 /// (Moore, 1959), the roots in order of owner, then slot, then the fields of object 0, of object 1,
 /// and so on. Time and memory are linear in the limit of the names and in the fields that are
-/// reached. Beside the graph it takes 8 bytes for each name below the limit at most, while it runs.
+/// reached. Beside the graph it takes, while it runs, 4 bytes for each name below the limit and 4
+/// for each that was met, and the room that the vector of these grew by.
 ///
 /// # Errors
 ///

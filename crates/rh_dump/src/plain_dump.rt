@@ -82,8 +82,8 @@ fn value_of(value: PlainValue) -> Value
 
 /// What the roots of a plain heap reach, with objects numbered breadth first (Moore, 1959): the
 /// roots in order of owner, then slot, then the fields of object 0, of object 1, and so on. Time
-/// and memory are linear in the plain heap. Beside the graph it takes 8 bytes for each object at
-/// most, while it runs.
+/// and memory are linear in the plain heap. Beside the graph it takes, while it runs, 4 bytes for
+/// each object and 4 for each that was met, and the room that the vector of these grew by.
 ///
 /// # Errors
 ///
