@@ -7,8 +7,8 @@ use std::alloc::{AllocError, AllocFailed};
 use thiserror::Error;
 
 /// What is wrong with a line. In each line the first of these that holds is named, but that a
-/// wrong number of parts comes after `Word` (in a `deal` line before a wrong kind); of `Number`,
-/// `Root` and `Tray` it is the one of the first faulty part.
+/// wrong number of parts, other than an owner alone, comes after `Word` (in a `deal` line before a
+/// wrong kind); of `Number`, `Root` and `Tray` it is the one of the first faulty part.
 #[derive(Clone, Copy, Debug, PartialEq, Eq, Error)]
 pub enum Kind {
     /// The text has no byte. It is the fault of line 1.
