@@ -36,9 +36,9 @@ use rh_core::laws::runs::{
 use rh_core::laws::{a_command_leaves_the_cycle, heaps_answer_as_plain_heaps};
 use std::alloc::Global;
 
-/// The commands of a trace are those of its lines that are commands, in order: each comes behind as
-/// many as lines before its own are commands, and there are no others. So a trace of commands alone
-/// is these, line by line.
+/// The commands of a trace are those of its lines that are commands, in order: each stands after as
+/// many as there are command lines before its own, and there are no others. So a trace of commands
+/// alone is these, line by line.
 pub fn the_commands_of_a_trace_stand_in_the_order_of_its_lines()
     ensures placed { (requests : List RequestOf) (i owner : ℕ) (command : CommandOf)
         → slice_get requests i ≡ Some (RequestOf.Command owner command)
