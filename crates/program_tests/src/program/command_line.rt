@@ -120,6 +120,7 @@ const CALLS: &[(&[&[u8]], u8, &[u8], &[u8])] = &[
         b"",
         b"rheap: open failed\n",
     ),
+    (&[b"rheap", b"run", b"/"], 1, b"", b"rheap: read failed\n"),
     (
         &[b"rheap", b"run", b"/dev/null"],
         1,

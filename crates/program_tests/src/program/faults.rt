@@ -24,6 +24,7 @@ const TRACES: &[(&[u8], u32, &str)] = &[
     (b"heap  16 8 4 2 2\n", 1, "Form"),
     (b"heap 16 8 4 2 2 \n", 1, "Form"),
     (b"heap\t16 8 4 2 2\n", 1, "Form"),
+    (b"heap 16 8 4 2 2\r\n", 1, "Form"),
     (b"heap 16 8 4 2 02\n", 1, "Number"),
     (b"heap 16 8 4 2 4294967296\n", 1, "Number"),
     (b"heap 16 8 4 -2 2\n", 1, "Number"),
@@ -174,6 +175,7 @@ const HISTORIES: &[(&[u8], u32, &str)] = &[
 const HEADERS: &[(&[u8], u32, &str)] = &[
     (b"", 1, "End"),
     (b"rheap 2", 1, "End"),
+    (b"rheap 2\r\n", 1, "Header"),
     (b"rheap 1 \n", 1, "Header"),
     (b"rheap 3\n", 1, "Header"),
     (b"rheap\nroots 0\n", 1, "Header"),
