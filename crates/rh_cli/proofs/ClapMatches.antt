@@ -1,12 +1,18 @@
 -- What clap's matches hold, as far as a request is read from them.
-use Rattle.std.proofs.Common.{◌≡◌, List, Option, Some, None, option_map, ap, sym, codes, true, refl, ◌∙◌}
-use Rattle.clap.specs.Words.{Row, Text, App, first_of, first_value, found_of, rows_of, subcommand_rows_of, is_simple, HasMatchesOf, subcommand_name_of, subcommand_of, takes}
+use Rattle.std.proofs.Common.{◌≡◌, ◌≢◌, ◌⊎◌, inl, inr, List, Option, Some, None, Result, option_map, ap, sym, subst, codes, true, refl, ◌∙◌}
+use Rattle.clap.specs.Words.{App, FailsBy, HasKind, Kinds, Row, Text, fault_of, is_simple_and_free, kind_of, first_of, first_value, found_of, rows_of, subcommand_rows_of, is_simple, HasMatchesOf, subcommand_name_of, subcommand_of, takes}
+use Rattle.clap.specs.declared.error.Error.{Error as ClapError}
+use Rattle.clap.specs.declared.error.kind.ErrorKind.{ErrorKind}
+use Rattle.clap.specs.declared.error.kind.ErrorKind.TheVariants.{OutOfMemory}
 use Rattle.clap.specs.declared.parser.matches.ArgMatches.{ArgMatches}
 use Rattle.clap.specs.declared.parser.matches.ArgMatches.TheViews.{out-ArgMatches, out-SubCommand}
 use Rattle.std.specs.Box.{box_value}
 use Rattle.clap.proofs.WalkLemmas.{first_value-rows}
 use Rattle.clap.proofs.OnLiterals.{clap_on_literals}
-use Rattle.rh_cli.specs.Ask.{command_and_file_in, command_and_file_of, command_named, options_in, with_file, rheap_app, is_taken, Options}
+use Rattle.rh_cli.specs.Ask.{command_and_file_in, command_and_file_of, command_named, error_kinds, options_in, with_file, rheap_app, is_taken, Options}
+use Rattle.rh_cli.specs.Fault.{IsClapFault}
+use Rattle.rh_cli.specs.declared.fault.LineFault.{LineFault}
+use Rattle.rh_cli.specs.declared.fault.LineFault.TheVariants as faults
 
 abbrev both : {X : Type 0} → (X → Text) → (X → List Row) → X → Text × List Row
 both name rows x = (name x, rows x)
@@ -89,3 +95,29 @@ command_and_file_of-matches a arguments m is h =
 pub taken-app : (a : App) (arguments : List Text) → a ≡ rheap_app → is_taken arguments ≡ true → takes a arguments ≡ true
 unfolding is_taken
 taken-app a arguments is taken = ap (λ (x : App). takes x arguments) is ∙ taken
+
+is_free_line : is_simple_and_free rheap_app ≡ true
+unfolding clap_on_literals
+is_free_line = refl
+
+-- a parse of the same command line under another name ends as these kinds of error say
+pub fails_by_error_kinds : {T : Type 0} (a : App) (arguments : List Text) (r : Result T ClapError) → a ≡ rheap_app
+    → (is_simple_and_free a ≡ true → FailsBy (fault_of a arguments) r) → FailsBy (error_kinds arguments) r
+unfolding error_kinds
+fails_by_error_kinds a arguments r is fails =
+    subst (λ (x : App). FailsBy (fault_of x arguments) r) is (fails (ap is_simple_and_free is ∙ is_free_line))
+
+is_want_of_memory : (kind : ErrorKind) → (kind ≡ OutOfMemory) ⊎ (kind ≢ OutOfMemory)
+is_want_of_memory OutOfMemory = inl refl
+is_want_of_memory kind = inr (λ is. cc)
+
+told_as : (kinds : Kinds) (error : ClapError) (fault : LineFault) → HasKind kinds error → (kind_of error ≢ OutOfMemory → fault ≡ faults.Arguments error)
+    → kind_of error ≢ OutOfMemory → IsClapFault kinds fault
+told_as kinds error fault (inl is) told other = absurd (other is)
+told_as kinds error fault (inr among) told other = rw (told other) among
+
+-- an error of one of these kinds is told as it is, or as want of memory
+pub told_of_clap : (kinds : Kinds) (error : ClapError) (fault : LineFault) → HasKind kinds error → (kind_of error ≡ OutOfMemory → fault ≡ faults.OutOfMemory)
+    → (kind_of error ≢ OutOfMemory → fault ≡ faults.Arguments error) → IsClapFault kinds fault
+told_of_clap kinds error fault has memory told =
+    elim (is_want_of_memory (kind_of error)) [ inl is ↦ rw (memory is) tt | inr other ↦ told_as kinds error fault has told other ]

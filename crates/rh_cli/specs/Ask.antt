@@ -3,7 +3,7 @@ use Rattle.std.specs.Prelude.{ℕ, nat_le, List, Bool, true, false, if◌then◌
 use Rattle.std.specs.Str.{bytes_eq}
 use Rattle.rh_text.specs.Number.{number_of}
 use Rattle.clap.specs.declared.builder.action.ArgAction.TheVariants.{SetTrue}
-use Rattle.clap.specs.Words.{App, Row, Rule, Text, new_app, new_rule, with_rule, with_subcommand, subcommand_of, first_of, takes}
+use Rattle.clap.specs.Words.{App, Kinds, Row, Rule, Text, new_app, new_rule, with_rule, with_subcommand, subcommand_of, fault_of, first_of, takes}
 use Rattle.rh_cli.specs.declared.ask.Subcommand.{Subcommand}
 use Rattle.rh_cli.specs.declared.ask.Subcommand.TheVariants.{Run, RunPaced, Threads, Replay, Dump}
 use Rattle.rh_cli.specs.declared.ask.Ask.{Ask}
@@ -137,6 +137,10 @@ command_and_file_of arguments = command_and_file_in (subcommand_of rheap_app arg
 -- whether clap takes the arguments
 unfoldable pub is_taken : List Text → Bool
 is_taken arguments = takes rheap_app arguments
+
+-- the kinds of error that clap's parse of the arguments may end with; none where it doesn't fail
+unfoldable pub error_kinds : List Text → Kinds
+error_kinds arguments = fault_of rheap_app arguments
 
 -- the command and the file of a request
 abbrev pub command_and_file : Ask → Subcommand × Text

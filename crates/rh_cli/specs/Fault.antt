@@ -1,6 +1,6 @@
 -- The status that a fault ends the program with.
 use Rattle.std.specs.Prelude.{◌≡◌, ◌≢◌, ◌≤◌, ◌⊎◌, ⊤, ℕ, Result, Ok, Err}
-use Rattle.clap.specs.Words.{kind_of}
+use Rattle.clap.specs.Words.{IsAmong, Kinds, kind_of}
 use Rattle.clap.specs.declared.error.kind.ErrorKind.{ErrorKind}
 use Rattle.clap.specs.declared.error.kind.ErrorKind.TheVariants.{DisplayHelp, DisplayVersion}
 use Rattle.rh_cli.specs.declared.ending.Ending.{Ending}
@@ -57,6 +57,12 @@ IsArgumentsFault faults.Replicators = ⊤
 IsArgumentsFault faults.Idle = ⊤
 IsArgumentsFault faults.OutOfMemory = ⊤
 IsArgumentsFault fault = ⊥
+
+-- what clap's refusal of the arguments is told as: want of memory, or its error, of these kinds
+abbrev pub IsClapFault : Kinds → LineFault → Type 0
+IsClapFault kinds (faults.Arguments error) = IsAmong (kind_of error) kinds
+IsClapFault kinds faults.OutOfMemory = ⊤
+IsClapFault kinds fault = ⊥
 
 -- a fault that comes before anything is done with the file
 abbrev pub IsEarlyFault : LineFault → Type 0

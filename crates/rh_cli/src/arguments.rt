@@ -1,10 +1,10 @@
 //! The arguments of the program.
 
-ghost use Rattle.std.specs.Prelude.{◌≡◌, ◌≢◌, ◌⊎◌, map, option_map, false, Ok, Err, IsTrue, IfOk, IfErr, codes};
+ghost use Rattle.std.specs.Prelude.{◌≡◌, ◌≢◌, ◌⊎◌, [], map, option_map, false, Ok, Err, IsTrue, IfOk, IfErr, codes};
 ghost use Rattle.clap.specs.declared.builder.command.Command.TheViews.{out-Command as fields_of};
 ghost use Rattle.clap.specs.Words.{kind_of, app_of, subcommand_rows_of};
-ghost use Rattle.rh_cli.specs.Ask.{command_and_file, command_and_file_in, command_and_file_of, command_named, file_app, number_within, run_app, rheap_app, is_set, is_taken, run_asked, threads_app, threads_asked};
-ghost use Rattle.rh_cli.specs.Fault.{IsArgumentsFault};
+ghost use Rattle.rh_cli.specs.Ask.{command_and_file, command_and_file_in, command_and_file_of, command_named, error_kinds, file_app, number_within, run_app, rheap_app, is_set, is_taken, run_asked, threads_app, threads_asked};
+ghost use Rattle.rh_cli.specs.Fault.{IsArgumentsFault, IsClapFault};
 ghost use Rattle.rh_cli.specs.declared.ask.Ask.{Ask};
 
 use crate::ask::{Ask, Subcommand};
@@ -134,6 +134,8 @@ pub fn read_words<'a>(alloc: Global, arguments: &'a [&'a str]) -> Result<Ask<'a>
     // The request has the command and the file that clap's parse of the arguments holds.
     ensures asked { IfOk result (λ ask.
         command_and_file_of (map (λ a. a.now) arguments.now) ≡ Ok (command_and_file ask)) }
+    // A request comes only where clap refuses nothing.
+    ensures taken { IfOk result (λ ask. error_kinds (map (λ a. a.now) arguments.now) ≡ []) }
     // Arguments that clap takes, and that hold a request, are refused for want of memory alone.
     ensures refused { IfErr result (λ fault. IsTrue (is_taken (map (λ a. a.now) arguments.now))
         → (ask : Ask)
@@ -143,6 +145,13 @@ pub fn read_words<'a>(alloc: Global, arguments: &'a [&'a str]) -> Result<Ask<'a>
     // refused.
     ensures due { IfErr result (λ fault. IsTrue (is_taken (map (λ a. a.now) arguments.now))
         → (fault ≡ LineFault.OutOfMemory)
+        ⊎ (command_and_file_of (map (λ a. a.now) arguments.now) ≡ Err fault)) }
+    // What clap refuses is told as its own error, or memory was refused.
+    ensures clap { IfErr result (λ fault. error_kinds (map (λ a. a.now) arguments.now) ≢ []
+        → IsClapFault (error_kinds (map (λ a. a.now) arguments.now)) fault) }
+    // Whatever is told is that, or what the parse holds in place of a request.
+    ensures told { IfErr result (λ fault.
+        IsClapFault (error_kinds (map (λ a. a.now) arguments.now)) fault
         ⊎ (command_and_file_of (map (λ a. a.now) arguments.now) ≡ Err fault)) }
     // No other fault comes.
     ensures kinds { IfErr result (λ fault. IsArgumentsFault fault) }
@@ -156,8 +165,11 @@ fn matches_of<'a>(alloc: Global, arguments: &'a [&'a str]) -> Result<ArgMatches<
     ensures held { IfOk result (λ matches.
         command_and_file_of (map (λ a. a.now) arguments.now)
         ≡ command_and_file_in (subcommand_rows_of matches)) }
+    ensures taken { IfOk result (λ matches. error_kinds (map (λ a. a.now) arguments.now) ≡ []) }
     ensures refused { IfErr result (λ fault. IsTrue (is_taken (map (λ a. a.now) arguments.now))
         → fault ≡ LineFault.OutOfMemory) }
+    ensures told { IfErr result (λ fault.
+        IsClapFault (error_kinds (map (λ a. a.now) arguments.now)) fault) }
     ensures kinds { IfErr result (λ fault. IsArgumentsFault fault) }
 {
     let command = command_line(alloc)?;
