@@ -69,6 +69,8 @@ pub fn read_all<A: Allocator + Copy, R: io::Read>(
     // isn't.
     ensures failed { IsErrOf result InputFault.Read → AreSpent reads.new }
     ensures none_failed { ¬ IsErrOf result InputFault.Read → reads.new.failed ≡ false }
+    // No read came to the end where Read is answered.
+    ensures not_ended { IsErrOf result InputFault.Read → reads.new.ended ≡ reads.old.ended }
     // Each read that was made took one of those that were left.
     ensures counted { CountsDown reads.old.left reads.old reads.new }
 {
@@ -109,6 +111,7 @@ pub fn read_past<A: Allocator + Copy, R: io::Read>(
     // As of `read_all`.
     ensures failed { IsErrOf result InputFault.Read → AreSpent reads.new }
     ensures none_failed { ¬ IsErrOf result InputFault.Read → reads.new.failed ≡ false }
+    ensures not_ended { IsErrOf result InputFault.Read → reads.new.ended ≡ reads.old.ended }
     ensures counted { CountsDown reads.old.left reads.old reads.new }
 {
     let mut text: Vec<u8, A> = Vec::new(alloc);

@@ -1,10 +1,10 @@
-//! The calls of a reader or a writer, and whether one failed.
+//! The calls of a reader or a writer, whether one failed, and whether one came to the end.
 
 ghost use Rattle.std.specs.IoError.{error_kind};
-ghost use Rattle.std.specs.Prelude.{◌≡◌, ◌↔◌, ◌+◌, ◌<◌, IsTrue, false};
+ghost use Rattle.std.specs.Prelude.{◌≡◌, ◌↔◌, ◌+◌, ◌<◌, length, IsTrue, true, false, Ok};
 ghost use Rattle.std.specs.Io.{ReadsAtMost, WritesAtMost};
 ghost use Rattle.std.specs.Io.KnownBytes.{ReadConsumes, WriteAppends};
-ghost use Rattle.rh_text.specs.IoLog.{IoLogState, no_calls, one_more, IsFailedRead, IsFailedWrite};
+ghost use Rattle.rh_text.specs.IoLog.{IoLogState, no_calls, one_more, IsFailedRead, IsFailedWrite, ComesToEnd};
 
 use rh_layout::limits::MAX_CALLS;
 use std::io;
@@ -18,12 +18,13 @@ pub fn is_interrupted(error: &io::Error) -> bool
     error.kind() == ErrorKind::Interrupted
 }
 
-/// A log of the calls of one reader or of one writer: whether a call failed, how many were made,
-/// and how many may still be made. Only a call writes whether one failed and how many were made,
+/// A log of the calls of one reader or of one writer: whether a call failed, whether a read came to
+/// the end, how many were made, and how many may still be made. Only a call writes the first three,
 /// and after a failed call none is made; a new text to be sent renews how many are left.
 #[derive(Drop)]
 pub struct IoLog {
     failed: bool,
+    ended: bool,
     made: u64,
     left: u32,
 }
@@ -33,7 +34,12 @@ impl Model for IoLog {
 
     ghost Value = { IoLogState };
 
-    ghost view = { λ c. record { failed = c.failed; made = c.made; left = c.left } };
+    ghost view = { λ c. record {
+      failed = c.failed;
+      ended = c.ended;
+      made = c.made;
+      left = c.left;
+    } };
 }
 
 impl IoLog {
@@ -43,6 +49,7 @@ impl IoLog {
     {
         IoLog {
             failed: false,
+            ended: false,
             made: 0,
             left: MAX_CALLS,
         }
@@ -54,6 +61,7 @@ impl IoLog {
     {
         IoLog {
             failed: false,
+            ended: false,
             made: 0,
             left: limit,
         }
@@ -88,36 +96,52 @@ impl IoLog {
     }
 
     /// One read, whose answer it hands on. It fails where it answers an error and was not
-    /// interrupted.
+    /// interrupted, and comes to the end where it gives no byte of some that were asked. A read
+    /// that asks for none is not made: it answers that it gave none, and all stays as it was.
     pub fn read<R: io::Read>(&mut self, reader: &mut R, buf: &mut [u8]) -> io::Result<usize>
         requires none_failed { self.old.failed ≡ false }
         requires some_left { 0 < self.old.left }
         ensures bound { ReadsAtMost result buf.new }
         ensures bytes { ReadConsumes (R.remaining reader.old) (R.remaining reader.new) result
             buf.new }
+        ensures not_made { length buf.old ≡ 0
+            → (result ≡ Ok 0) × (self.new ≡ self.old) × (reader.new ≡ reader.old) }
         ensures failed { IsTrue self.new.failed ↔ IsFailedRead result }
-        ensures made { self.new.made ≡ one_more self.old.made }
-        ensures left { self.new.left + 1 ≡ self.old.left }
+        ensures ended { ComesToEnd result buf.new → self.new.ended ≡ true }
+        ensures not_ended { ¬ ComesToEnd result buf.new → self.new.ended ≡ self.old.ended }
+        ensures made { 0 < length buf.old → self.new.made ≡ one_more self.old.made }
+        ensures left { 0 < length buf.old → self.new.left + 1 ≡ self.old.left }
     {
+        if buf.is_empty() {
+            return Ok(0);
+        }
         let result = reader.read(buf);
         self.failed = is_failed_read(&result);
+        self.ended = has_ended(self.ended, &result, buf);
         self.made = self.made.saturating_add(1);
         self.left -= 1;
         result
     }
 
     /// One write, whose answer it hands on. It fails where it answers an error and was not
-    /// interrupted, or takes no byte of some.
+    /// interrupted, or takes no byte of some. A write of none is not made: it answers that it took
+    /// none, and all stays as it was.
     pub fn write<W: io::Write>(&mut self, writer: &mut W, buf: &[u8]) -> io::Result<usize>
         requires none_failed { self.old.failed ≡ false }
         requires some_left { 0 < self.old.left }
         ensures bound { WritesAtMost result buf.now }
         ensures bytes { WriteAppends (W.contents writer.old) (W.contents writer.new) result
             buf.now }
+        ensures not_made { length buf.now ≡ 0
+            → (result ≡ Ok 0) × (self.new ≡ self.old) × (writer.new ≡ writer.old) }
         ensures failed { IsTrue self.new.failed ↔ IsFailedWrite result buf.now }
-        ensures made { self.new.made ≡ one_more self.old.made }
-        ensures left { self.new.left + 1 ≡ self.old.left }
+        ensures ended { self.new.ended ≡ self.old.ended }
+        ensures made { 0 < length buf.now → self.new.made ≡ one_more self.old.made }
+        ensures left { 0 < length buf.now → self.new.left + 1 ≡ self.old.left }
     {
+        if buf.is_empty() {
+            return Ok(0);
+        }
         let result = writer.write(buf);
         self.failed = is_failed_write(&result, buf);
         self.made = self.made.saturating_add(1);
@@ -133,6 +157,17 @@ fn is_failed_read(answer: &io::Result<usize>) -> bool
     match answer {
         Ok(_) => false,
         Err(error) => !is_interrupted(error),
+    }
+}
+
+/// Whether a read came to the end, before or with this answer of a read into this room.
+fn has_ended(before: bool, answer: &io::Result<usize>, room: &[u8]) -> bool
+    ensures met { ComesToEnd answer.now room.now → result ≡ true }
+    ensures not_met { ¬ ComesToEnd answer.now room.now → result ≡ before }
+{
+    match answer {
+        Ok(given) => before || (*given == 0 && !room.is_empty()),
+        Err(_) => before,
     }
 }
 

@@ -8,6 +8,7 @@ invariant-loop-chunk g l = record {
   taken : Consumes (g.R.Read.remaining l.fn.reader) (g.R.Read.remaining l.reader) l.text.items;
   few : length l.text.items ≤ 16777216;
   none_failed : l.reads.failed ≡ false;
+  not_ended : l.reads.ended ≡ l.fn.reads.ended;
   counted : CountsDown l.fn.reads.left l.fn.reads l.reads;
 }
 

@@ -7,6 +7,7 @@ abbrev pub invariant-loop-chunk : goal.invariant-loop-chunk
 invariant-loop-chunk g l = record {
   taken : Consumes (g.R.Read.remaining l.fn.reader) (g.R.Read.remaining l.reader) l.text.items;
   none_failed : l.reads.failed ≡ false;
+  not_ended : l.reads.ended ≡ l.fn.reads.ended;
   counted : CountsDown l.fn.reads.left l.fn.reads l.reads;
   few : length l.text.items ≤ l.fn.limit;
 }
