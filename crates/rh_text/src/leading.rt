@@ -5,7 +5,7 @@
 //! above 0 with which the text ends.
 
 ghost use Rattle.std.specs.Int.{IsOutOfRange};
-ghost use Rattle.std.specs.Prelude.{◌≡◌, ◌≢◌, ℕ, ◌^◌, ◌<◌, List, ◌∷◌, ◌++◌, decimal, IfSome, MatchOption};
+ghost use Rattle.std.specs.Prelude.{◌≡◌, ◌≢◌, ℕ, ◌^◌, ◌<◌, List, ◌∷◌, ◌++◌, decimal, MatchOption};
 ghost use Rattle.rh_text.specs.Number.{IsU32};
 ghost use Rattle.rh_text.specs.Root.{RootFits, root_text};
 
@@ -76,10 +76,15 @@ pub fn leading_number(text: &[u8]) -> Option<(u32, &[u8])>
 }
 
 /// The root `OWNER.SLOT` with which the text begins, each of at most eight digits, and what stands
-/// after it.
+/// after it. It is found where a byte that is no digit stands after it; that whose slot is `0` may
+/// be found whatever stands after it, and also where the text ends with it.
 #[inline(always)]
 pub fn leading_root(text: &[u8]) -> Option<(RootId, &[u8])>
-    ensures { IfSome result (λ x. RootFits x.0 × (text.now ≡ root_text x.0 ++ x.1.now)) }
+    ensures { MatchOption result
+        ((root : RootId) (byte : ℕ) (rest : List ℕ) → root.owner < 10 ^ 8 → root.slot < 10 ^ 8
+        → IsOutOfRange 48 57 byte → text.now ≢ root_text root ++ byte ∷ rest)
+        (λ x. RootFits x.0 × (text.now ≡ root_text x.0 ++ x.1.now)
+        × (x.0.owner < 10 ^ 8) × (x.0.slot < 10 ^ 8)) }
 {
     let (owner, rest) = leading_number(text)?;
     let rest = after_byte(b'.', rest)?;
