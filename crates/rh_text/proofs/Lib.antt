@@ -5,3 +5,4 @@ pub mod RootHead
 pub mod ReadInteger
 pub mod FirstThree
 pub mod WellFormed
+pub mod PartsInOrder

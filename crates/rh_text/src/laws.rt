@@ -1,11 +1,11 @@
 //! Laws of the definitions alone. Each function does nothing: its contract is the law.
 
-ghost use Rattle.std.specs.Prelude.{◌≡◌, ◌↔◌, ℕ, ℤ, ◌+◌, ◌<◌, true, false, List, Some, Contains, decimal, length, slice_get};
+ghost use Rattle.std.specs.Prelude.{◌≡◌, ◌↔◌, ℕ, ℤ, ◌+◌, ◌<◌, ◌≤◌, true, false, List, [], ◌∷◌, ◌++◌, Some, Contains, decimal, length, slice_get};
 ghost use Rattle.std.specs.Fmt.{signed_decimal};
 ghost use Rattle.std.specs.List.{flat_map};
 ghost use Rattle.rh_layout.specs.declared.command.RootId.{RootId};
 ghost use Rattle.rh_text.specs.Number.{IsI64, IsU32, integer_of, number_of};
-ghost use Rattle.rh_text.specs.Parts.{IsFormedLine, is_formed};
+ghost use Rattle.rh_text.specs.Parts.{IsFormedLine, begins_with_digit, cut_at, has_dot, is_formed, one_part, six_parts, three_parts, two_parts};
 ghost use Rattle.rh_text.specs.RawLine.{RawLine, lines_of, raw_text};
 ghost use Rattle.rh_text.specs.Root.{RootFits, root_of, root_text};
 
@@ -38,4 +38,25 @@ pub fn raw_lines_make_up_the_text()
         → l.ended ≡ true }
     ensures filled { (bytes : List ℕ) (l : RawLine) → Contains (lines_of bytes) l
         → l.ended ≡ false → 0 < length l.bytes }
+{}
+
+/// Just one, two, three or six parts are told in their order. A cut is at the first byte of its
+/// kind. A part has a dot where a byte is 46, and begins with a digit where its first byte is 48 to
+/// 57.
+pub fn parts_are_told_in_order()
+    ensures one { (parts : List (List ℕ)) (a : List ℕ)
+        → (one_part parts ≡ Some a) ↔ (parts ≡ a ∷ []) }
+    ensures two { (parts : List (List ℕ)) (a b : List ℕ)
+        → (two_parts parts ≡ Some (a, b)) ↔ (parts ≡ a ∷ b ∷ []) }
+    ensures three { (parts : List (List ℕ)) (a b c : List ℕ)
+        → (three_parts parts ≡ Some (a, b, c)) ↔ (parts ≡ a ∷ b ∷ c ∷ []) }
+    ensures six { (parts : List (List ℕ)) (a b c d e f : List ℕ)
+        → (six_parts parts ≡ Some (a, b, c, d, e, f))
+        ↔ (parts ≡ a ∷ b ∷ c ∷ d ∷ e ∷ f ∷ []) }
+    ensures cut { (byte : ℕ) (bytes before after : List ℕ)
+        → (cut_at byte bytes ≡ Some (before, after))
+        ↔ ((bytes ≡ before ++ byte ∷ after) × ¬ Contains before byte) }
+    ensures dot { (part : List ℕ) → (has_dot part ≡ true) ↔ Contains part 46 }
+    ensures digit { (part : List ℕ) → (begins_with_digit part ≡ true)
+        ↔ ((d : ℕ) × (rest : List ℕ) × (part ≡ d ∷ rest) × (48 ≤ d) × (d ≤ 57)) }
 {}

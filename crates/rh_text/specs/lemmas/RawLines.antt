@@ -29,25 +29,28 @@ record IsWhole (l : RawLine) : Type 0 where
   pub within : ¬ Contains l.bytes 10
   pub filled : l.ended ≡ false → 0 < length l.bytes
 
-at_index : (b : ℕ) (bytes : List ℕ) (k : ℕ) → k < length (b ∷ bytes) → slice_index_or (b ∷ bytes) k 10 ≡ 10 → (b ≡ 10) ⊎ Contains bytes 10
-at_index b bytes zero within is = inl is
-at_index b bytes (suc k) within is = inr (k, omega (arith, within), is)
+at_index : (c b : ℕ) (bytes : List ℕ) (k : ℕ) → k < length (b ∷ bytes) → slice_index_or (b ∷ bytes) k c ≡ c → (b ≡ c) ⊎ Contains bytes c
+at_index c b bytes zero within is = inl is
+at_index c b bytes (suc k) within is = inr (k, omega (arith, within), is)
 
-none_within : ¬ Contains {X = ℕ} [] 10
-none_within there = absurd (omega (arith, there.1))
+pub first_or_later : (c b : ℕ) (bytes : List ℕ) → Contains (b ∷ bytes) c → (b ≡ c) ⊎ Contains bytes c
+first_or_later c b bytes there = at_index c b bytes there.0 there.1 there.2
 
-within_onto : (b : ℕ) (bytes : List ℕ) → eqb b 10 ≡ false → ¬ Contains bytes 10 → ¬ Contains (b ∷ bytes) 10
-within_onto b bytes other none there = elim (at_index b bytes there.0 there.1 there.2) [
-  | inl same ↦ absurd (false≢true (sym other ∙ eq-eqb b 10 same))
+pub none_within : (c : ℕ) → ¬ Contains {X = ℕ} [] c
+none_within c there = absurd (omega (arith, there.1))
+
+pub within_onto : (c b : ℕ) (bytes : List ℕ) → eqb b c ≡ false → ¬ Contains bytes c → ¬ Contains (b ∷ bytes) c
+within_onto c b bytes other none there = elim (first_or_later c b bytes there) [
+  | inl same ↦ absurd (false≢true (sym other ∙ eq-eqb b c same))
   | inr later ↦ none later
 ]
 
 whole_onto : (b : ℕ) (lines : List RawLine) → eqb b 10 ≡ false → All IsWhole lines → All IsWhole (onto_line b lines)
-whole_onto b [] other h = All-cons IsWhole (record { bytes = b ∷ []; ended = false }) [] (record { within = within_onto b [] other none_within; filled = λ cut. omega arith }) (All-nil IsWhole)
-whole_onto b (l ∷ ls) other h = All-cons IsWhole (record { bytes = b ∷ l.bytes; ended = l.ended }) ls (record { within = within_onto b l.bytes other (All-head IsWhole l ls h).within; filled = λ cut. omega arith }) (All-tail IsWhole l ls h)
+whole_onto b [] other h = All-cons IsWhole (record { bytes = b ∷ []; ended = false }) [] (record { within = within_onto 10 b [] other (none_within 10); filled = λ cut. omega arith }) (All-nil IsWhole)
+whole_onto b (l ∷ ls) other h = All-cons IsWhole (record { bytes = b ∷ l.bytes; ended = l.ended }) ls (record { within = within_onto 10 b l.bytes other (All-head IsWhole l ls h).within; filled = λ cut. omega arith }) (All-tail IsWhole l ls h)
 
 lines_whole_step : (b : ℕ) (lines : List RawLine) (ends : Bool) → eqb b 10 ≡ ends → All IsWhole lines → All IsWhole (cond ends (record { bytes = []; ended = true } ∷ lines) (onto_line b lines))
-lines_whole_step b lines true is h = All-cons IsWhole (record { bytes = []; ended = true }) lines (record { within = none_within; filled = λ cut. absurd (true≢false cut) }) h
+lines_whole_step b lines true is h = All-cons IsWhole (record { bytes = []; ended = true }) lines (record { within = none_within 10; filled = λ cut. absurd (true≢false cut) }) h
 lines_whole_step b lines false is h = whole_onto b lines is h
 
 lines_whole : (bs : List ℕ) → All IsWhole (lines_of bs)

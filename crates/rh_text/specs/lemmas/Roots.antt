@@ -29,7 +29,7 @@ root_means part root e =
     let whole : part ≡ root_text made = cut_means 46 part a.0.0 a.0.1 a.1 ∙ ap (λ (o : List ℕ). o ++ 46 ∷ a.0.1) owner.0 ∙ ap (λ (s : List ℕ). decimal b.0 ++ 46 ∷ s) slot.0 in
     subst (λ (r : RootId). (part ≡ root_text r) × RootFits r) (some_is made root c.2) (whole, (owner.1, slot.1))
 
-cut_step : (c b : ℕ) (bs l r : List ℕ) → eqb b c ≡ false → cut_at c bs ≡ Some (l, r) → cut_at c (b ∷ bs) ≡ Some (b ∷ l, r)
+pub cut_step : (c b : ℕ) (bs l r : List ℕ) → eqb b c ≡ false → cut_at c bs ≡ Some (l, r) → cut_at c (b ∷ bs) ≡ Some (b ∷ l, r)
 cut_step c b bs l r other h =
     ap (λ (t : Bool). cond t (Some ([], bs)) (option_map (λ cut. (b ∷ cut.0, cut.1)) (cut_at c bs))) other ∙ ap (option_map (λ cut. (b ∷ cut.0, cut.1))) h
 
