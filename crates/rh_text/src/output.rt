@@ -16,8 +16,8 @@ use thiserror::Error;
 #[error("write failed")]
 pub struct Write;
 
-/// Writes all of a text, in one write where the writer takes it whole, and else again from where it
-/// stopped. A write that was interrupted is made again.
+/// Writes all of a text, from where the write before stopped. A write that was interrupted is made
+/// again.
 ///
 /// # Errors
 ///
