@@ -125,6 +125,8 @@ pub fn read_dump_logged<A: Allocator + Copy, R: io::Read>(
     // isn't.
     ensures failed { IsErrOf result DumpReadError.Read → AreSpent reads.new }
     ensures none_failed { ¬ IsErrOf result DumpReadError.Read → reads.new.failed ≡ false }
+    // No read came to the end where Read is answered.
+    ensures not_ended { IsErrOf result DumpReadError.Read → reads.new.ended ≡ reads.old.ended }
     // Each read that was made took one of those that were left.
     ensures counted { CountsDown reads.old.left reads.old reads.new }
 {
