@@ -49,8 +49,7 @@ pub fn command_of(line: &[u8]) -> Result<(u32, Command), Kind>
     single_command(line)
 }
 
-/// Writes an owner's command as a single line, without its line end, in one write where the writer
-/// takes it whole. It takes no memory.
+/// Writes an owner's command as a single line, without its line end. It takes no memory.
 ///
 /// # Errors
 ///
@@ -96,8 +95,7 @@ pub fn write_command_logged<W: io::Write>(
     send(writer, writes, text.as_bytes())
 }
 
-/// Writes an answer as a single line, without its line end, in one write where the writer takes it
-/// whole. It takes no memory.
+/// Writes an answer as a single line, without its line end. It takes no memory.
 ///
 /// # Errors
 ///
