@@ -20,8 +20,8 @@ unsafe extern "C" {
 const NO_ROOM: u8 = 5;
 
 /// What a trace answers, or the status that says why there is no answer: 1 for a fault of the
-/// trace, 3 where memory was refused. Where the buffer is too small the call says what is due, and
-/// is made once more.
+/// trace, or where no pace keeps up with it, 3 where memory was refused. Where the buffer is too
+/// small the call says what is due, and is made once more.
 fn run(trace: &[u8], mark: u32) -> Result<Vec<u8>, u8> {
     let mut answers = vec![0; 2 * trace.len()];
     loop {
