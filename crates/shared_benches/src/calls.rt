@@ -127,8 +127,8 @@ where
     put_two(mutators, last)
 }
 
-/// Makes the calls of one, two or four mutators, in a thread each; nothing where there are too few,
-/// or memory was refused.
+/// Makes the calls of one, two or four mutators, in a thread each; nothing where another number is
+/// asked for, there are too few, or memory was refused.
 fn play_beside<R, A>(
     rt: &R,
     shared: &SharedHeap<A>,
@@ -140,17 +140,15 @@ where
     A: Allocator + Copy + Send,
     R: Threads + Wait + Sync,
 {
-    if threads <= 1 {
-        play_last(rt, shared, mutators, calls)
-    } else if threads == 2 {
-        play_last_two(rt, shared, mutators, calls)
-    } else {
-        play_last_four(rt, shared, mutators, calls)
+    match threads {
+        1 => play_last(rt, shared, mutators, calls),
+        2 => play_last_two(rt, shared, mutators, calls),
+        4 => play_last_four(rt, shared, mutators, calls),
+        _ => None,
     }
 }
 
-/// Makes the calls, and tells what they cost; nothing where there are too few mutators, memory was
-/// refused or the clock failed.
+/// Makes the calls, and tells what they cost; nothing where they aren't made, or the clock failed.
 fn play_timed<'m, R>(
     rt: &R,
     memory: &'m RefusingAllocator<Global>,
@@ -195,8 +193,8 @@ fn start_of<A: Allocator + Copy>(memory: A, threads: u32, calls: u32) -> Option<
     Start::new(memory, config, shared).ok()
 }
 
-/// Makes so many calls in each of one, two or four threads, and closes the heap; nothing where it
-/// failed.
+/// Makes so many calls in each of one, two or four threads, and closes the heap; nothing where
+/// another number of threads is asked for, or it failed.
 pub fn run<R>(rt: &R, threads: u32, calls: u32) -> Option<CallFigures>
 where
     R: Clock + AllocGlobal + Threads + Wait + Sync,
