@@ -1,4 +1,4 @@
-//! Four mutators and four replicators, in a small space with small rings.
+//! Four mutators and four replicators, in a small space.
 
 use crate::expectations::{Row, expect_each, expect_equal};
 use crate::numbers::Numbers;

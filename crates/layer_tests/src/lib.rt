@@ -1,4 +1,5 @@
-//! Tests of the layers of a heap, and of the heap, by their public calls.
+//! Tests of the layers of a heap, of the heap and of the heap that collects by itself, and of the
+//! allocator that refuses, by their public calls.
 #![tactic(auto)]
 
 #[cfg(test)]

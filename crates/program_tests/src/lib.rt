@@ -1,4 +1,4 @@
-//! Tests of traces and of the program, by their public calls.
+//! Tests of traces, dumps, histories and the program, by their public calls.
 #![tactic(auto)]
 
 #[cfg(test)]
