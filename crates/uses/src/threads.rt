@@ -23,7 +23,7 @@ const CELL_WORDS: u32 = 4;
 const LIST: RootId = RootId { owner: 0, slot: 0 };
 
 /// Two threads push 10,000 numbers each, and pop as many. Answers the sum of what they popped, and
-/// how many cycles there were. No call is refused since the log is full.
+/// how many cycles there were. No call is refused for want of room in the log.
 pub fn run<R: Threads + Wait + Sync + AllocGlobal>(rt: &R) -> Result<(i64, u64), Problem>
     ensures { IfErr result (λ problem. problem ≢ problems.Refused LogFull) }
 {
