@@ -1,12 +1,24 @@
 //! Raw objects in the heap, where no trace reaches.
 
 use crate::commands::{SIZES, item, piece, replica_of, root, store};
-use crate::expectations::expect_equal;
-use rh_core::{GiveError, Heap, Shaded};
+use crate::expectations::{Row, expect_equal};
+use rh_core::{GiveError, Given, Heap, Shaded};
 use rh_layout::{Operand, Reply, RootId, Value};
 
 /// The root of the raw object, which is the first object.
 const RAW: RootId = RootId { owner: 1, slot: 0 };
+
+const ONE_STALE: Given = Given {
+    joined: 0,
+    repeated: 0,
+    stale: 1,
+    placed: 0,
+};
+
+/// An entry of the field has its number, and another value.
+fn forged(field: u32) -> Result<Given, GiveError> {
+    Err(GiveError::Forged { object: 0, field })
+}
 
 #[test]
 fn no_give_puts_a_reference_into_a_raw_object(rt: HostRuntime) {
@@ -19,12 +31,16 @@ fn no_give_puts_a_reference_into_a_raw_object(rt: HostRuntime) {
     expect_equal(&rt, heap.alloc(1, root(1, 1), 6), Ok(Reply::Object(6)));
     expect_equal(&rt, (heap.raw(0), heap.raw(4)), (Some(true), Some(false)));
     expect_equal(&rt, heap.shade(RAW), Ok(Shaded::Placed));
-    let invented = piece(&rt, 1, &[item(0, 0, 1, Value::Ref(4))]);
-    let forged = GiveError::Forged {
-        object: 0,
-        field: 0,
-    };
-    let answer = heap.give(&replica_of(&rt, memory, &invented));
-    expect_equal(&rt, answer, Err(forged));
-    expect_equal(&rt, heap.field(0, 0), Some((1, Value::Int(5))));
+    let invented = [
+        (item(0, 0, 1, Value::Ref(4)), forged(0)),
+        (item(0, 1, 0, Value::Ref(4)), forged(1)),
+        (item(0, 0, 0, Value::Ref(4)), Ok(ONE_STALE)),
+    ];
+    for (row, &(made_up, answer)) in invented.iter().enumerate() {
+        let rt = Row { rt: &rt, row };
+        let given = heap.give(&replica_of(&rt, memory, &piece(&rt, 1, &[made_up])));
+        expect_equal(&rt, given, answer);
+        expect_equal(&rt, heap.field(0, 0), Some((1, Value::Int(5))));
+        expect_equal(&rt, heap.field(0, 1), Some((0, Value::Nil)));
+    }
 }
