@@ -1,12 +1,18 @@
--- The heap of the queue has room for its calls.
-use Rattle.std.proofs.Common.{◌≡◌, ℕ, zero, suc, ◌+◌, ◌-◌, ◌*◌, ◌^◌, ◌<◌, ◌≤◌, List, ◌++◌, length, Option, None, Some, refl, sym, ap, subst, ◌∙◌, arith}
+-- The heap of the queue is made, has room for its calls, and none of them is a mistake.
+use Rattle.std.proofs.Common.{◌≡◌, ℕ, zero, suc, ◌+◌, ◌-◌, ◌*◌, ◌^◌, ◌<◌, ◌≤◌, List, ◌++◌, length, Option, None, Some, refl, sym, ap, subst, ◌∙◌, inl, inr, arith}
 use Rattle.std.specs.Prelude.{min}
 use Rattle.std.proofs.lemmas.List.{length-append}
+use Rattle.std.proofs.lemmas.Option.{none-some}
 use Rattle.rh_layout.specs.declared.command.Command.{Command}
 use Rattle.rh_model.specs.Plain.{empty_plain}
-use Rattle.rh_mutator.specs.Config.{fault_of}
+use Rattle.rh_mutator.specs.Config.{FaultHolds, fault_of}
 use Rattle.rh_mutator.specs.declared.config.Config.{Config}
 use Rattle.rh_mutator.specs.declared.config.ConfigFault.{ConfigFault}
+use Rattle.rh_mutator.specs.declared.config.ConfigFault.TheVariants.{BadSpace, BadRatio, BadRoots, BadLog, BadNumbers}
+use Rattle.rh_mutator.specs.lemmas.FirstFault.{fault_of-exactly}
+use Rattle.rh_mutator.specs.Mutator.{StandsFor}
+use Rattle.rh_core.specs.declared.errors.HeapError.{HeapError}
+use Rattle.rh_core.specs.declared.errors.HeapError.TheVariants as errors
 use Rattle.rh_core.specs.Heap.{new_heap}
 use Rattle.rh_pace.specs.declared.pace.Pace.{Pace}
 use Rattle.rh_pace.specs.Pace.{IsLowest, KeepsUp, lag_of, paced_by}
@@ -14,7 +20,9 @@ use Rattle.rh_pace.specs.InTime.{paced_after}
 use Rattle.rh_pace.specs.Paced.{PacedState, paced_heap}
 use Rattle.rh_pace.specs.PlainBounds.{AreBounded, HaveRoomToLimit}
 use Rattle.rh_pace.specs.Worked.{one_joins, one_leaves, queue_calls, times}
-use Rattle.uses.specs.Queue.{LeadTo, queue_config, queue_heap}
+use Rattle.uses.specs.declared.problem.Problem.TheVariants as problems
+use Rattle.uses.specs.Queue.{IsAsked, LeadTo, queue_config, queue_heap}
+use Rattle.uses.proofs.Accepted.{queue-accepted}
 
 -- 4 calls for each that joins
 length-joins : (n : ℕ) → length (times n one_joins) ≡ 4 * n
@@ -41,9 +49,32 @@ few-calls more rounds joins turns =
     let all : length (queue_calls more rounds) ≡ suc (suc (length (times more one_joins ++ times rounds (one_joins ++ one_leaves)))) = refl in
     omega (arith, filled, turned, both, all, joins, turns)
 
+fewer : (n m : ℕ) → 1 + n < m → 0 + n < m
+fewer n m few = omega (arith, few)
+
 none-of : {F : Type 0} (o : Option F) → ((f : F) → o ≡ Some f → ⊥) → o ≡ None
 none-of None refuted = refl
 none-of (Some f) refuted = absurd (refuted f refl)
+
+-- the queue's configuration has no fault
+no-fault : (f : ConfigFault) → FaultHolds queue_config f → ⊥
+no-fault BadSpace (inl low) = let few : 2218 < 8 = low in omega (arith, few)
+no-fault BadSpace (inr high) = let many : 16777216 < 2218 = high in omega (arith, many)
+no-fault BadRatio (inl low) = let few : 8 < 1 = low in omega (arith, few)
+no-fault BadRatio (inr high) = let many : 64 < 8 = high in omega (arith, many)
+no-fault BadRoots (inl low) = let few : 2 < 1 = low in omega (arith, few)
+no-fault BadRoots (inr (inl high)) = let many : 16 < 2 = high in omega (arith, many)
+no-fault BadRoots (inr (inr (inl low))) = let few : 3 < 1 = low in omega (arith, few)
+no-fault BadRoots (inr (inr (inr high))) = let many : 256 < 3 = high in omega (arith, many)
+no-fault BadLog (inl low) = let few : 603 < 1 = low in omega (arith, few)
+no-fault BadLog (inr high) = let many : 1048576 < 603 = high in omega (arith, many)
+no-fault BadNumbers (inl low) = let few : 4611686018427387904 < 1 = low in omega (arith, few)
+no-fault BadNumbers (inr (inl high)) = let many : 4611686018427387904 < 4611686018427387904 = high in omega (arith, many)
+no-fault BadNumbers (inr (inr (inl low))) = let few : 4611686018427387904 < 1 = low in omega (arith, few)
+no-fault BadNumbers (inr (inr (inr high))) = let many : 4611686018427387904 < 4611686018427387904 = high in omega (arith, many)
+
+sound : fault_of queue_config ≡ None
+sound = none-of (fault_of queue_config) (λ f is. no-fault f ((fault_of-exactly queue_config f).0 is).0)
 
 -- what the heap is made with at a pace
 abbrev pub config_at : Pace → Config
@@ -74,19 +105,38 @@ module _ (law : HasRoomByBounds) (bounded : IsBoundedQueue) (holds : HoldsLag) (
   abbrev pub queue_last : PacedState
   queue_last = paced_after queue_heap (queue_calls 248 rounds)
 
-  queue-leads : fault_of queue_config ≡ None → rounds < 2 ^ 32 → LeadTo queue_heap (queue_calls 248 rounds) queue_last
-  queue-leads sound turns =
+  queue-leads : rounds < 2 ^ 32 → (s : PacedState) → s ≡ queue_heap → StandsFor s.heap.mutators (empty_plain 2 3) → LeadTo s (queue_calls 248 rounds) queue_last
+  queue-leads turns s made stands =
       let low : lag_of (paced_by 601 4 8) 4 < 1048576 = omega arith in
       let log : lag_of (paced_by 601 4 8) 4 < 603 = holds 2218 1000 4 8 (paced_by 601 4 8) own low in
       let fill : 4 * (248 + 2) ≤ 1000 = omega arith in
-      let room = law 1000 4 queue_config sound (paced_by 601 4 8) own log (queue_calls 248 rounds) (bounded 248 rounds 1000 fill) in
-      (room, few-calls 248 rounds (omega arith) turns, refl)
+      let few = few-calls 248 rounds (omega arith) turns in
+      let asked : IsAsked queue_heap (queue_calls 248 rounds) = record {
+        plain = empty_plain 2 3;
+        stands = subst (λ (t : PacedState). StandsFor t.heap.mutators (empty_plain 2 3)) made stands;
+        accepted = queue-accepted 248 rounds;
+      } in
+      let leads : LeadTo queue_heap (queue_calls 248 rounds) queue_last = record {
+        room = law 1000 4 queue_config sound (paced_by 601 4 8) own log (queue_calls 248 rounds) (bounded 248 rounds 1000 fill);
+        epochs = few;
+        numbers = fewer (length (queue_calls 248 rounds)) 4611686018427387904 few;
+        asked = asked;
+        after = refl;
+      } in
+      subst (λ (t : PacedState). LeadTo t (queue_calls 248 rounds) queue_last) (sym made) leads
 
-  pub made-leads : (pace : Pace) → KeepsUp 2218 1000 4 8 pace → IsLowest 2218 1000 4 8 pace → (c : Config) → c ≡ config_at pace → ((f : ConfigFault) → fault_of c ≡ Some f → ⊥)
-      → (s : PacedState) → s ≡ paced_heap (new_heap c) pace → rounds < 2 ^ 32 → LeadTo s (queue_calls 248 rounds) queue_last
-  made-leads pace up lowest c is sound s made turns =
+  pub made-leads : (pace : Pace) → KeepsUp 2218 1000 4 8 pace → IsLowest 2218 1000 4 8 pace → (c : Config) → c ≡ config_at pace
+      → (s : PacedState) → s ≡ paced_heap (new_heap c) pace → StandsFor s.heap.mutators (empty_plain c.owners c.slots) → rounds < 2 ^ 32 → LeadTo s (queue_calls 248 rounds) queue_last
+  made-leads pace up lowest c is s made stands turns =
       let same = pace-queue pace up lowest own in
       let config : c ≡ queue_config = is ∙ ap config_at same in
-      let sound_config = none-of (fault_of queue_config) (λ f faulty. sound f (ap fault_of config ∙ faulty)) in
       let made_so : s ≡ queue_heap = made ∙ (λ k. paced_heap (new_heap (config k)) (same k)) in
-      subst (λ (t : PacedState). LeadTo t (queue_calls 248 rounds) queue_last) (sym made_so) (queue-leads sound_config turns)
+      queue-leads turns s made_so (subst (λ (d : Config). StandsFor s.heap.mutators (empty_plain d.owners d.slots)) config stands)
+
+-- Nothing but memory keeps it from being made.
+pub only-memory : (own : KeepsUp 2218 1000 4 8 (paced_by 601 4 8)) (pace : Pace) → KeepsUp 2218 1000 4 8 pace → IsLowest 2218 1000 4 8 pace → (c : Config) → c ≡ config_at pace
+    → (error : HeapError) → ((f : ConfigFault) → error ≡ errors.Config f → fault_of c ≡ Some f) → problems.Heap error ≡ problems.Heap errors.OutOfMemory
+only-memory own pace up lowest c is (errors.Config f) told =
+    let config : c ≡ queue_config = is ∙ ap config_at (pace-queue pace up lowest own) in
+    absurd (none-some f (sym sound ∙ sym (ap fault_of config) ∙ told f refl))
+only-memory own pace up lowest c is errors.OutOfMemory told = refl

@@ -1,3 +1,5 @@
+mod Accepted
 mod Filled
+mod Numbers
 mod Served
 mod Unlimited

@@ -1,12 +1,14 @@
 //! A queue that lives in 45 % of its space: cells join behind the last one and leave from the
-//! front, and no call is ever refused for want of room.
+//! front, and no call is ever refused.
 
-ghost use Rattle.std.specs.Prelude.{◌≡◌, ◌++◌, ℕ, false, List, IfErr, IfOk};
+ghost use Rattle.std.specs.Prelude.{◌≡◌, ◌++◌, ℕ, List, IfErr, IfOk};
 ghost use Rattle.rh_layout.specs.declared.command.Command.{Command};
+ghost use Rattle.rh_core.specs.declared.errors.HeapError.TheVariants as heap_errors;
 ghost use Rattle.rh_pace.specs.InTime.{paced_after};
 ghost use Rattle.rh_pace.specs.Paced.{PacedState};
 ghost use Rattle.rh_pace.specs.Worked.{first_cell, one_joins, one_leaves, queue_calls, times};
-ghost use Rattle.uses.specs.Queue.{IsServed, LeadTo, lacks_room, queue_heap};
+ghost use Rattle.uses.specs.Queue.{IsServed, LeadTo, queue_heap};
+ghost use Rattle.uses.specs.declared.problem.Problem.TheVariants as problems;
 
 use crate::problem::Problem;
 use rh_layout::{Operand, Refusal, RootId};
@@ -38,11 +40,12 @@ const LAST: RootId = RootId { owner: 1, slot: 1 };
 const NEW: RootId = RootId { owner: 1, slot: 2 };
 
 /// Fills the queue, and lets one cell join and one leave so many times. Answers how many cycles
-/// these calls take; no call is refused for want of room.
+/// these calls take. Memory refused for the heap is all that can go wrong: no call is refused, for
+/// want of room or for anything else.
 pub fn run<A: Allocator + Copy>(alloc: A, rounds: u32) -> Result<u64, Problem>
     ensures cycles { IfOk result (λ cycles.
         cycles ≡ (paced_after queue_heap (queue_calls 248 rounds)).heap.flips) }
-    ensures room { IfErr result (λ problem. lacks_room problem ≡ false) }
+    ensures memory { IfErr result (λ problem. problem ≡ problems.Heap heap_errors.OutOfMemory) }
 {
     // Only for the proof: the queue stays within the bounds of its pace, and the log holds its lag.
     a_queue_in_45_percent_of_the_space_has_room::<A>();

@@ -1,5 +1,4 @@
 use Rattle.std.proofs.Common.{◌+◌, ◌-◌, ◌++◌}
-use Rattle.std.proofs.lemmas.Result.{err_from_is_err_and}
 use Rattle.rh_pace.specs.Worked.{one_joins, times}
 use Rattle.uses.proofs.Served.{room-last, room-next}
 use Rattle.uses.proofs.queue.fill.Goals as goal
@@ -9,9 +8,9 @@ loop-init g c = λ rest last room. room
 
 pub returns-in_err-join : goal.returns-in_err-join
 returns-in_err-join g c = λ rest last room.
-    let p = err_from_is_err_and c.from_residual.result c.from_residual.ensures.1 in
     let next = room-next c.loop.heap 248 c.loop.counter one_joins rest last (c.loop.invariant rest last room) c.loop-test.true in
-    rw (p.1, p.2) (c.in_err-join.ensures (times (248 - (c.loop.counter + 1)) one_joins ++ rest) last next)
+    let refused = c.in_err-join.ensures (times (248 - (c.loop.counter + 1)) one_joins ++ rest) last next in
+    absurd refused
 
 pub loop-preserved : goal.loop-preserved
 loop-preserved g c = λ rest last room.

@@ -1,5 +1,4 @@
 use Rattle.std.proofs.Common.{◌++◌, ℕ, List, [], append-nil, subst, sym}
-use Rattle.std.proofs.lemmas.Result.{err_from_is_err_and}
 use Rattle.rh_layout.specs.declared.command.Command.{Command}
 use Rattle.rh_pace.specs.Worked.{one_joins, one_leaves, times}
 use Rattle.uses.specs.Queue.{LeadTo}
@@ -7,25 +6,25 @@ use Rattle.uses.proofs.queue.play.Goals as goal
 
 pub returns-in_err-start : goal.returns-in_err-start
 returns-in_err-start g c = λ last room.
-    let p = err_from_is_err_and c.from_residual.result c.from_residual.ensures.1 in
     let turns = times c.args.rounds (one_joins ++ one_leaves) in
-    rw (p.1, p.2) (c.in_err-start.ensures (times 248 one_joins ++ turns) last room)
+    let refused = c.in_err-start.ensures (times 248 one_joins ++ turns) last room in
+    absurd refused
 
 pub returns-in_err-fill : goal.returns-in_err-fill
 returns-in_err-fill g c = λ last room.
-    let p = err_from_is_err_and c.from_residual-in_err-fill.result c.from_residual-in_err-fill.ensures.1 in
     let turns = times c.args.rounds (one_joins ++ one_leaves) in
     let started = c.in_ok-start.ensures (times 248 one_joins ++ turns) last room in
-    rw (p.1, p.2) (c.in_err-fill.ensures turns last started)
+    let refused = c.in_err-fill.ensures turns last started in
+    absurd refused
 
 pub returns-in_err-turn : goal.returns-in_err-turn
 returns-in_err-turn g c = λ last room.
-    let p = err_from_is_err_and c.from_residual-in_err-turn.result c.from_residual-in_err-turn.ensures.1 in
     let turns = times c.args.rounds (one_joins ++ one_leaves) in
     let started = c.in_ok-start.ensures (times 248 one_joins ++ turns) last room in
     let filled = c.in_ok-fill.ensures turns last started in
     let all = subst (λ (calls : List (ℕ × Command)). LeadTo c.fill.new.heap calls last) (sym (append-nil turns)) filled in
-    rw (p.1, p.2) (c.in_err-turn.ensures [] last all)
+    let refused = c.in_err-turn.ensures [] last all in
+    absurd refused
 
 pub returns : goal.returns
 returns g c = λ last room.
@@ -33,4 +32,4 @@ returns g c = λ last room.
     let started = c.in_ok-start.ensures (times 248 one_joins ++ turns) last room in
     let filled = c.in_ok-fill.ensures turns last started in
     let all = subst (λ (calls : List (ℕ × Command)). LeadTo c.fill.new.heap calls last) (sym (append-nil turns)) filled in
-    (c.in_ok-turn.ensures [] last all).2
+    (c.in_ok-turn.ensures [] last all).after

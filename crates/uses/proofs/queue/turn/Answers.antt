@@ -1,5 +1,4 @@
 use Rattle.std.proofs.Common.{◌≡◌, ℕ, ◌+◌, ◌-◌, ◌++◌, arith, subst}
-use Rattle.std.proofs.lemmas.Result.{err_from_is_err_and}
 use Rattle.rh_pace.specs.Worked.{one_joins, one_leaves, times}
 use Rattle.uses.specs.Queue.{LeadTo}
 use Rattle.uses.proofs.Served.{room-last, room-next}
@@ -12,17 +11,17 @@ loop-init g c = λ rest last room.
 
 pub returns-in_err-join : goal.returns-in_err-join
 returns-in_err-join g c = λ rest last room.
-    let p = err_from_is_err_and c.from_residual.result c.from_residual.ensures.1 in
     let more = times (c.args.rounds - (c.loop.counter + 1)) (one_joins ++ one_leaves) ++ rest in
     let next = room-next c.loop.heap c.args.rounds c.loop.counter (one_joins ++ one_leaves) rest last (c.loop.invariant rest last room) c.loop-test.true in
-    rw (p.1, p.2) (c.in_err-join.ensures (one_leaves ++ more) last next)
+    let refused = c.in_err-join.ensures (one_leaves ++ more) last next in
+    absurd refused
 
 pub returns-in_err-leave : goal.returns-in_err-leave
 returns-in_err-leave g c = λ rest last room.
-    let p = err_from_is_err_and c.from_residual-in_err-leave.result c.from_residual-in_err-leave.ensures.1 in
     let more = times (c.args.rounds - (c.loop.counter + 1)) (one_joins ++ one_leaves) ++ rest in
     let next = room-next c.loop.heap c.args.rounds c.loop.counter (one_joins ++ one_leaves) rest last (c.loop.invariant rest last room) c.loop-test.true in
-    rw (p.1, p.2) (c.in_err-leave.ensures more last (c.in_ok-join.ensures (one_leaves ++ more) last next))
+    let refused = c.in_err-leave.ensures more last (c.in_ok-join.ensures (one_leaves ++ more) last next) in
+    absurd refused
 
 pub loop-preserved : goal.loop-preserved
 loop-preserved g c = λ rest last room.
