@@ -73,7 +73,7 @@ no-fault BadNumbers (inr (inl high)) = let many : 4611686018427387904 < 46116860
 no-fault BadNumbers (inr (inr (inl low))) = let few : 4611686018427387904 < 1 = low in omega (arith, few)
 no-fault BadNumbers (inr (inr (inr high))) = let many : 4611686018427387904 < 4611686018427387904 = high in omega (arith, many)
 
-sound : fault_of queue_config ≡ None
+pub sound : fault_of queue_config ≡ None
 sound = none-of (fault_of queue_config) (λ f is. no-fault f ((fault_of-exactly queue_config f).0 is).0)
 
 -- what the heap is made with at a pace
@@ -105,7 +105,7 @@ module _ (law : HasRoomByBounds) (bounded : IsBoundedQueue) (holds : HoldsLag) (
   abbrev pub queue_last : PacedState
   queue_last = paced_after queue_heap (queue_calls 248 rounds)
 
-  queue-leads : rounds < 2 ^ 32 → (s : PacedState) → s ≡ queue_heap → StandsFor s.heap.mutators (empty_plain 2 3) → LeadTo s (queue_calls 248 rounds) queue_last
+  pub queue-leads : rounds < 2 ^ 32 → (s : PacedState) → s ≡ queue_heap → StandsFor s.heap.mutators (empty_plain 2 3) → LeadTo s (queue_calls 248 rounds) queue_last
   queue-leads turns s made stands =
       let low : lag_of (paced_by 601 4 8) 4 < 1048576 = omega arith in
       let log : lag_of (paced_by 601 4 8) 4 < 603 = holds 2218 1000 4 8 (paced_by 601 4 8) own low in

@@ -1,5 +1,6 @@
 mod Accepted
 mod Filled
 mod Numbers
+mod Replies
 mod Served
 mod Unlimited

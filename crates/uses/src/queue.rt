@@ -1,18 +1,24 @@
 //! A queue that lives in 45 % of its space: cells join behind the last one and leave from the
 //! front, and no call is ever refused.
 
-ghost use Rattle.std.specs.Prelude.{◌≡◌, ◌++◌, ℕ, List, IfErr, IfOk};
+ghost use Rattle.std.specs.Prelude.{◌≡◌, ◌<◌, ◌^◌, ◌++◌, ℕ, All, List, IfErr, IfOk, IsOk};
 ghost use Rattle.rh_layout.specs.declared.command.Command.{Command};
 ghost use Rattle.rh_core.specs.declared.errors.HeapError.TheVariants as heap_errors;
-ghost use Rattle.rh_pace.specs.InTime.{paced_after};
+ghost use Rattle.rh_pace.specs.InTime.{paced_after, paced_replies};
 ghost use Rattle.rh_pace.specs.Paced.{PacedState};
 ghost use Rattle.rh_pace.specs.Worked.{first_cell, one_joins, one_leaves, queue_calls, times};
 ghost use Rattle.uses.specs.Queue.{IsServed, LeadTo, queue_heap};
 ghost use Rattle.uses.specs.declared.problem.Problem.TheVariants as problems;
 
 use crate::problem::Problem;
+use rh_core::laws::heaps_answer_as_plain_heaps;
+use rh_core::laws::holds::what_collectors_do_adds_up;
+use rh_core::laws::runs::{a_new_heap_is_well_formed, every_event_keeps_a_heap_well_formed};
 use rh_layout::{Operand, Refusal, RootId};
-use rh_pace::laws::calls::a_command_moves_the_epoch_by_one_at_most;
+use rh_pace::laws::calls::{
+    a_command_moves_the_epoch_by_one_at_most, a_step_is_a_paced_call,
+    every_call_keeps_a_heap_paced, increments_and_collections_are_collector_work,
+};
 use rh_pace::laws::in_time::a_cycle_goes_on_only_as_long_as_its_lag;
 use rh_pace::laws::plain_bounds::what_is_bounded_on_a_plain_heap_has_room;
 use rh_pace::laws::worked::a_queue_in_45_percent_of_the_space_has_room;
@@ -40,21 +46,44 @@ const LAST: RootId = RootId { owner: 1, slot: 1 };
 const NEW: RootId = RootId { owner: 1, slot: 2 };
 
 /// Fills the queue, and lets one cell join and one leave so many times. Answers how many cycles
-/// these calls take. Memory refused for the heap is all that can go wrong: no call is refused, for
-/// want of room or for anything else.
+/// these calls take. None of them is refused, for want of room or for anything else (`accepted`):
+/// memory refused for the heap is all that can go wrong.
 pub fn run<A: Allocator + Copy>(alloc: A, rounds: u32) -> Result<u64, Problem>
     ensures cycles { IfOk result (λ cycles.
         cycles ≡ (paced_after queue_heap (queue_calls 248 rounds)).heap.flips) }
+    ensures accepted { All (λ reply. IsOk reply)
+        (paced_replies queue_heap (queue_calls 248 rounds)) }
     ensures memory { IfErr result (λ problem. problem ≡ problems.Heap heap_errors.OutOfMemory) }
 {
-    // Only for the proof: the queue stays within the bounds of its pace, and the log holds its lag.
+    // Only for the proof: the queue stays within the bounds of its pace, the log holds its lag, and
+    // so no call is refused.
     a_queue_in_45_percent_of_the_space_has_room::<A>();
     what_is_bounded_on_a_plain_heap_has_room::<A>();
     a_cycle_goes_on_only_as_long_as_its_lag();
+    no_call_of_the_queue_is_refused::<A>();
     let pace = Pace::of(WORDS, LIVE, CELL_WORDS, RATIO)?;
     let mut heap = PacedHeap::new(alloc, pace.config(WORDS, RATIO, 2, 3), pace)?;
     play(&mut heap, rounds)?;
     Ok(heap.stat().flips)
+}
+
+/// The plain heap accepts each call of the queue; the heap has room for each, up to the first that
+/// a limit refuses; and epochs and numbers are left for all of them. So each is accepted.
+fn no_call_of_the_queue_is_refused<A: Allocator + Copy>()
+    ensures { (rounds : ℕ) → rounds < 2 ^ 32
+        → All (λ reply. IsOk reply) (paced_replies queue_heap (queue_calls 248 rounds)) }
+{
+    a_queue_in_45_percent_of_the_space_has_room::<A>();
+    what_is_bounded_on_a_plain_heap_has_room::<A>();
+    a_cycle_goes_on_only_as_long_as_its_lag();
+    a_command_moves_the_epoch_by_one_at_most();
+    a_step_is_a_paced_call::<A>();
+    every_call_keeps_a_heap_paced::<A>();
+    increments_and_collections_are_collector_work::<A>();
+    every_event_keeps_a_heap_well_formed::<A>();
+    what_collectors_do_adds_up::<A>();
+    a_new_heap_is_well_formed();
+    heaps_answer_as_plain_heaps();
 }
 
 /// The queue is filled, and then one joins and one leaves so many times.
