@@ -1,5 +1,5 @@
 -- What changes roots alone isn't refused for a limit.
-use Rattle.std.proofs.Common.{◌≡◌, ℕ, true, false, Option, Some, None, Err, refl, sym, ap, subst, ◌∙◌}
+use Rattle.std.proofs.Common.{◌≡◌, ℕ, false, Option, Some, None, Err, refl, sym, ap, subst, ◌∙◌}
 use Rattle.std.proofs.lemmas.Bool.{true≢false}
 use Rattle.rh_layout.specs.Refusal.{is_limit}
 use Rattle.rh_layout.specs.Refusing.{first_of}

@@ -1,4 +1,4 @@
--- What it means that a program's calls have room.
+-- What it means that a program's calls are accepted, and lead to a state.
 use Rattle.std.specs.Prelude.{◌≡◌, ◌+◌, ◌<◌, ℕ, List, [], ◌∷◌, length, Result, Ok, Err, IsOk}
 use Rattle.rh_layout.specs.declared.command.Command.{Command}
 use Rattle.rh_layout.specs.declared.refusal.Refusal.{Refusal}
