@@ -4,3 +4,4 @@ mod calls;
 mod collections;
 mod mutators;
 mod paces;
+mod sizes;

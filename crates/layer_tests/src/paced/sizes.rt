@@ -1,0 +1,147 @@
+//! Heaps that are made of their sizes, the errors of a runtime, and what is read of a field without
+//! a root for it.
+
+use crate::commands::root;
+use crate::expectations::{Row, expect_equal, expect_texts};
+use refusing::refused_in_turn;
+use rh_heap::{
+    ConfigFault, EpochsSpent, Error, HeapError, Operand, OutOfMemory, PaceError, PacedHeap,
+    Refusal, Reply, RootId, Sizes, SizesError, Value,
+};
+
+const A: RootId = RootId { owner: 1, slot: 0 };
+
+const B: RootId = RootId { owner: 1, slot: 1 };
+
+const SHARED: RootId = RootId { owner: 0, slot: 0 };
+
+/// The words, the biggest object's words, the ratio, the owners and the slots, and why no heap is
+/// made of them, or how many words may live in it.
+type SizesRow = ([u32; 5], Result<u32, SizesError>);
+
+const MADE: &[SizesRow] = &[
+    ([1_000, 10, 8, 2, 2], Ok(434)),
+    ([4_096, 10, 32, 16, 256], Ok(3_360)),
+    ([55, 10, 32, 1, 1], Ok(11)),
+    (
+        [54, 10, 32, 1, 1],
+        Err(SizesError::Pace(PaceError::TooSmall { need: 55 })),
+    ),
+    (
+        [54, 10, 3, 0, 1],
+        Err(SizesError::Pace(PaceError::RatioTooLow)),
+    ),
+    (
+        [5, 0, 64, 1, 1],
+        Err(SizesError::Heap(HeapError::Config(ConfigFault::BadSpace))),
+    ),
+    (
+        [16_777_217, 10, 65, 1, 1],
+        Err(SizesError::Heap(HeapError::Config(ConfigFault::BadSpace))),
+    ),
+    (
+        [1_000, 10, 65, 0, 1],
+        Err(SizesError::Heap(HeapError::Config(ConfigFault::BadRatio))),
+    ),
+    (
+        [1_000, 10, 8, 17, 1],
+        Err(SizesError::Heap(HeapError::Config(ConfigFault::BadRoots))),
+    ),
+    (
+        [1_000, 10, 8, 1, 257],
+        Err(SizesError::Heap(HeapError::Config(ConfigFault::BadRoots))),
+    ),
+];
+
+/// Sizes of two owners with two slots each.
+const SMALL: Sizes = Sizes {
+    words: 100,
+    biggest: 10,
+    ratio: 8,
+    owners: 2,
+    slots: 2,
+};
+
+#[test]
+fn heaps_of_sizes(rt: HostRuntime) {
+    for (row, &([words, biggest, ratio, owners, slots], told)) in MADE.iter().enumerate() {
+        let rt = Row { rt: &rt, row };
+        let sizes = Sizes {
+            words,
+            biggest,
+            ratio,
+            owners,
+            slots,
+        };
+        let why = PacedHeap::sized(rt.alloc(), sizes).err();
+        expect_equal(&rt, why, told.err());
+        if let Ok(live) = told {
+            expect_equal(&rt, sizes.live(), Ok(live));
+        }
+    }
+}
+
+#[test]
+fn refused_memory(rt: HostRuntime) {
+    let refused = refused_in_turn(rt.alloc(), |memory| {
+        PacedHeap::sized(memory, SMALL).is_err()
+    });
+    // The roots, two spaces and the log.
+    expect_equal(&rt, refused, Ok(4));
+}
+
+#[test]
+fn fields_without_a_root(rt: HostRuntime) {
+    let mut heap = PacedHeap::sized(rt.alloc(), SMALL)
+        .ok()
+        .expect(&rt, "a heap");
+    expect_equal(&rt, heap.alloc(1, A, 4), Ok(Reply::Object(4)));
+    expect_equal(&rt, heap.alloc_raw(1, SHARED, 3), Ok(Reply::Raw(3)));
+    expect_equal(&rt, heap.store(1, A, 0, Operand::Int(-3)), Ok(Reply::Done));
+    expect_equal(&rt, heap.store(1, A, 1, Operand::Root(A)), Ok(Reply::Done));
+    expect_equal(
+        &rt,
+        heap.store(1, A, 2, Operand::Root(SHARED)),
+        Ok(Reply::Done),
+    );
+    let before = heap.stat();
+    expect_equal(&rt, heap.peek(1, A, 0), Ok(Reply::Int(-3)));
+    expect_equal(&rt, heap.peek(1, A, 1), Ok(Reply::Object(4)));
+    expect_equal(&rt, heap.peek(1, A, 2), Ok(Reply::Raw(3)));
+    expect_equal(&rt, heap.peek(1, A, 3), Ok(Reply::Nil));
+    expect_equal(&rt, heap.peek(0, SHARED, 2), Ok(Reply::Nil));
+    expect_equal(&rt, heap.peek(1, A, 4), Err(Refusal::NoField));
+    expect_equal(&rt, heap.peek(1, B, 0), Err(Refusal::NotObject));
+    expect_equal(&rt, heap.peek(0, A, 4), Err(Refusal::NotYours));
+    expect_equal(&rt, heap.peek(0, root(1, 2), 4), Err(Refusal::NoRoot));
+    expect_equal(&rt, heap.peek(2, SHARED, 0), Err(Refusal::NoRoot));
+    expect_equal(&rt, (heap.stat(), heap.root(B)), (before, Some(Value::Nil)));
+}
+
+#[test]
+fn errors_of_a_runtime(rt: HostRuntime) {
+    let small = SizesError::Pace(PaceError::TooSmall { need: 55 });
+    let bad = SizesError::Heap(HeapError::Config(ConfigFault::BadRoots));
+    expect_texts(
+        &rt,
+        &[
+            (small, "no pace: TooSmall need 55"),
+            (bad, "no heap: BadRoots"),
+        ],
+    );
+    expect_texts(
+        &rt,
+        &[
+            (Error::from(small), "no pace: TooSmall need 55"),
+            (Error::from(bad), "no heap: BadRoots"),
+            (
+                Error::from(HeapError::OutOfMemory),
+                "no heap: out of memory",
+            ),
+            (Error::from(PaceError::RatioTooLow), "no pace: RatioTooLow"),
+            (Error::from(Refusal::NoField), "refused: NoField"),
+            (Error::from(EpochsSpent), "nothing collected: EpochsSpent"),
+            (Error::from(OutOfMemory), "out of memory"),
+        ],
+    );
+}
