@@ -1,24 +1,24 @@
 //! A space that is full: a call is refused, the runtime lets go of what it can, and insists.
 
 use crate::problem::Problem;
-use rh_layout::{Command, Refusal, RootId};
-use rh_pace::{Pace, PacedHeap};
+use rh_heap::{Command, PacedHeap, Refusal, RootId, Sizes};
 use std::alloc::Allocator;
-
-const WORDS: u32 = 256;
-
-const RATIO: u32 = 32;
 
 const OBJECT_WORDS: u32 = 34;
 
 /// As many slots as objects of so many words fit into the space.
-const SLOTS: u32 = 7;
+const SIZES: Sizes = Sizes {
+    words: 256,
+    biggest: OBJECT_WORDS,
+    ratio: 32,
+    owners: 2,
+    slots: 7,
+};
 
 /// Fills the slots with objects until the space has no room, makes one more once two are dropped,
 /// and collects. Answers the words that live then.
 pub fn run<A: Allocator + Copy>(alloc: A) -> Result<u32, Problem> {
-    let pace = Pace::filling(WORDS, OBJECT_WORDS, RATIO)?;
-    let mut heap = PacedHeap::new(alloc, pace.config(WORDS, RATIO, 2, SLOTS), pace)?;
+    let mut heap = PacedHeap::sized(alloc, SIZES)?;
     fill(&mut heap)?;
     make_one_more(&mut heap)?;
     collect(&mut heap)
@@ -26,7 +26,7 @@ pub fn run<A: Allocator + Copy>(alloc: A) -> Result<u32, Problem> {
 
 /// The slots hold objects that fill the space.
 fn fill<A: Allocator + Copy>(heap: &mut PacedHeap<A>) -> Result<(), Refusal> {
-    for slot in 0..SLOTS {
+    for slot in 0..SIZES.slots {
         heap.alloc(1, RootId { owner: 1, slot }, OBJECT_WORDS - 2)?;
     }
     Ok(())

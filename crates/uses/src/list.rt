@@ -2,31 +2,29 @@
 //! begun again, in a space that never holds a tenth of what is pushed.
 
 use crate::problem::Problem;
-use rh_layout::{Operand, Refusal, Reply, RootId};
-use rh_pace::{Pace, PacedHeap};
+use rh_heap::{Operand, PacedHeap, Refusal, Reply, RootId, Sizes, Value};
 use std::alloc::Allocator;
 
-const WORDS: u32 = 2048;
-
-const RATIO: u32 = 32;
-
-/// The words of a cell: a header, a forward word, a number and the rest of the list.
-const CELL_WORDS: u32 = 4;
+/// A cell has 4 words: a header, a forward word, a number and the rest of the list.
+const SIZES: Sizes = Sizes {
+    words: 2048,
+    biggest: 4,
+    ratio: 32,
+    owners: 2,
+    slots: 2,
+};
 
 const OWNER: u32 = 1;
 
-/// The list, the cell that is made, and the cell that is read.
+/// The list, and the cell that is made or read.
 const LIST: RootId = RootId { owner: 1, slot: 0 };
 
 const CELL: RootId = RootId { owner: 1, slot: 1 };
 
-const NUMBER: RootId = RootId { owner: 1, slot: 2 };
-
 /// Pushes 10,000 numbers, 100 to each list. Answers the sum of the last list, and how many cycles
 /// there were.
 pub fn run<A: Allocator + Copy>(alloc: A) -> Result<(i64, u64), Problem> {
-    let pace = Pace::filling(WORDS, CELL_WORDS, RATIO)?;
-    let mut heap = PacedHeap::new(alloc, pace.config(WORDS, RATIO, 2, 3), pace)?;
+    let mut heap = PacedHeap::sized(alloc, SIZES)?;
     push_all(&mut heap)?;
     let sum = sum(&mut heap)?;
     Ok((sum, heap.stat().flips))
@@ -56,11 +54,11 @@ fn push<A: Allocator + Copy>(heap: &mut PacedHeap<A>, n: i64) -> Result<(), Refu
 fn sum<A: Allocator + Copy>(heap: &mut PacedHeap<A>) -> Result<i64, Problem> {
     let mut sum = 0i64;
     heap.copy(OWNER, CELL, LIST)?;
-    for _ in 0..WORDS {
-        if heap.root(CELL) == Some(rh_layout::Value::Nil) {
+    for _ in 0..SIZES.words {
+        if heap.root(CELL) == Some(Value::Nil) {
             return Ok(sum);
         }
-        match heap.load(OWNER, NUMBER, CELL, 0)? {
+        match heap.peek(OWNER, CELL, 0)? {
             Reply::Int(n) => sum = sum.wrapping_add(n),
             _ => return Err(Problem::Answer),
         }

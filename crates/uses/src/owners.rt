@@ -2,15 +2,17 @@
 //! owner 2 takes it from there. What an owner keeps in its own slots is its own.
 
 use crate::problem::Problem;
-use rh_layout::{Operand, Refusal, Reply, RootId};
-use rh_pace::{Pace, PacedHeap};
+use rh_heap::{Operand, PacedHeap, Refusal, Reply, RootId, Sizes};
 use std::alloc::Allocator;
 
-const WORDS: u32 = 256;
-
-const RATIO: u32 = 32;
-
-const OBJECT_WORDS: u32 = 3;
+/// Owner 0 and two more, with a slot each, and objects of one field.
+const SIZES: Sizes = Sizes {
+    words: 256,
+    biggest: 3,
+    ratio: 32,
+    owners: 3,
+    slots: 1,
+};
 
 const MINE: RootId = RootId { owner: 1, slot: 0 };
 
@@ -20,11 +22,10 @@ const YOURS: RootId = RootId { owner: 2, slot: 0 };
 
 /// Owner 2 stores a number in the object that owner 1 made, and owner 1 reads it. Answers it.
 pub fn run<A: Allocator + Copy>(alloc: A) -> Result<i64, Problem> {
-    let pace = Pace::filling(WORDS, OBJECT_WORDS, RATIO)?;
-    let mut heap = PacedHeap::new(alloc, pace.config(WORDS, RATIO, 3, 1), pace)?;
+    let mut heap = PacedHeap::sized(alloc, SIZES)?;
     share(&mut heap)?;
     hand_on(&mut heap)?;
-    read(&mut heap)
+    read(&heap)
 }
 
 /// Owner 1 makes an object, and puts it where all may take it.
@@ -46,8 +47,8 @@ fn hand_on<A: Allocator + Copy>(heap: &mut PacedHeap<A>) -> Result<(), Problem> 
 }
 
 /// Owner 1 reads the number.
-fn read<A: Allocator + Copy>(heap: &mut PacedHeap<A>) -> Result<i64, Problem> {
-    match heap.load(1, SHARED, MINE, 0)? {
+fn read<A: Allocator + Copy>(heap: &PacedHeap<A>) -> Result<i64, Problem> {
+    match heap.peek(1, MINE, 0)? {
         Reply::Int(n) => Ok(n),
         _ => Err(Problem::Answer),
     }

@@ -2,10 +2,9 @@
 
 ghost use Rattle.std.specs.Prelude.{◌≡◌};
 ghost use Rattle.uses.specs.declared.problem.Problem.TheVariants as problems;
+ghost use Rattle.uses.specs.Problem.{problem_of_sizes};
 
-use rh_core::HeapError;
-use rh_layout::{OutOfMemory, Refusal};
-use rh_pace::PaceError;
+use rh_heap::{HeapError, OutOfMemory, PaceError, Refusal, SizesError};
 use rh_replay::{RecorderError, TraceFull};
 use std::io;
 use thiserror::Error;
@@ -55,6 +54,17 @@ impl From<PaceError> for Problem {
 
     fn from(error: PaceError) -> Problem {
         Problem::Pace(error)
+    }
+}
+
+impl From<SizesError> for Problem {
+    ghost from_gives = { λ error problem. problem ≡ problem_of_sizes error };
+
+    fn from(error: SizesError) -> Problem {
+        match error {
+            SizesError::Pace(error) => Problem::Pace(error),
+            SizesError::Heap(error) => Problem::Heap(error),
+        }
     }
 }
 

@@ -14,7 +14,7 @@ use crate::problem::Problem;
 use rh_core::laws::heaps_answer_as_plain_heaps;
 use rh_core::laws::holds::what_collectors_do_adds_up;
 use rh_core::laws::runs::{a_new_heap_is_well_formed, every_event_keeps_a_heap_well_formed};
-use rh_layout::{Operand, Refusal, RootId};
+use rh_heap::{Operand, Pace, PacedHeap, Refusal, RootId};
 use rh_pace::laws::calls::{
     a_command_moves_the_epoch_by_one_at_most, a_step_is_a_paced_call,
     every_call_keeps_a_heap_paced, increments_and_collections_are_collector_work,
@@ -22,7 +22,6 @@ use rh_pace::laws::calls::{
 use rh_pace::laws::in_time::a_cycle_goes_on_only_as_long_as_its_lag;
 use rh_pace::laws::plain_bounds::what_is_bounded_on_a_plain_heap_has_room;
 use rh_pace::laws::worked::a_queue_in_45_percent_of_the_space_has_room;
-use rh_pace::{Pace, PacedHeap};
 use std::alloc::Allocator;
 
 const WORDS: u32 = 2218;

@@ -3,18 +3,20 @@
 
 use crate::problem::Problem;
 use rh_dump::write_dump;
-use rh_layout::{Command, Operand, RootId};
-use rh_pace::{Pace, PacedHeap};
+use rh_heap::{Command, Operand, PacedHeap, RootId, Sizes};
 use rh_replay::{Recorder, Verdict, check};
 use rh_trace::graph;
 use std::alloc::Allocator;
 use std::io;
 
-const WORDS: u32 = 256;
-
-const RATIO: u32 = 32;
-
-const OBJECT_WORDS: u32 = 4;
+/// A pair has 4 words: a header, a forward word and two fields.
+const SIZES: Sizes = Sizes {
+    words: 256,
+    biggest: 4,
+    ratio: 32,
+    owners: 2,
+    slots: 2,
+};
 
 const FIRST: RootId = RootId { owner: 1, slot: 0 };
 
@@ -27,8 +29,7 @@ pub fn run<A: Allocator + Copy, W: io::Write>(
     alloc: A,
     writer: &mut W,
 ) -> Result<(u32, u64), Problem> {
-    let pace = Pace::filling(WORDS, OBJECT_WORDS, RATIO)?;
-    let mut heap = PacedHeap::new(alloc, pace.config(WORDS, RATIO, 2, 2), pace)?;
+    let mut heap = PacedHeap::sized(alloc, SIZES)?;
     run_in(alloc, &mut heap, writer)
 }
 
@@ -39,7 +40,7 @@ fn run_in<A: Allocator + Copy, W: io::Write>(
     heap: &mut PacedHeap<A>,
     writer: &mut W,
 ) -> Result<(u32, u64), Problem> {
-    let mut recorder = Recorder::new(alloc, 2, 2, 64)?;
+    let mut recorder = Recorder::new(alloc, SIZES.owners, SIZES.slots, 64)?;
     run_noted(alloc, heap, &mut recorder, writer)
 }
 

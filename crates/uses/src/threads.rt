@@ -7,17 +7,21 @@ ghost use Rattle.rh_layout.specs.declared.refusal.Refusal.TheVariants.{LogFull};
 ghost use Rattle.uses.specs.declared.problem.Problem.TheVariants as problems;
 
 use crate::problem::Problem;
-use rh_layout::{Command, Operand, Refusal, Reply, RootId};
-use rh_pace::{Pace, PacedHeap};
+use rh_heap::{Command, Operand, PacedHeap, Refusal, Reply, RootId, Sizes};
 use std::sync::{Mutex, Wait};
 use std::thread::{self, Threads};
 
-const WORDS: u32 = 256;
-
-const RATIO: u32 = 32;
-
 /// The words of a cell: a header, a forward word, a number and the rest of the list.
 const CELL_WORDS: u32 = 4;
+
+/// Owner 0 and one for each thread, with 2 slots each.
+const SIZES: Sizes = Sizes {
+    words: 256,
+    biggest: CELL_WORDS,
+    ratio: 32,
+    owners: 3,
+    slots: 2,
+};
 
 /// The list, from which each thread takes cells that another may have made.
 const LIST: RootId = RootId { owner: 0, slot: 0 };
@@ -27,9 +31,7 @@ const LIST: RootId = RootId { owner: 0, slot: 0 };
 pub fn run<R: Threads + Wait + Sync + AllocGlobal>(rt: &R) -> Result<(i64, u64), Problem>
     ensures { IfErr result (λ problem. problem ≢ problems.Refused LogFull) }
 {
-    let pace = Pace::filling(WORDS, CELL_WORDS, RATIO)?;
-    // 3 owners, with 2 slots each.
-    let heap = PacedHeap::new(rt.alloc(), pace.config(WORDS, RATIO, 3, 2), pace)?;
+    let heap = PacedHeap::sized(rt.alloc(), SIZES)?;
     let shared = Mutex::new(heap);
     let (one, two) = thread::join(rt, || work(rt, &shared, 1), || work(rt, &shared, 2));
     Ok((one?.wrapping_add(two?), shared.into_inner().stat().flips))

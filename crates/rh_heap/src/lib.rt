@@ -1,0 +1,40 @@
+//! A managed heap that collects by itself, for an author of a language runtime: one crate that has
+//! all that a runtime names. It defines one error type; the rest it passes on from the crates below
+//! it, whose contracts hold as they stand there.
+//!
+//! ```rust
+//! use rh_heap::{Error, Operand, PacedHeap, Reply, RootId, Sizes};
+//! use std::alloc::Allocator;
+//!
+//! const SIZES: Sizes = Sizes { words: 65_536, biggest: 4, ratio: 32, owners: 2, slots: 4 };
+//! const LIST: RootId = RootId { owner: 1, slot: 0 };
+//!
+//! fn first<A: Allocator + Copy>(alloc: A) -> Result<Reply, Error> {
+//!     let mut heap = PacedHeap::sized(alloc, SIZES)?;   // the only call that takes memory
+//!     heap.alloc(1, LIST, 2)?;                          // owner 1: its slot 0 names a new object
+//!     heap.store(1, LIST, 0, Operand::Int(7))?;         // with 7 in its first field
+//!     Ok(heap.peek(1, LIST, 0)?)                        // Reply::Int(7)
+//! }
+//! ```
+//!
+//! A contract of your own may cite definitions. `specs/Lib.antt` passes on those of the crates below
+//! that such contracts need, under names as `Rattle.rh_heap.specs.InTime`; for any other list the
+//! crate that defines it. `laws` are the laws of the heap that collects by itself, `heap_laws` those
+//! of the heap below it.
+//!
+//! `CALLING.md` has a proved caller and the contracts in short. The crate `first_runtime` is a small
+//! runtime, whole, to be copied.
+#![tactic(auto)]
+
+mod error;
+
+pub use error::Error;
+pub use rh_core::{Config, ConfigFault, Flipped, Heap, HeapError, Stat, laws as heap_laws};
+pub use rh_layout::{
+    Command, MAX_FIELDS, MAX_INT, MAX_OWNERS, MAX_SLOTS, MIN_INT, Operand, OutOfMemory, Refusal,
+    Reply, RootId, Value,
+};
+pub use rh_pace::{
+    DEFAULT_PACE_RATIO, Did, EpochsSpent, MIN_PACE_RATIO, Pace, PaceError, PacedHeap, Sizes,
+    SizesError, laws,
+};
