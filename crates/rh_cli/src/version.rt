@@ -1,4 +1,4 @@
 //! The version of the program.
 
-/// The version, and the toolchain with which the program is proved, as it names itself.
-pub const VERSION: &str = "0.1.0 (rattle-kit-13f logic dac8208d650f15bf)";
+/// The version, as `rheap --version` prints it behind the program's name.
+pub const VERSION: &str = "0.1.0";
