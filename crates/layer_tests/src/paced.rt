@@ -5,3 +5,4 @@ mod collections;
 mod mutators;
 mod paces;
 mod sizes;
+mod storing;

@@ -11,10 +11,12 @@ pub use Rattle.rh_model.specs.Graph
 pub use Rattle.rh_model.specs.Plain
 pub use Rattle.rh_mutator.specs.declared.config.ConfigFault
 pub use Rattle.rh_mutator.specs.Config
+pub use Rattle.rh_mutator.specs.LoadingAll
 pub use Rattle.rh_mutator.specs.Mutator
 pub use Rattle.rh_core.specs.declared.errors.HeapError
 pub use Rattle.rh_core.specs.Commands
 pub use Rattle.rh_core.specs.Heap
+pub use Rattle.rh_core.specs.StoringAll
 pub use Rattle.rh_pace.specs.declared.errors.PaceError
 pub use Rattle.rh_pace.specs.declared.errors.SizesError
 pub use Rattle.rh_pace.specs.Calls
@@ -24,6 +26,7 @@ pub use Rattle.rh_pace.specs.KeepingUp
 pub use Rattle.rh_pace.specs.Pace
 pub use Rattle.rh_pace.specs.Paced
 pub use Rattle.rh_pace.specs.PlainBounds
+pub use Rattle.rh_pace.specs.PlainReplies
 pub use Rattle.rh_pace.specs.Programs
 pub use Rattle.rh_pace.specs.Reachable
 pub use Rattle.rh_pace.specs.Reaching
