@@ -1,0 +1,10 @@
+pub mod Boxes
+pub mod Handles
+pub mod Openings
+pub mod Readings
+pub mod Runs
+pub mod InTime
+pub mod Refused
+pub mod Tried
+pub mod Bounded
+pub mod Unless

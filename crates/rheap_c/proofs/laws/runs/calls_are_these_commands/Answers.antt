@@ -1,0 +1,11 @@
+use Rattle.std.proofs.Common.{refl}
+use Rattle.rheap_c.proofs.laws.runs.calls_are_these_commands.Goals as goal
+
+pub returns : goal.returns
+returns c = record {
+  does = λ owner command dst src a b field. (refl, refl, refl, refl);
+  asks = λ owner src root field. (refl, refl, refl, refl);
+  only_does = λ owner command dst src a b field. (refl, refl, refl, refl);
+  only_asks = λ owner src root field. (refl, refl, refl, refl);
+  neither = (refl, refl, refl, refl, refl, refl);
+}

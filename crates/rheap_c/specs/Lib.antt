@@ -1,0 +1,12 @@
+pub mod Held
+pub mod Parted
+pub mod Told
+pub mod Called
+pub mod Insisted
+pub mod Opened
+pub mod Collected
+pub mod Numbers
+pub mod Read
+pub mod Runs
+pub mod Room
+pub mod Several

@@ -1,0 +1,188 @@
+//! Commands that insist on room.
+
+ghost use Rattle.std.specs.Prelude.{◌≡◌};
+ghost use Rattle.rh_layout.specs.declared.command.Command.TheVariants as commands;
+ghost use Rattle.rh_layout.specs.declared.command.Operand.TheVariants as operands;
+ghost use Rattle.rh_pace.specs.Calls.{IsPacedCall};
+ghost use Rattle.rh_pace.specs.Collecting.{wants_room as wants_room_of};
+ghost use Rattle.rh_pace.specs.Paced.{PacedState};
+ghost use Rattle.rheap_c.specs.Insisted.{IsInsisted, IsInsistedCall};
+ghost use Rattle.rheap_c.specs.Told.{root_of};
+
+use crate::handle::Rheap;
+use crate::status::{NOT_OPEN, answer_status};
+use crate::value::RheapRoot;
+use rh_layout::{Command, Operand, Refusal, Reply, RootId};
+use rh_pace::PacedHeap;
+use std::alloc::Global;
+
+/// As `rheap_alloc`, tried again after a collection where there is no room, twice at most, as
+/// `PacedHeap::insist`.
+#[unsafe(no_mangle)]
+pub extern "C" fn rheap_insist_alloc(
+    heap: &mut Rheap,
+    alloc: Global,
+    owner: u32,
+    dst: RheapRoot,
+    fields: u32,
+) -> u8
+    ensures { IsInsisted heap.old.state heap.new.state owner
+        (commands.Alloc (root_of dst) fields) result }
+{
+    match heap.take(alloc) {
+        None => NOT_OPEN,
+        Some(mut inner) => {
+            let dst = dst.id();
+            let tried = inner.alloc(owner, dst, fields);
+            let told = insist(&mut inner, owner, &Command::Alloc { dst, fields }, tried);
+            heap.give(inner);
+            answer_status(&told)
+        }
+    }
+}
+
+/// As `rheap_alloc_raw`, tried again after a collection where there is no room, twice at most, as
+/// `PacedHeap::insist`.
+#[unsafe(no_mangle)]
+pub extern "C" fn rheap_insist_alloc_raw(
+    heap: &mut Rheap,
+    alloc: Global,
+    owner: u32,
+    dst: RheapRoot,
+    fields: u32,
+) -> u8
+    ensures { IsInsisted heap.old.state heap.new.state owner
+        (commands.Raw (root_of dst) fields) result }
+{
+    match heap.take(alloc) {
+        None => NOT_OPEN,
+        Some(mut inner) => {
+            let dst = dst.id();
+            let tried = inner.alloc_raw(owner, dst, fields);
+            let told = insist(&mut inner, owner, &Command::Raw { dst, fields }, tried);
+            heap.give(inner);
+            answer_status(&told)
+        }
+    }
+}
+
+/// As `rheap_store_nil`, tried again after a collection where the log is full, as
+/// `PacedHeap::insist`.
+#[unsafe(no_mangle)]
+pub extern "C" fn rheap_insist_store_nil(
+    heap: &mut Rheap,
+    alloc: Global,
+    owner: u32,
+    object: RheapRoot,
+    field: u32,
+) -> u8
+    ensures { IsInsisted heap.old.state heap.new.state owner
+        (commands.Store (root_of object) field operands.Nil) result }
+{
+    insist_store(heap, alloc, owner, object.id(), field, Operand::Nil)
+}
+
+/// As `rheap_store_int`, tried again after a collection where the log is full, as
+/// `PacedHeap::insist`.
+#[unsafe(no_mangle)]
+pub extern "C" fn rheap_insist_store_int(
+    heap: &mut Rheap,
+    alloc: Global,
+    owner: u32,
+    object: RheapRoot,
+    field: u32,
+    number: i64,
+) -> u8
+    ensures { IsInsisted heap.old.state heap.new.state owner
+        (commands.Store (root_of object) field (operands.Int number)) result }
+{
+    insist_store(heap, alloc, owner, object.id(), field, Operand::Int(number))
+}
+
+/// As `rheap_store_root`, tried again after a collection where the log is full, as
+/// `PacedHeap::insist`.
+#[unsafe(no_mangle)]
+pub extern "C" fn rheap_insist_store_root(
+    heap: &mut Rheap,
+    alloc: Global,
+    owner: u32,
+    object: RheapRoot,
+    field: u32,
+    src: RheapRoot,
+) -> u8
+    ensures { IsInsisted heap.old.state heap.new.state owner
+        (commands.Store (root_of object) field (operands.Root (root_of src))) result }
+{
+    insist_store(
+        heap,
+        alloc,
+        owner,
+        object.id(),
+        field,
+        Operand::Root(src.id()),
+    )
+}
+
+/// A store that insists on room.
+#[inline(always)]
+fn insist_store(
+    heap: &mut Rheap,
+    alloc: Global,
+    owner: u32,
+    obj: RootId,
+    field: u32,
+    operand: Operand,
+) -> u8
+    ensures { IsInsisted heap.old.state heap.new.state owner (commands.Store obj field operand)
+        result }
+{
+    match heap.take(alloc) {
+        None => NOT_OPEN,
+        Some(mut inner) => {
+            let tried = inner.store(owner, obj, field, operand);
+            let command = Command::Store {
+                obj,
+                field,
+                operand,
+            };
+            let told = insist(&mut inner, owner, &command, tried);
+            heap.give(inner);
+            answer_status(&told)
+        }
+    }
+}
+
+/// Goes on with a command that was tried: where it found no room, it is insisted on. That tries it
+/// once more, to the same answer; most commands are answered at once, without this.
+#[inline(always)]
+fn insist(
+    heap: &mut PacedHeap<Global>,
+    owner: u32,
+    command: &Command,
+    tried: Result<Reply, Refusal>,
+) -> Result<Reply, Refusal>
+    ensures { (before : PacedState) → IsPacedCall before heap.old owner command.now tried
+        → IsInsistedCall before heap.new owner command.now result }
+{
+    if wants_room(&tried) {
+        insisted(heap, owner, command)
+    } else {
+        tried
+    }
+}
+
+/// Whether an answer says that there is no room: in the space or in the log.
+#[inline(always)]
+fn wants_room(told: &Result<Reply, Refusal>) -> bool
+    ensures { result ≡ wants_room_of told.now }
+{
+    matches!(told, Err(Refusal::SpaceFull { .. } | Refusal::LogFull))
+}
+
+/// What `PacedHeap::insist` promises, as one fact.
+#[inline(never)]
+fn insisted(heap: &mut PacedHeap<Global>, owner: u32, command: &Command) -> Result<Reply, Refusal>
+    ensures { IsInsistedCall heap.old heap.new owner command.now result }
+{
+    heap.insist(owner, command)
+}

@@ -1,0 +1,125 @@
+//! Laws of the room that calls find.
+
+ghost use Rattle.std.specs.Prelude.{◌+◌, ◌<◌, ℕ, All, List, map, Option, Some, None};
+ghost use Rattle.rh_layout.specs.declared.command.Command.{Command};
+ghost use Rattle.rh_layout.specs.declared.command.Command.TheVariants.{Alloc, Raw};
+ghost use Rattle.rh_layout.specs.declared.command.RootId.{RootId};
+ghost use Rattle.rh_model.specs.Plain.{empty_plain};
+ghost use Rattle.rh_pace.specs.Collecting.{insist_step};
+ghost use Rattle.rh_pace.specs.InTime.{StayWithin};
+ghost use Rattle.rh_pace.specs.Pace.{CanKeepUp, KeepsUp, lag_of, words_left};
+ghost use Rattle.rh_pace.specs.Paced.{PacedState, paced_step};
+ghost use Rattle.rh_pace.specs.PlainBounds.{AreBounded};
+ghost use Rattle.rh_mutator.specs.declared.config.Config.{Config};
+ghost use Rattle.rh_pace.specs.declared.pace.Pace.{Pace};
+ghost use Rattle.rheap_c.specs.Called.{IsDone};
+ghost use Rattle.rheap_c.specs.Insisted.{IsInsisted};
+ghost use Rattle.rheap_c.specs.Numbers.{room_in};
+ghost use Rattle.rheap_c.specs.Opened.{IsFillingPace, IsNew, IsOpened, IsPaceFor, Opens, config_at};
+ghost use Rattle.rheap_c.specs.Room.{AlwaysFindRoom, AlwaysFindSpace, CallsStayWithin, FindRoomToLimit, InsistsOnNothing, IsRefusedFor};
+ghost use Rattle.rheap_c.specs.Runs.{Answer, Call, AreMade, doing};
+
+use rh_core::laws::cycles::a_flip_is_refused_exactly_where_its_cycle_is_not_closed;
+use rh_core::laws::gives::classes_are_told_apart;
+use rh_core::laws::runs::{a_new_heap_is_well_formed, every_event_keeps_a_heap_well_formed};
+use rh_pace::laws::plain_bounds::what_is_bounded_on_a_plain_heap_has_room;
+use std::alloc::Global;
+
+/// It keeps up. From an open on, calls within the bounds of the pace find room: no status is 8 or 9,
+/// unless the epochs were spent before that call.
+///
+/// The bounds are these. No object has more words than the biggest, its fields and 2. Wherever a
+/// cycle begins, also one of a collection, no more words are reached than may live. The log keeps
+/// more entries than the lag of the pace.
+///
+/// - `open`: on a heap of `rheap_open`, where `live` words may live.
+/// - `open_sized`: on a heap of `rheap_open_sized`, where as many may live as its pace leaves.
+/// - `open_space`, `open_sized_space`: whatever the log keeps no status is 8, where no call insists.
+/// - `new`: on any new heap at a pace that keeps up.
+/// - `commands`: both of a list of commands.
+pub fn calls_within_bounds_find_room()
+    ensures open { (words live biggest ratio owners slots status : ℕ) (s : PacedState)
+        → IsOpened (Opens (IsPaceFor words live biggest ratio) (CanKeepUp words live biggest ratio)
+        (λ pace. config_at pace words ratio owners slots)) None (Some s) status
+        → (new : Option PacedState) (calls : List Call) (answers : List Answer)
+        → AreMade (Some s) new calls answers → CallsStayWithin live biggest s calls
+        → lag_of s.pace biggest < s.heap.mutators.config.log_limit
+        → AlwaysFindRoom s calls answers }
+    ensures open_space { (words live biggest ratio owners slots status : ℕ) (s : PacedState)
+        → IsOpened (Opens (IsPaceFor words live biggest ratio) (CanKeepUp words live biggest ratio)
+        (λ pace. config_at pace words ratio owners slots)) None (Some s) status
+        → (new : Option PacedState) (calls : List Call) (answers : List Answer)
+        → AreMade (Some s) new calls answers → CallsStayWithin live biggest s calls
+        → All InsistsOnNothing calls → AlwaysFindSpace s calls answers }
+    ensures open_sized { (words biggest ratio owners slots status : ℕ) (s : PacedState)
+        → IsOpened (Opens (IsFillingPace words biggest ratio)
+        (CanKeepUp words (biggest + 1) biggest ratio)
+        (λ pace. config_at pace words ratio owners slots)) None (Some s) status
+        → (new : Option PacedState) (calls : List Call) (answers : List Answer)
+        → AreMade (Some s) new calls answers
+        → CallsStayWithin (words_left words s.pace) biggest s calls
+        → lag_of s.pace biggest < s.heap.mutators.config.log_limit
+        → AlwaysFindRoom s calls answers }
+    ensures open_sized_space { (words biggest ratio owners slots status : ℕ) (s : PacedState)
+        → IsOpened (Opens (IsFillingPace words biggest ratio)
+        (CanKeepUp words (biggest + 1) biggest ratio)
+        (λ pace. config_at pace words ratio owners slots)) None (Some s) status
+        → (new : Option PacedState) (calls : List Call) (answers : List Answer)
+        → AreMade (Some s) new calls answers
+        → CallsStayWithin (words_left words s.pace) biggest s calls
+        → All InsistsOnNothing calls → AlwaysFindSpace s calls answers }
+    ensures new { (config : Config) (pace : Pace) (s : PacedState) → IsNew config pace s
+        → (live biggest : ℕ) → KeepsUp config.words live biggest config.ratio pace
+        → lag_of pace biggest < config.log_limit
+        → (new : Option PacedState) (calls : List Call) (answers : List Answer)
+        → AreMade (Some s) new calls answers → CallsStayWithin live biggest s calls
+        → AlwaysFindRoom s calls answers }
+    ensures commands { (config : Config) (pace : Pace) (s : PacedState) → IsNew config pace s
+        → (live biggest : ℕ) → KeepsUp config.words live biggest config.ratio pace
+        → (new : Option PacedState) (given : List (ℕ × Command)) (answers : List Answer)
+        → AreMade (Some s) new (map doing given) answers → StayWithin live biggest s given
+        → AlwaysFindSpace s (map doing given) answers
+        × (lag_of pace biggest < config.log_limit → AlwaysFindRoom s (map doing given) answers) }
+{
+    every_event_keeps_a_heap_well_formed::<Global>();
+    a_new_heap_is_well_formed();
+    classes_are_told_apart();
+    a_flip_is_refused_exactly_where_its_cycle_is_not_closed();
+}
+
+/// The same in the view of a program, which need not know that there is a collector. Its bounds are
+/// told of a plain heap, which never collects: no command makes an object of more than the biggest
+/// words, and after none are more words reached than may live. Then no status is 8 or 9, unless the
+/// epochs were spent before that call. It is so up to the first status of a limit.
+pub fn calls_bounded_on_a_plain_heap_find_room()
+    ensures { (config : Config) (pace : Pace) (s : PacedState) → IsNew config pace s
+        → (live biggest : ℕ) → KeepsUp config.words live biggest config.ratio pace
+        → lag_of pace biggest < config.log_limit
+        → (new : Option PacedState) (given : List (ℕ × Command)) (answers : List Answer)
+        → AreMade (Some s) new (map doing given) answers
+        → AreBounded live biggest (empty_plain config.owners config.slots) given
+        → FindRoomToLimit s (map doing given) answers }
+{
+    what_is_bounded_on_a_plain_heap_has_room::<Global>();
+}
+
+/// Status 8 is the refusal `SpaceFull` with the numbers that `rheap_room` tells next, of which more
+/// is needed than is free.
+///
+/// - `alloc`, `raw`: of a new object.
+/// - `insist`, `insist_raw`: of one that was insisted on, where these are the numbers after the
+///   collections.
+pub fn a_refusal_for_room_has_the_numbers_of_rheap_room()
+    ensures alloc { (old new : PacedState) (owner : ℕ) (dst : RootId) (fields : ℕ)
+        → IsDone (Some old) (Some new) owner (Alloc dst fields) 8
+        → IsRefusedFor (room_in fields new) (paced_step old owner (Alloc dst fields)).1 }
+    ensures raw { (old new : PacedState) (owner : ℕ) (dst : RootId) (fields : ℕ)
+        → IsDone (Some old) (Some new) owner (Raw dst fields) 8
+        → IsRefusedFor (room_in fields new) (paced_step old owner (Raw dst fields)).1 }
+    ensures insist { (old new : PacedState) (owner : ℕ) (dst : RootId) (fields : ℕ)
+        → IsInsisted (Some old) (Some new) owner (Alloc dst fields) 8
+        → IsRefusedFor (room_in fields new) (insist_step old owner (Alloc dst fields)).1 }
+    ensures insist_raw { (old new : PacedState) (owner : ℕ) (dst : RootId) (fields : ℕ)
+        → IsInsisted (Some old) (Some new) owner (Raw dst fields) 8
+        → IsRefusedFor (room_in fields new) (insist_step old owner (Raw dst fields)).1 }
+{}

@@ -1,0 +1,181 @@
+//! What roots hold, and fields of the objects that they name.
+
+ghost use Rattle.std.specs.Prelude.{◌≡◌};
+ghost use Rattle.rh_model.specs.Graph.{reply_of};
+ghost use Rattle.rheap_c.specs.Read.{IsAnswered, IsCounted, count_in, field_answer, graph_in, peek_answer, root_answer};
+ghost use Rattle.rheap_c.specs.Told.{root_of};
+
+use crate::handle::Rheap;
+use crate::status::{DONE, NOT_OPEN, answer_status};
+use crate::value::{RheapRoot, RheapValue};
+use rh_layout::{Refusal, Reply, RootId, Shape, Value};
+use rh_pace::PacedHeap;
+use std::alloc::Global;
+
+/// What the root holds, as `PacedHeap::root`.
+#[unsafe(no_mangle)]
+pub extern "C" fn rheap_root(
+    heap: &mut Rheap,
+    alloc: Global,
+    root: RheapRoot,
+    value: &mut RheapValue,
+) -> u8
+    ensures { IsAnswered (λ s. root_answer s (root_of root)) heap.old.state heap.new.state result
+        value.new }
+{
+    match heap.take(alloc) {
+        None => {
+            *value = RheapValue::nil();
+            NOT_OPEN
+        }
+        Some(inner) => {
+            let told = told_of_root(&inner, root.id());
+            heap.give(inner);
+            *value = RheapValue::told(&told);
+            answer_status(&told)
+        }
+    }
+}
+
+/// What a field, counted from 0, of the object holds that the root names, without a root for the
+/// value.
+#[unsafe(no_mangle)]
+pub extern "C" fn rheap_field(
+    heap: &mut Rheap,
+    alloc: Global,
+    root: RheapRoot,
+    field: u32,
+    value: &mut RheapValue,
+) -> u8
+    ensures { IsAnswered (λ s. field_answer s (root_of root) field) heap.old.state heap.new.state
+        result value.new }
+{
+    match heap.take(alloc) {
+        None => {
+            *value = RheapValue::nil();
+            NOT_OPEN
+        }
+        Some(inner) => {
+            let told = told_of_field(&inner, root.id(), field);
+            heap.give(inner);
+            *value = RheapValue::told(&told);
+            answer_status(&told)
+        }
+    }
+}
+
+/// What a field, counted from 0, of the object holds that the owner's root `src` names, without a
+/// root for the value, as `PacedHeap::peek`: the answer is that of a load.
+#[unsafe(no_mangle)]
+pub extern "C" fn rheap_peek(
+    heap: &mut Rheap,
+    alloc: Global,
+    owner: u32,
+    src: RheapRoot,
+    field: u32,
+    value: &mut RheapValue,
+) -> u8
+    ensures { IsAnswered (λ s. peek_answer s owner (root_of src) field) heap.old.state
+        heap.new.state result value.new }
+{
+    match heap.take(alloc) {
+        None => {
+            *value = RheapValue::nil();
+            NOT_OPEN
+        }
+        Some(inner) => {
+            let told = told_of_peek(&inner, owner, src.id(), field);
+            heap.give(inner);
+            *value = RheapValue::told(&told);
+            answer_status(&told)
+        }
+    }
+}
+
+/// How many fields the object has that the root names.
+#[unsafe(no_mangle)]
+pub extern "C" fn rheap_fields(
+    heap: &mut Rheap,
+    alloc: Global,
+    root: RheapRoot,
+    fields: &mut u32,
+) -> u8
+    ensures { IsCounted (λ s. count_in (root_answer s (root_of root))) heap.old.state
+        heap.new.state result fields.new }
+{
+    match heap.take(alloc) {
+        None => {
+            *fields = 0;
+            NOT_OPEN
+        }
+        Some(inner) => {
+            let told = told_of_root(&inner, root.id());
+            heap.give(inner);
+            match counted(&told) {
+                Ok(count) => {
+                    *fields = count;
+                    DONE
+                }
+                Err(why) => {
+                    *fields = 0;
+                    why.number()
+                }
+            }
+        }
+    }
+}
+
+/// What a root is answered with.
+fn told_of_root(heap: &PacedHeap<Global>, root: RootId) -> Result<Reply, Refusal>
+    ensures { result ≡ root_answer heap.now root }
+{
+    match heap.root(root) {
+        Some(value) => Ok(reply(heap, value)),
+        None => Err(Refusal::NoRoot),
+    }
+}
+
+/// What a field of the object that a root names is answered with: a load by the root's own owner.
+fn told_of_field(heap: &PacedHeap<Global>, root: RootId, field: u32) -> Result<Reply, Refusal>
+    ensures { result ≡ field_answer heap.now root field }
+{
+    heap.peek(root.owner, root, field)
+}
+
+/// What a load by an owner is answered with, whatever root takes the value.
+fn told_of_peek(
+    heap: &PacedHeap<Global>,
+    owner: u32,
+    src: RootId,
+    field: u32,
+) -> Result<Reply, Refusal>
+    ensures { result ≡ peek_answer heap.now owner src field }
+{
+    heap.peek(owner, src, field)
+}
+
+/// How a value is replied.
+fn reply(heap: &PacedHeap<Global>, value: Value) -> Reply
+    ensures { result ≡ reply_of (graph_in heap.now) value }
+{
+    match value {
+        Value::Nil => Reply::Nil,
+        Value::Int(number) => Reply::Int(number),
+        Value::Ref(a) => {
+            let fields = heap.fields(a).unwrap_or(0);
+            let raw = heap.raw(a).unwrap_or(false);
+            Shape { fields, raw }.reply()
+        }
+    }
+}
+
+/// How many fields the object has to which the value refers that an answer tells.
+fn counted(told: &Result<Reply, Refusal>) -> Result<u32, Refusal>
+    ensures { result ≡ count_in told.now }
+{
+    match told {
+        Ok(Reply::Object(fields) | Reply::Raw(fields)) => Ok(*fields),
+        Ok(Reply::Done | Reply::Nil | Reply::Int(_) | Reply::Same(_)) => Err(Refusal::NotObject),
+        Err(why) => Err(*why),
+    }
+}

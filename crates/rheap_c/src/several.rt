@@ -1,0 +1,111 @@
+//! Whole numbers in several fields of one object.
+
+ghost use Rattle.std.specs.Prelude.{◌≡◌, length, Some};
+ghost use Rattle.rh_mutator.specs.Mutator.{graph_of};
+ghost use Rattle.rh_mutator.specs.LoadingAll.{field_loads};
+ghost use Rattle.rh_mutator.specs.StoringAll.{first_refusal, number_stores, numbers_refusal};
+ghost use Rattle.rheap_c.specs.Several.{AreReadUnless, AreStored, AreStoredUnless, AreTold};
+ghost use Rattle.rheap_c.specs.Told.{root_of};
+
+use crate::handle::Rheap;
+use crate::status::{DONE, NOT_OPEN};
+use crate::value::RheapRoot;
+use rh_layout::RootId;
+use rh_pace::PacedHeap;
+use std::alloc::Global;
+
+/// The fields from `from` on, counted from 0, of the object that `object` names take whole numbers,
+/// all of them or none, as `PacedHeap::store_all`. In a cycle the log needs a place for each.
+#[unsafe(no_mangle)]
+pub extern "C" fn rheap_store_ints(
+    heap: &mut Rheap,
+    alloc: Global,
+    owner: u32,
+    object: RheapRoot,
+    from: u32,
+    numbers: &[i64],
+) -> u8
+    ensures { AreStored heap.old.state heap.new.state owner (root_of object) from numbers.now
+        result }
+{
+    match heap.take(alloc) {
+        None => NOT_OPEN,
+        Some(mut inner) => {
+            let status = stored(&mut inner, owner, object.id(), from, numbers);
+            heap.give(inner);
+            status
+        }
+    }
+}
+
+/// The whole numbers that the fields from `from` on hold, counted from 0, of the object that
+/// `object` names: as many as `numbers` has room for, or up to the first field that holds none, as
+/// `PacedHeap::load_all`. Each of these fields must be there. `count` tells how many were read.
+#[unsafe(no_mangle)]
+pub extern "C" fn rheap_load_ints(
+    heap: &mut Rheap,
+    alloc: Global,
+    owner: u32,
+    object: RheapRoot,
+    from: u32,
+    numbers: &mut [i64],
+    count: &mut u32,
+) -> u8
+    ensures { AreTold heap.old.state heap.new.state owner (root_of object) from numbers.old
+        numbers.new count.new result }
+{
+    match heap.take(alloc) {
+        None => {
+            *count = 0;
+            NOT_OPEN
+        }
+        Some(inner) => {
+            let status = told(&inner, owner, object.id(), from, numbers, count);
+            heap.give(inner);
+            status
+        }
+    }
+}
+
+/// What `PacedHeap::store_all` promises, as one fact, with the status of its answer.
+fn stored(
+    heap: &mut PacedHeap<Global>,
+    owner: u32,
+    object: RootId,
+    from: u32,
+    numbers: &[i64],
+) -> u8
+    ensures { AreStoredUnless
+        (numbers_refusal heap.old.heap.mutators owner object from numbers.now)
+        heap.old heap.new (number_stores owner object from numbers.now) result }
+{
+    match heap.store_all(owner, object, from, numbers) {
+        Ok(()) => DONE,
+        Err(refusal) => refusal.number(),
+    }
+}
+
+/// What `PacedHeap::load_all` promises, as one fact, with the status of its answer.
+fn told(
+    heap: &PacedHeap<Global>,
+    owner: u32,
+    object: RootId,
+    from: u32,
+    numbers: &mut [i64],
+    count: &mut u32,
+) -> u8
+    ensures { AreReadUnless (first_refusal (graph_of heap.now.heap.mutators)
+        (field_loads owner object from (length numbers.old)))
+        heap.now owner object from numbers.old numbers.new count.new result }
+{
+    match heap.load_all(owner, object, from, numbers) {
+        Ok(read) => {
+            *count = read;
+            DONE
+        }
+        Err(refusal) => {
+            *count = 0;
+            refusal.number()
+        }
+    }
+}

@@ -1,0 +1,38 @@
+//! The statuses that calls answer: 0, a refusal's number from 1 to 10, or one of the border's own.
+
+ghost use Rattle.std.specs.Prelude.{◌≡◌};
+ghost use Rattle.rheap_c.specs.Told.{status_of};
+
+use rh_layout::{Refusal, Reply};
+
+/// The call was done.
+pub const DONE: u8 = 0;
+
+/// The epoch is the last one, so nothing can be collected any more.
+pub const EPOCHS_SPENT: u8 = 11;
+
+/// The handle holds no heap.
+pub const NOT_OPEN: u8 = 12;
+
+/// The handle holds a heap already.
+pub const IS_OPEN: u8 = 13;
+
+/// At these sizes no pace keeps up.
+pub const NO_PACE: u8 = 14;
+
+/// A size is out of its range.
+pub const BAD_SIZES: u8 = 15;
+
+/// Memory was refused.
+pub const NO_MEMORY: u8 = 16;
+
+/// The status of what a heap answered: 0, or the number of the refusal.
+#[inline(always)]
+pub fn answer_status(told: &Result<Reply, Refusal>) -> u8
+    ensures { result ≡ status_of told.now }
+{
+    match told {
+        Ok(_) => DONE,
+        Err(refusal) => refusal.number(),
+    }
+}
