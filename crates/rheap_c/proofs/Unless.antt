@@ -1,12 +1,22 @@
 -- What calls for several fields promise, by cases of what refuses them.
-use Rattle.std.proofs.Common.{◌≡◌, ℕ, suc, ◌+◌, ℤ, List, [], ◌∷◌, length, Option, Some, None, Result, Ok, Err, refl, sym, ap, subst, ◌∙◌}
-use Rattle.std.specs.Prelude.{◌↔◌}
+use Rattle.std.proofs.Common.{◌≡◌, ◌≢◌, inl, ℕ, suc, ◌+◌, ℤ, Bool, true, false, List, [], ◌∷◌, length, Option, Some, None, Result, Ok, Err, refl, sym, ap, subst, ◌∙◌, arith}
+use Rattle.std.specs.Prelude.{◌↔◌, nat_lt, if◌then◌else◌}
+use Rattle.std.proofs.lemmas.Bool.{false≢true}
 use Rattle.rh_layout.specs.declared.command.Command.{Command}
 use Rattle.rh_layout.specs.declared.command.RootId.{RootId}
 use Rattle.rh_layout.specs.declared.refusal.Refusal.{Refusal}
-use Rattle.rh_layout.specs.Refusal.{rank_of}
-use Rattle.rh_mutator.specs.StoringAll.{number_stores}
+use Rattle.rh_layout.specs.declared.refusal.Refusal.TheVariants.{NoRoot, NotYours, NotObject, NoField, RawField, IntRange, FieldsRange, SpaceFull, LogFull, NumbersSpent}
+use Rattle.rh_layout.specs.Refusal.{is_limit, rank_of}
+use Rattle.rh_layout.specs.Refusing.{first_of}
+use Rattle.rh_model.specs.Graph.{Graph, refusal_of}
+use Rattle.rh_mutator.specs.Mutator.{MutatorState, graph_of}
+use Rattle.rh_mutator.specs.StoringAll.{first_refusal, log_limit_for, number_stores, numbers_refusal}
+use Rattle.rh_mutator.specs.lemmas.Limits.{IsNoLimit, refusal_of-IsNoLimit}
+use Rattle.rh_core.specs.declared.outcomes.Flipped.{Flipped}
+use Rattle.rh_pace.specs.declared.errors.EpochsSpent.{EpochsSpent}
+use Rattle.rh_pace.specs.Collecting.{collect_step}
 use Rattle.rh_pace.specs.Paced.{PacedState}
+use Rattle.rheap_c.specs.Collected.{IsCollection}
 use Rattle.rheap_c.specs.Several.{AreDone, AreRead, AreReadUnless, AreStoredUnless}
 
 -- there is a store for each number
@@ -50,3 +60,90 @@ module _ (s : PacedState) (owner : ℕ) (object : RootId) (from : ℕ) (before a
   AreReadUnless-err r why status is same rank =
       subst (λ (o : Option Refusal). AreReadUnless o s owner object from before after 0 status)
       (sym is) (same, refl, rank)
+
+-- what numbers ask is refused for no limit
+first-no_limit : (a b : Option Refusal) → IsNoLimit a → IsNoLimit b → IsNoLimit (first_of a b)
+first-no_limit None b x y = y
+first-no_limit (Some r) b x y = x
+
+asked-no_limit : (g : Graph) (calls : List (ℕ × Command)) → IsNoLimit (first_refusal g calls)
+asked-no_limit g [] = tt
+asked-no_limit g (call ∷ rest) =
+    first-no_limit (refusal_of g call.0 call.1) (first_refusal g rest)
+    (refusal_of-IsNoLimit g call.0 call.1) (asked-no_limit g rest)
+
+limit_in : Option Refusal → Bool
+limit_in None = false
+limit_in (Some r) = is_limit r
+
+full-later : (asked later : Option Refusal) → IsNoLimit asked → first_of asked later ≡ Some LogFull
+    → later ≡ Some LogFull
+unfolding limit_in
+full-later None later none is = is
+full-later (Some r) later none is = absurd (false≢true (sym none ∙ ap limit_in is))
+
+spent-not_full : (b : Bool) → (if b then Some NumbersSpent else None) ≡ Some LogFull → ⊥
+spent-not_full true is = absurd (cc)
+spent-not_full false is = absurd (cc)
+
+-- the log is too full for numbers in a cycle alone
+full-in_cycle : (m : MutatorState) (owner : ℕ) (object : RootId) (from : ℕ) (numbers : List ℤ)
+    → numbers_refusal m owner object from numbers ≡ Some LogFull → m.cycle ≡ true
+full-in_cycle m owner object from numbers is =
+    by m.cycle (full-later (first_refusal (graph_of m) (number_stores owner object from numbers)) _
+    (asked-no_limit (graph_of m) (number_stores owner object from numbers)) is)
+  where
+    by : (cycle : Bool) → log_limit_for (length numbers) cycle m.log ≡ Some LogFull → cycle ≡ true
+    by true full = refl
+    by false full =
+        absurd (spent-not_full (nat_lt m.log.last_number (m.log.number + length numbers)) full)
+
+rank-full : (why : Refusal) → rank_of why ≡ 9 → why ≡ LogFull
+rank-full NoRoot is = absurd (omega (arith, is))
+rank-full NotYours is = absurd (omega (arith, is))
+rank-full NotObject is = absurd (omega (arith, is))
+rank-full NoField is = absurd (omega (arith, is))
+rank-full RawField is = absurd (omega (arith, is))
+rank-full IntRange is = absurd (omega (arith, is))
+rank-full FieldsRange is = absurd (omega (arith, is))
+rank-full (SpaceFull need free) is = absurd (omega (arith, is))
+rank-full LogFull is = refl
+rank-full NumbersSpent is = absurd (omega (arith, is))
+
+-- status 9 is that of a full log, and nothing has changed
+status-full : (r : Option Refusal) (old new : PacedState) (given : List (ℕ × Command)) (status : ℕ)
+    → AreStoredUnless r old new given status → status ≡ 9 → (r ≡ Some LogFull) × (new ≡ old)
+status-full None old new given status (done, zero_is) nine = absurd (omega (arith, zero_is, nine))
+status-full (Some why) old new given status (same, rank) nine =
+    (ap (λ (w : Refusal). Some w) (rank-full why (sym rank ∙ nine)), same)
+
+module _ (owner : ℕ) (object : RootId) (from : ℕ) (numbers : List ℤ) where
+  abbrev given : List (ℕ × Command)
+  given = number_stores owner object from numbers
+
+  abbrev why : PacedState → Option Refusal
+  why s = numbers_refusal s.heap.mutators owner object from numbers
+
+  -- where the log was too full, a collection empties it
+  pub AreStored-again : (old between collected new : PacedState) (told : Result Flipped EpochsSpent)
+      (first status : ℕ) → first ≡ 9
+      → AreStoredUnless (numbers_refusal old.heap.mutators owner object from numbers) old between
+      (number_stores owner object from numbers) first
+      → IsCollection between collected told
+      → AreStoredUnless (numbers_refusal collected.heap.mutators owner object from numbers) collected
+      new (number_stores owner object from numbers) status
+      → (status ≢ 9) × (numbers_refusal old.heap.mutators owner object from numbers ≡ Some LogFull)
+      × AreStoredUnless
+      (numbers_refusal (collect_step old).0.heap.mutators owner object from numbers)
+      (collect_step old).0 new (number_stores owner object from numbers) status
+  AreStored-again old between collected new told first status nine full collects stored =
+      let was = status-full (why old) old between given first full nine in
+      let on = full-in_cycle between.heap.mutators owner object from numbers
+      (ap why was.1 ∙ was.0) in
+      let off = collects.outside (collects.flips.1 (inl on)) in (
+        λ again. false≢true (sym off ∙ full-in_cycle collected.heap.mutators owner object from numbers
+            (status-full (why collected) collected new given status stored again).0),
+        was.0,
+        subst (λ (s : PacedState). AreStoredUnless (why s) s new given status)
+            (collects.state ∙ ap (λ (s : PacedState). (collect_step s).0) was.1) stored,
+      )

@@ -1,16 +1,18 @@
 -- What a call of C's does with several fields of one object, from one on, by the state of the handle
 -- before and after it. Where no heap is open it does nothing, with status 12.
-use Rattle.std.specs.Prelude.{◌≡◌, ℕ, ℤ, List, length, Option, Some, None}
+use Rattle.std.specs.Prelude.{◌≡◌, ◌≢◌, ◌⊎◌, ℕ, ℤ, List, length, Option, Some, None}
 use Rattle.rh_layout.specs.declared.command.Command.{Command}
 use Rattle.rh_layout.specs.declared.command.Command.TheVariants.{Load}
 use Rattle.rh_layout.specs.declared.command.RootId.{RootId}
 use Rattle.rh_layout.specs.declared.refusal.Refusal.{Refusal}
+use Rattle.rh_layout.specs.declared.refusal.Refusal.TheVariants.{LogFull}
 use Rattle.rh_layout.specs.Refusal.{rank_of}
 use Rattle.rh_model.specs.Plain.{PlainHeap, step as plain_step}
 use Rattle.rh_mutator.specs.Mutator.{StandsFor, graph_of}
 use Rattle.rh_mutator.specs.LoadingAll.{AreLoaded, field_loads, number_told}
 use Rattle.rh_mutator.specs.StoringAll.{first_refusal, number_stores, numbers_refusal}
 use Rattle.rh_core.specs.StoringAll.{done_replies}
+use Rattle.rh_pace.specs.Collecting.{collect_step}
 use Rattle.rh_pace.specs.InTime.{paced_after, paced_replies}
 use Rattle.rh_pace.specs.Paced.{PacedState, paced_step}
 use Rattle.rh_pace.specs.PlainBounds.{plain_after}
@@ -34,6 +36,17 @@ AreStored (Some old) new owner object from numbers status =
     (after : PacedState) × (new ≡ Some after)
     × AreStoredUnless (numbers_refusal old.heap.mutators owner object from numbers) old after
     (number_stores owner object from numbers) status
+
+-- It stores so, and where the log has too few places for them, it collects first: the log is never
+-- full.
+abbrev pub AreStoredInsisting
+    : Option PacedState → Option PacedState → ℕ → RootId → ℕ → List ℤ → ℕ → Type 0
+AreStoredInsisting None new owner object from numbers status = (new ≡ None) × (status ≡ 12)
+AreStoredInsisting (Some old) new owner object from numbers status =
+    (status ≢ 9)
+    × (AreStored (Some old) new owner object from numbers status
+    ⊎ ((numbers_refusal old.heap.mutators owner object from numbers ≡ Some LogFull)
+    × AreStored (Some (collect_step old).0) new owner object from numbers status))
 
 -- The whole numbers that fields hold are read, as the heap's loads tell them, and as the loads of
 -- the plain heap for which it stands.

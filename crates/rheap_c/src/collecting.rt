@@ -40,7 +40,7 @@ pub extern "C" fn rheap_increment(heap: &mut Rheap, alloc: Global) -> u8
 }
 
 /// What `PacedHeap::collect` promises, as one fact.
-fn collected(heap: &mut PacedHeap<Global>) -> Result<Flipped, EpochsSpent>
+pub(crate) fn collected(heap: &mut PacedHeap<Global>) -> Result<Flipped, EpochsSpent>
     ensures { IsCollection heap.old heap.new result }
 {
     heap.collect()

@@ -34,5 +34,5 @@ pub use numbers::{
 pub use objects::{rheap_alloc, rheap_alloc_raw, rheap_copy, rheap_drop, rheap_same};
 pub use opening::{rheap_close, rheap_open, rheap_open_sized};
 pub use reading::{rheap_field, rheap_fields, rheap_peek, rheap_root};
-pub use several::{rheap_load_ints, rheap_store_ints};
+pub use several::{rheap_insist_store_ints, rheap_load_ints, rheap_store_ints};
 pub use value::{RheapRoot, RheapValue};

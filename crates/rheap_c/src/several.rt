@@ -1,18 +1,24 @@
 //! Whole numbers in several fields of one object.
 
-ghost use Rattle.std.specs.Prelude.{◌≡◌, length, Some};
+ghost use Rattle.std.specs.Prelude.{◌≡◌, ◌≢◌, ◌⊎◌, length, Some};
+ghost use Rattle.rh_layout.specs.declared.refusal.Refusal.TheVariants.{LogFull};
 ghost use Rattle.rh_mutator.specs.Mutator.{graph_of};
 ghost use Rattle.rh_mutator.specs.LoadingAll.{field_loads};
 ghost use Rattle.rh_mutator.specs.StoringAll.{first_refusal, number_stores, numbers_refusal};
-ghost use Rattle.rheap_c.specs.Several.{AreReadUnless, AreStored, AreStoredUnless, AreTold};
+ghost use Rattle.rh_pace.specs.Collecting.{collect_step};
+ghost use Rattle.rheap_c.specs.Several.{AreReadUnless, AreStored, AreStoredInsisting, AreStoredUnless, AreTold};
 ghost use Rattle.rheap_c.specs.Told.{root_of};
 
+use crate::collecting::collected;
 use crate::handle::Rheap;
 use crate::status::{DONE, NOT_OPEN};
 use crate::value::RheapRoot;
 use rh_layout::RootId;
 use rh_pace::PacedHeap;
 use std::alloc::Global;
+
+/// The number of the refusal `LogFull`.
+const LOG_FULL: u8 = 9;
 
 /// The fields from `from` on, counted from 0, of the object that `object` names take whole numbers,
 /// all of them or none, as `PacedHeap::store_all`. In a cycle the log needs a place for each.
@@ -32,6 +38,29 @@ pub extern "C" fn rheap_store_ints(
         None => NOT_OPEN,
         Some(mut inner) => {
             let status = stored(&mut inner, owner, object.id(), from, numbers);
+            heap.give(inner);
+            status
+        }
+    }
+}
+
+/// As `rheap_store_ints`, after a collection where the log has too few places.
+#[unsafe(no_mangle)]
+pub extern "C" fn rheap_insist_store_ints(
+    heap: &mut Rheap,
+    alloc: Global,
+    owner: u32,
+    object: RheapRoot,
+    from: u32,
+    numbers: &[i64],
+) -> u8
+    ensures { AreStoredInsisting heap.old.state heap.new.state owner (root_of object) from
+        numbers.now result }
+{
+    match heap.take(alloc) {
+        None => NOT_OPEN,
+        Some(mut inner) => {
+            let status = stored_insisting(&mut inner, owner, object.id(), from, numbers);
             heap.give(inner);
             status
         }
@@ -83,6 +112,31 @@ fn stored(
         Ok(()) => DONE,
         Err(refusal) => refusal.number(),
     }
+}
+
+/// Stores the numbers, after a collection where the log has too few places: it is empty then.
+fn stored_insisting(
+    heap: &mut PacedHeap<Global>,
+    owner: u32,
+    object: RootId,
+    from: u32,
+    numbers: &[i64],
+) -> u8
+    ensures not_full { result ≢ 9 }
+    ensures stored { AreStoredUnless
+        (numbers_refusal heap.old.heap.mutators owner object from numbers.now)
+        heap.old heap.new (number_stores owner object from numbers.now) result
+        ⊎ ((numbers_refusal heap.old.heap.mutators owner object from numbers.now ≡ Some LogFull)
+        × AreStoredUnless (numbers_refusal (collect_step heap.old).0.heap.mutators owner object from
+        numbers.now) (collect_step heap.old).0 heap.new
+        (number_stores owner object from numbers.now) result) }
+{
+    let status = stored(heap, owner, object, from, numbers);
+    if status != LOG_FULL {
+        return status;
+    }
+    let _ = collected(heap);
+    stored(heap, owner, object, from, numbers)
 }
 
 /// What `PacedHeap::load_all` promises, as one fact, with the status of its answer.

@@ -1,0 +1,7 @@
+use Rattle.rheap_c.proofs.Unless.{AreStored-again}
+use Rattle.rheap_c.proofs.several.stored_insisting.Goals as goal
+
+pub returns-clause-not_full : goal.returns-clause-not_full
+returns-clause-not_full c =
+    (AreStored-again _ _ _ _ _ _ _ _ _ _ _ c.if-status-ne-LOG_FULL.false c.stored-status.ensures
+    c.collected.ensures c.stored.ensures).0
