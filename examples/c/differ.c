@@ -1,0 +1,482 @@
+/* Plays commands of a trace by the calls of rheap.h, and prints what `rheap run` prints of them:
+   examples/c/differ compares the two. Beside each command it looks whether the readers agree with
+   it, and tells on standard error where they don't. Stores of numbers to one field after the other,
+   line by line, are one call of rheap_store_ints; where that is refused, they are calls of their own.
+
+   Usage: differ pace WORDS LIVE BIGGEST RATIO OWNERS SLOTS
+            prints the mark and the log's limit
+          differ run WORDS LIVE BIGGEST RATIO OWNERS SLOTS
+            plays standard input by the calls that don't insist
+          differ insist WORDS LIVE BIGGEST RATIO OWNERS SLOTS PLAYED
+            plays it by the calls that insist, and where LIVE is 0 collects between them. The file
+            PLAYED gets the commands but for those that found no room, which aren't answered
+   LIVE 0 opens a heap of which no bound is known of what lives. */
+#include "rheap.h"
+#include <inttypes.h>
+#include <stdio.h>
+#include <stdlib.h>
+#include <string.h>
+
+/* The most stores that are made by one call. */
+#define ROW 64
+
+static rheap heap = RHEAP_INIT;
+static int insisting = 0;
+/* Whether it collects between commands. */
+static int collecting = 0;
+static int wrong = 0;
+static uint64_t commands = 0;
+static uint64_t refused = 0;
+/* The calls of rheap_store_ints: all, those that were done, those of them where a cycle was on, and
+   those for which the log had no places. */
+static uint64_t rows = 0;
+static uint64_t done_rows = 0;
+static uint64_t rows_in_cycles = 0;
+static uint64_t limited_rows = 0;
+
+static void must(uint8_t status) {
+    if (status != RHEAP_DONE) {
+        fprintf(stderr, "differ: command %" PRIu64 ": %s\n", commands, rheap_name(status));
+        exit(EXIT_FAILURE);
+    }
+}
+
+static void agree(int holds, const char *what) {
+    if (!holds) {
+        fprintf(stderr, "differ: command %" PRIu64 ": %s differs\n", commands, what);
+        wrong = 1;
+    }
+}
+
+static int are_equal(rheap_value a, rheap_value b) {
+    return a.kind == b.kind && a.fields == b.fields && a.number == b.number;
+}
+
+/* What a root holds that is there, with what rheap_fields tells of it. */
+static rheap_value held(rheap_root_id root) {
+    rheap_value value;
+    uint32_t fields;
+    uint8_t status = rheap_fields(&heap, root, &fields);
+    must(rheap_root(&heap, root, &value));
+    if (value.kind == RHEAP_OBJECT || value.kind == RHEAP_RAW) {
+        agree(status == RHEAP_DONE && fields == value.fields, "rheap_fields");
+    } else {
+        agree(status == RHEAP_NOT_OBJECT && fields == 0, "rheap_fields");
+    }
+    return value;
+}
+
+/* What a field holds after a store to it, as each call tells that reads one. */
+static rheap_value stored(uint32_t owner, rheap_root_id object, uint32_t field) {
+    rheap_value value;
+    rheap_value peeked;
+    must(rheap_field(&heap, object, field, &value));
+    must(rheap_peek(&heap, owner, object, field, &peeked));
+    agree(are_equal(value, peeked), "rheap_peek");
+    return value;
+}
+
+/* The refusals as a run names them. */
+static const char *refusal(uint8_t status) {
+    static const char *const names[] = {"",         "NoRoot",     "NotYours",  "NotObject",
+                                        "NoField",  "RawField",   "IntRange",  "FieldsRange",
+                                        "SpaceFull", "LogFull",   "NumbersSpent"};
+    return status <= RHEAP_NUMBERS_SPENT ? names[status] : rheap_name(status);
+}
+
+/* Prints a refusal; `fields` are those that were asked for. */
+static void tell_refusal(uint8_t status, uint32_t fields) {
+    refused++;
+    if (status == RHEAP_SPACE_FULL) {
+        rheap_words words;
+        must(rheap_room(&heap, fields, &words));
+        printf("refused SpaceFull need %" PRIu64 " free %" PRIu64 "\n", words.need, words.free);
+    } else {
+        printf("refused %s\n", refusal(status));
+    }
+}
+
+/* Prints the answer to a command that tells a value, or none. */
+static void tell(uint8_t status, rheap_value value) {
+    if (status != RHEAP_DONE) {
+        tell_refusal(status, 0);
+    } else if (value.kind == RHEAP_NIL) {
+        printf("nil\n");
+    } else if (value.kind == RHEAP_NUMBER) {
+        printf("int %" PRId64 "\n", value.number);
+    } else {
+        printf("%s %" PRIu32 "\n", value.kind == RHEAP_OBJECT ? "object" : "raw", value.fields);
+    }
+}
+
+/* Prints the answer to a command that tells nothing. */
+static void tell_done(uint8_t status) {
+    if (status != RHEAP_DONE) {
+        tell_refusal(status, 0);
+    } else {
+        printf("done\n");
+    }
+}
+
+static rheap_root_id root_of(const char *text) {
+    char *end;
+    uint32_t owner = (uint32_t)strtoul(text, &end, 10);
+    return rheap_slot(owner, *end == '\0' ? 0 : (uint32_t)strtoul(end + 1, NULL, 10));
+}
+
+static uint32_t number_of(const char *text) {
+    return (uint32_t)strtoul(text, NULL, 10);
+}
+
+/* After an insisting call found no room: too few words are free, and each that is used is reached. */
+static void is_full(rheap_words words) {
+    rheap_stats before;
+    rheap_stats after;
+    must(rheap_stat(&heap, &before));
+    must(rheap_collect(&heap));
+    must(rheap_stat(&heap, &after));
+    agree(words.free < words.need && words.free == before.free, "rheap_room");
+    agree(after.used == before.used, "what is left");
+}
+
+/* Whether the command is answered: not where an insisting one found no room. */
+static int alloc(uint32_t owner, rheap_root_id dst, uint32_t fields, int raw) {
+    rheap_words before;
+    rheap_words after;
+    rheap_value value;
+    uint8_t status;
+    memset(&value, 0, sizeof value);
+    must(rheap_room(&heap, fields, &before));
+    if (insisting) {
+        status = raw ? rheap_insist_alloc_raw(&heap, owner, dst, fields)
+                     : rheap_insist_alloc(&heap, owner, dst, fields);
+    } else {
+        status = raw ? rheap_alloc_raw(&heap, owner, dst, fields)
+                     : rheap_alloc(&heap, owner, dst, fields);
+        agree(status == RHEAP_SPACE_FULL ? before.need > before.free
+                                         : status != RHEAP_DONE || before.need <= before.free,
+              "rheap_room");
+    }
+    must(rheap_room(&heap, fields, &after));
+    agree(before.need == (uint64_t)fields + 2 && after.need == before.need, "what is needed");
+    if (status == RHEAP_DONE) {
+        value = held(dst);
+        agree(value.kind == (raw ? RHEAP_RAW : RHEAP_OBJECT) && value.fields == fields,
+              "the new object");
+    } else if (insisting && status == RHEAP_SPACE_FULL) {
+        is_full(after);
+        return 0;
+    }
+    if (status == RHEAP_SPACE_FULL) {
+        tell_refusal(status, fields);
+    } else {
+        tell(status, value);
+    }
+    return 1;
+}
+
+/* What rheap_load_ints tells of these fields, beside a peek at each. */
+static void read_in_a_row(uint32_t owner, rheap_root_id src, uint32_t from, uint32_t length) {
+    int64_t numbers[ROW];
+    rheap_value value;
+    uint32_t count;
+    uint32_t due = 0;
+    uint32_t at;
+    int is_on = 1;
+    uint8_t status = rheap_load_ints(&heap, owner, src, from, numbers, length, &count);
+    uint8_t first = RHEAP_DONE;
+    for (at = 0; at < length && first == RHEAP_DONE; at++) {
+        first = rheap_peek(&heap, owner, src, from + at, &value);
+        is_on = is_on && value.kind == RHEAP_NUMBER;
+        if (is_on) {
+            agree(status != RHEAP_DONE || value.number == numbers[at], "rheap_load_ints");
+            due++;
+        }
+    }
+    agree(status == first && count == (first == RHEAP_DONE ? due : 0), "rheap_load_ints");
+}
+
+static void load(uint32_t owner, rheap_root_id dst, rheap_root_id src, uint32_t field) {
+    rheap_value peeked;
+    rheap_value read;
+    rheap_value value;
+    uint8_t peek = rheap_peek(&heap, owner, src, field, &peeked);
+    uint8_t status = rheap_field(&heap, src, field, &read);
+    /* Without an owner, no root is another's. */
+    agree(peek == RHEAP_NOT_YOURS || peek == RHEAP_NO_ROOT
+              ? status != RHEAP_NOT_YOURS
+              : status == peek && are_equal(read, peeked),
+          "rheap_field");
+    read_in_a_row(owner, src, field, (uint32_t)(commands % 5));
+    status = rheap_load(&heap, owner, dst, src, field, &value);
+    /* A load is also refused for its `dst`. */
+    agree(status == peek ? are_equal(value, peeked)
+                         : status == RHEAP_NO_ROOT || status == RHEAP_NOT_YOURS,
+          "rheap_peek");
+    if (status == RHEAP_DONE) {
+        agree(are_equal(value, held(dst)), "rheap_root");
+    }
+    tell(status, value);
+}
+
+static uint8_t store(uint32_t owner, rheap_root_id object, uint32_t field, const char *operand) {
+    uint8_t status;
+    rheap_value value;
+    memset(&value, 0, sizeof value);
+    if (strcmp(operand, "nil") == 0) {
+        status = insisting ? rheap_insist_store_nil(&heap, owner, object, field)
+                           : rheap_store_nil(&heap, owner, object, field);
+    } else if (strchr(operand, '.') != NULL) {
+        rheap_root_id src = root_of(operand);
+        status = insisting ? rheap_insist_store_root(&heap, owner, object, field, src)
+                           : rheap_store_root(&heap, owner, object, field, src);
+        if (status == RHEAP_DONE) {
+            value = held(src);
+        }
+    } else {
+        value.kind = RHEAP_NUMBER;
+        value.number = (int64_t)strtoll(operand, NULL, 10);
+        status = insisting ? rheap_insist_store_int(&heap, owner, object, field, value.number)
+                           : rheap_store_int(&heap, owner, object, field, value.number);
+    }
+    if (status == RHEAP_DONE) {
+        agree(are_equal(value, stored(owner, object, field)), "rheap_field");
+    }
+    agree(!insisting || status != RHEAP_LOG_FULL, "a store that insists");
+    tell_done(status);
+    return status;
+}
+
+static void copy(uint32_t owner, rheap_root_id dst, rheap_root_id src) {
+    uint8_t status = rheap_copy(&heap, owner, dst, src);
+    uint8_t same;
+    rheap_value value;
+    memset(&value, 0, sizeof value);
+    if (status == RHEAP_DONE) {
+        value = held(dst);
+        must(rheap_same(&heap, owner, dst, src, &same));
+        agree(same == 1 && are_equal(value, held(src)), "rheap_root");
+    }
+    tell(status, value);
+}
+
+static void compare(uint32_t owner, rheap_root_id a, rheap_root_id b) {
+    uint8_t same;
+    uint8_t status = rheap_same(&heap, owner, a, b, &same);
+    if (status != RHEAP_DONE) {
+        agree(same == 0, "rheap_same");
+        tell_refusal(status, 0);
+    } else {
+        agree(same == 0 || are_equal(held(a), held(b)), "rheap_same");
+        printf("same %s\n", same == 1 ? "yes" : "no");
+    }
+}
+
+static void drop(uint32_t owner, rheap_root_id root) {
+    uint8_t status = rheap_drop(&heap, owner, root);
+    if (status == RHEAP_DONE) {
+        agree(held(root).kind == RHEAP_NIL, "rheap_root");
+    }
+    tell_done(status);
+}
+
+/* The work of the collector between commands, where there is some. */
+static void between_commands(void) {
+    if (collecting && commands % 11 == 0) {
+        must(rheap_increment(&heap));
+    }
+    if (collecting && commands % 97 == 0) {
+        must(rheap_collect(&heap));
+    }
+}
+
+/* Stores of numbers, each to the field after that of the one before. */
+typedef struct {
+    char line[ROW][128];
+    int64_t numbers[ROW];
+    char owner[12];
+    char object[24];
+    uint32_t from;
+    uint32_t length;
+} row;
+
+/* Whether the line is one more store of the row, which it is put into then. */
+static int goes_on(row *stores, const char *line) {
+    char owner[12];
+    char object[24];
+    char operand[24];
+    uint32_t field;
+    if (stores->length == ROW ||
+        sscanf(line, "%11s store %23s %" SCNu32 " %23s", owner, object, &field, operand) != 4 ||
+        strcmp(operand, "nil") == 0 || strchr(operand, '.') != NULL) {
+        return 0;
+    }
+    if (stores->length == 0) {
+        strcpy(stores->owner, owner);
+        strcpy(stores->object, object);
+        stores->from = field;
+    } else if (strcmp(stores->owner, owner) != 0 || strcmp(stores->object, object) != 0 ||
+               field != stores->from + stores->length) {
+        return 0;
+    }
+    strcpy(stores->line[stores->length], line);
+    stores->numbers[stores->length++] = (int64_t)strtoll(operand, NULL, 10);
+    return 1;
+}
+
+/* Plays the stores by one call. Where it is refused, it changed nothing, and they are played one by
+   one: the first of them that a limit doesn't refuse has the status of the call. */
+static void play_row(const row *stores) {
+    uint32_t owner = number_of(stores->owner);
+    rheap_root_id object = root_of(stores->object);
+    rheap_pacing pacing;
+    rheap_stats before;
+    rheap_stats after;
+    uint8_t first = RHEAP_DONE;
+    uint8_t status;
+    uint32_t at;
+    must(rheap_pace(&heap, &pacing));
+    must(rheap_store_ints(&heap, owner, object, stores->from, stores->numbers, 0));
+    must(rheap_stat(&heap, &before));
+    status = rheap_store_ints(&heap, owner, object, stores->from, stores->numbers, stores->length);
+    must(rheap_stat(&heap, &after));
+    agree(status == RHEAP_DONE ? after.number == before.number + stores->length
+                               : memcmp(&before, &after, offsetof(rheap_stats, cycle)) == 0 &&
+                                     before.cycle == after.cycle,
+          "rheap_store_ints");
+    agree(status == RHEAP_DONE || status == RHEAP_LOG_FULL
+              ? (before.cycle == 1 && before.log + stores->length > pacing.log_limit) ==
+                    (status == RHEAP_LOG_FULL)
+              : status <= RHEAP_INT_RANGE,
+          "the log's limit");
+    rows++;
+    done_rows += status == RHEAP_DONE;
+    rows_in_cycles += status == RHEAP_DONE && before.cycle == 1;
+    limited_rows += status == RHEAP_LOG_FULL;
+    if (insisting && status == RHEAP_LOG_FULL) {
+        status = rheap_insist_store_ints(&heap, owner, object, stores->from, stores->numbers,
+                                         stores->length);
+        must(status);
+    }
+    for (at = 0; at < stores->length; at++) {
+        char operand[24];
+        uint8_t single = RHEAP_DONE;
+        commands++;
+        if (status == RHEAP_DONE) {
+            rheap_value value = stored(owner, object, stores->from + at);
+            agree(value.kind == RHEAP_NUMBER && value.number == stores->numbers[at], "rheap_field");
+            tell_done(status);
+        } else {
+            sprintf(operand, "%" PRId64, stores->numbers[at]);
+            single = store(owner, object, stores->from + at, operand);
+        }
+        if (first == RHEAP_DONE && single != RHEAP_LOG_FULL) {
+            first = single;
+        }
+    }
+    agree(first == (status == RHEAP_LOG_FULL ? RHEAP_DONE : status), "the first refusal");
+    read_in_a_row(owner, object, stores->from, stores->length);
+    between_commands();
+}
+
+/* Plays a line: an owner, a word and up to three parts. Whether it is answered. */
+static int play(const char *line) {
+    char word[8];
+    char part[3][24];
+    unsigned owner;
+    memset(part, 0, sizeof part);
+    if (sscanf(line, "%u %7s %23s %23s %23s", &owner, word, part[0], part[1], part[2]) < 3) {
+        fprintf(stderr, "differ: no command: %s", line);
+        exit(EXIT_FAILURE);
+    }
+    commands++;
+    between_commands();
+    if (strcmp(word, "alloc") == 0 || strcmp(word, "raw") == 0) {
+        return alloc(owner, root_of(part[0]), number_of(part[1]), word[0] == 'r');
+    }
+    if (strcmp(word, "load") == 0) {
+        load(owner, root_of(part[0]), root_of(part[1]), number_of(part[2]));
+    } else if (strcmp(word, "store") == 0) {
+        (void)store(owner, root_of(part[0]), number_of(part[1]), part[2]);
+    } else if (strcmp(word, "copy") == 0) {
+        copy(owner, root_of(part[0]), root_of(part[1]));
+    } else if (strcmp(word, "same") == 0) {
+        compare(owner, root_of(part[0]), root_of(part[1]));
+    } else {
+        drop(owner, root_of(part[0]));
+    }
+    return 1;
+}
+
+/* Plays standard input. `played` gets what is answered, where it isn't NULL. */
+static void play_all(FILE *played) {
+    static row stores;
+    char line[128];
+    rheap_stats stats;
+    int is_there = fgets(line, sizeof line, stdin) != NULL;
+    while (is_there) {
+        uint32_t at;
+        stores.length = 0;
+        while (is_there && goes_on(&stores, line)) {
+            is_there = fgets(line, sizeof line, stdin) != NULL;
+        }
+        if (stores.length > 1) {
+            play_row(&stores);
+        } else if (stores.length == 1) {
+            (void)play(stores.line[0]);
+        }
+        for (at = 0; at < stores.length && played != NULL; at++) {
+            fputs(stores.line[at], played);
+        }
+        if (stores.length == 0) {
+            if (play(line) && played != NULL) {
+                fputs(line, played);
+            }
+            is_there = fgets(line, sizeof line, stdin) != NULL;
+        }
+    }
+    must(rheap_stat(&heap, &stats));
+    if (!insisting) {
+        printf("total commands %" PRIu64 " refused %" PRIu64 " flips %" PRIu64
+               " rootwords %" PRIu64 "\n",
+               commands, refused, stats.flips, stats.root_words);
+    }
+    fprintf(stderr, "rows %" PRIu64 " done %" PRIu64 " in cycles %" PRIu64 " limited %" PRIu64 "\n",
+            rows, done_rows, rows_in_cycles, limited_rows);
+}
+
+int main(int argc, char **argv) {
+    uint32_t size[6];
+    int n;
+    if (argc < 8) {
+        fprintf(stderr, "differ: it takes pace, run or insist, six numbers, and of insist a file\n");
+        return 2;
+    }
+    for (n = 0; n < 6; n++) {
+        size[n] = number_of(argv[n + 2]);
+    }
+    must(size[1] == 0 ? rheap_open_sized(&heap, size[0], size[2], size[3], size[4], size[5])
+                      : rheap_open(&heap, size[0], size[1], size[2], size[3], size[4], size[5]));
+    insisting = strcmp(argv[1], "insist") == 0;
+    collecting = insisting && size[1] == 0;
+    if (strcmp(argv[1], "pace") == 0) {
+        rheap_pacing pacing;
+        must(rheap_pace(&heap, &pacing));
+        printf("%" PRIu32 " %" PRIu32 "\n", pacing.mark, pacing.log_limit);
+    } else if (insisting && argc == 9) {
+        FILE *played = fopen(argv[8], "w");
+        if (played == NULL) {
+            perror("differ");
+            return 2;
+        }
+        play_all(played);
+        if (fclose(played) != 0) {
+            perror("differ");
+            return 2;
+        }
+    } else {
+        play_all(NULL);
+    }
+    must(rheap_close(&heap));
+    return wrong;
+}

@@ -1,0 +1,230 @@
+/* Memory that is refused, each piece in turn, at both calls that open a heap: the status tells it, and
+   nothing is left taken. Each other call is made while all memory is refused, and asks for none. It
+   is linked with --wrap for malloc, realloc and free. Prints nothing where all is as it should be.
+
+   With an argument, the system refuses the memory of the largest heap, as `ulimit -v` has it do: the
+   status tells it, nothing is left taken, and a small heap can be opened then. */
+#include "rheap.h"
+#include <stddef.h>
+#include <stdio.h>
+
+void *__real_malloc(size_t size);
+void *__real_realloc(void *block, size_t size);
+void __real_free(void *block);
+void *__wrap_malloc(size_t size);
+void *__wrap_realloc(void *block, size_t size);
+void __wrap_free(void *block);
+
+static int counting = 0;
+static long taken = 0;
+static long asked = 0;
+/* The first piece that is refused; those after it are refused where `all` isn't 0. */
+static long refused_at = 0;
+static int all = 0;
+static int wrong = 0;
+
+/* Whether what is wrong is still to be printed: the first 20 are. */
+static int is_told(void) {
+    wrong++;
+    return wrong <= 20;
+}
+
+static int is_refused(void) {
+    asked++;
+    return asked == refused_at || (all && asked > refused_at);
+}
+
+void *__wrap_malloc(size_t size) {
+    void *block;
+    if (!counting) {
+        return __real_malloc(size);
+    }
+    block = is_refused() ? NULL : __real_malloc(size);
+    if (block != NULL) {
+        taken++;
+    }
+    return block;
+}
+
+void *__wrap_realloc(void *block, size_t size) {
+    void *moved;
+    if (!counting) {
+        return __real_realloc(block, size);
+    }
+    moved = is_refused() ? NULL : __real_realloc(block, size);
+    if (block == NULL && moved != NULL) {
+        taken++;
+    }
+    return moved;
+}
+
+void __wrap_free(void *block) {
+    if (counting && block != NULL) {
+        taken--;
+    }
+    __real_free(block);
+}
+
+static void is(int line, uint8_t got, uint8_t due) {
+    if (got != due && is_told()) {
+        printf("line %d: %s, not %s\n", line, rheap_name(got), rheap_name(due));
+    }
+}
+
+/* The status of a call that was to ask for no memory. */
+static uint8_t asks_nothing(int line, uint8_t status) {
+    if (asked != 0 && is_told()) {
+        printf("line %d: the call asked for memory\n", line);
+    }
+    asked = 0;
+    return status;
+}
+
+#define QUIET(call) asks_nothing(__LINE__, call)
+#define IS(call, status) is(__LINE__, QUIET(call), RHEAP_##status)
+
+static uint8_t opening(rheap *heap, int sized) {
+    return sized ? rheap_open_sized(heap, 4096, 4, 32, 1, 5)
+                 : rheap_open(heap, 4096, 2000, 4, 32, 1, 5);
+}
+
+/* Opens the heap where each piece of memory is refused once. Whether it is open. */
+static int opened(rheap *heap, int sized) {
+    uint8_t status = RHEAP_NO_MEMORY;
+    all = 0;
+    for (refused_at = 1; refused_at < 100 && status == RHEAP_NO_MEMORY; refused_at++) {
+        asked = 0;
+        status = opening(heap, sized);
+        if (status == RHEAP_NO_MEMORY && (heap->at != NULL || taken != 0)) {
+            printf("refused at %ld: %ld pieces are left\n", refused_at, taken);
+            wrong++;
+        }
+    }
+    /* The last one refused none. */
+    if (status != RHEAP_DONE || refused_at < 4 || asked != refused_at - 2) {
+        printf("%s after %ld, with %ld asked for\n", rheap_name(status), refused_at, asked);
+        wrong++;
+    }
+    asked = 0;
+    return heap->at != NULL;
+}
+
+/* Each call on an open heap, as often as collects by itself. */
+static void each_call(rheap *heap) {
+    rheap_root_id a = rheap_slot(0, 0);
+    rheap_root_id b = rheap_slot(0, 1);
+    rheap_root_id c = rheap_slot(0, 2);
+    rheap_root_id absent = rheap_slot(0, 5);
+    rheap_scope scope = {heap, 0, 3};
+    rheap_value value;
+    rheap_stats stats;
+    rheap_did did;
+    rheap_pacing pacing;
+    rheap_words words;
+    int64_t numbers[2] = {1, 2};
+    char text[14] = "thirteen here";
+    uint32_t fields;
+    uint32_t count;
+    uint8_t same;
+    int n;
+
+    for (n = 0; n < 5000; n++) {
+        IS(rheap_alloc(heap, 0, a, 2), DONE);
+        IS(rheap_alloc_raw(heap, 0, b, 2), DONE);
+        IS(rheap_store_nil(heap, 0, a, 0), DONE);
+        IS(rheap_store_int(heap, 0, b, 1, n), DONE);
+        IS(rheap_store_ints(heap, 0, b, 0, numbers, 2), DONE);
+        IS(rheap_insist_store_ints(heap, 0, b, 0, numbers, 2), DONE);
+        IS(rheap_load_ints(heap, 0, b, 0, numbers, 2, &count), DONE);
+        IS(rheap_store_text(heap, 0, b, 0, text, 14), DONE);
+        IS(rheap_insist_store_text(heap, 0, b, 0, text, 14), DONE);
+        IS(rheap_load_text(heap, 0, b, 0, text, 14, &count), DONE);
+        IS(rheap_store_ints(heap, 0, b, 1, numbers, 2), NO_FIELD);
+        IS(rheap_store_root(heap, 0, a, 1, b), DONE);
+        IS(rheap_load(heap, 0, c, a, 1, &value), DONE);
+        IS(rheap_load(heap, 0, c, absent, 1, &value), NO_ROOT);
+        IS(rheap_copy(heap, 0, c, a), DONE);
+        IS(rheap_same(heap, 0, a, c, &same), DONE);
+        IS(rheap_drop(heap, 0, c), DONE);
+        IS(rheap_insist_alloc(heap, 0, a, 2), DONE);
+        IS(rheap_insist_alloc_raw(heap, 0, b, 2), DONE);
+        IS(rheap_insist_store_nil(heap, 0, a, 0), DONE);
+        IS(rheap_insist_store_int(heap, 0, b, 1, n), DONE);
+        IS(rheap_insist_store_root(heap, 0, a, 1, b), DONE);
+        IS(rheap_root(heap, a, &value), DONE);
+        IS(rheap_fields(heap, a, &fields), DONE);
+        IS(rheap_field(heap, a, 1, &value), DONE);
+        IS(rheap_peek(heap, 0, b, 1, &value), DONE);
+        IS(rheap_room(heap, 2, &words), DONE);
+        IS(rheap_increment(heap), DONE);
+        IS(rheap_stat(heap, &stats), DONE);
+        IS(rheap_last_did(heap, &did), DONE);
+        IS(rheap_pace(heap, &pacing), DONE);
+        IS(rheap_drop(heap, 0, rheap_push(&scope)), DONE);
+        IS(rheap_pop_to(&scope, 3), DONE);
+        IS(opening(heap, n % 2), IS_OPEN);
+    }
+    if (stats.flips < 2) {
+        printf("the heap didn't collect\n");
+        wrong++;
+    }
+    IS(rheap_collect(heap), DONE);
+
+    /* A list fills the space: what insists collects. */
+    IS(rheap_drop(heap, 0, c), DONE);
+    for (n = 0; n < 4096 && QUIET(rheap_insist_alloc(heap, 0, a, 2)) == RHEAP_DONE; n++) {
+        IS(rheap_insist_store_root(heap, 0, a, 1, c), DONE);
+        IS(rheap_copy(heap, 0, c, a), DONE);
+    }
+    IS(rheap_alloc(heap, 0, a, 2), SPACE_FULL);
+    IS(rheap_insist_alloc_raw(heap, 0, a, 2), SPACE_FULL);
+    IS(rheap_collect(heap), DONE);
+}
+
+/* Opens the largest heap, for which the system has no memory, and then a small one. */
+static void where_the_system_refuses(void) {
+    rheap heap = RHEAP_INIT;
+    is(__LINE__, rheap_open_sized(&heap, RHEAP_MAX_WORDS, 4, 32, 1, 5), RHEAP_NO_MEMORY);
+    is(__LINE__, rheap_open(&heap, RHEAP_MAX_WORDS, 1000, 4, 32, 1, 5), RHEAP_NO_MEMORY);
+    if (heap.at != NULL || taken != 0) {
+        printf("%ld pieces are left\n", taken);
+        wrong++;
+    }
+    is(__LINE__, opening(&heap, 1), RHEAP_DONE);
+    is(__LINE__, rheap_close(&heap), RHEAP_DONE);
+    if (taken != 0) {
+        printf("%ld pieces are left after the close\n", taken);
+        wrong++;
+    }
+}
+
+int main(int argc, char **argv) {
+    rheap heap = RHEAP_INIT;
+    int sized;
+
+    (void)argv;
+    counting = 1;
+    if (argc > 1) {
+        where_the_system_refuses();
+        counting = 0;
+        return wrong != 0;
+    }
+    for (sized = 0; sized < 2; sized++) {
+        if (!opened(&heap, sized)) {
+            return 1;
+        }
+        refused_at = 1;
+        all = 1;
+        each_call(&heap);
+        IS(rheap_close(&heap), DONE);
+        IS(rheap_close(&heap), NOT_OPEN);
+        if (taken != 0) {
+            printf("%ld pieces are left after the close\n", taken);
+            wrong++;
+        }
+    }
+    IS(rheap_open(&heap, 1000, 100, 4, 3, 2, 8), NO_PACE);
+    IS(rheap_open_sized(&heap, 1000, 4, 65, 2, 8), BAD_SIZES);
+    counting = 0;
+    return wrong != 0;
+}

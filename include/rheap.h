@@ -1,0 +1,532 @@
+/*
+ * rheap.h: a managed heap that collects by itself, for programs in C99 and C++11. You can read it
+ * in ten minutes.
+ *
+ * A heap has a space of words, of 16 bytes in each of two halves. An object takes 2 words and one
+ * for each field. A field holds nil, a whole number from -2^61 to 2^61 - 1, or a reference to an object. A program names objects
+ * by roots: numbered slots of owners, both counted from 0. Owner 0's slots are shared by all
+ * owners. No call gives an address out, so no pointer of yours changes when objects move.
+ *
+ * Each call answers a status: 0 is done. A refused call changes nothing; the rheap_insist_ calls
+ * alone may have collected before. Where a call tells something by a pointer, it writes there
+ * whatever the status: nil or 0 where there is nothing to tell. Of numbers or bytes in a row it
+ * writes only those that it read.
+ *
+ * What a program must keep, since nothing checks it:
+ *   - make the handle by RHEAP_INIT before the first call, and leave its word alone from then on;
+ *   - move it, if you like, but never use two copies of it;
+ *   - make one call at a time on a handle, a reading one too; a lock, or a thread's start or end,
+ *     orders two threads, and a lock that lets two readers in doesn't;
+ *   - make no call in a signal handler, nor in the forked child of a process with threads;
+ *   - pass pointers to memory of your own that is good for the call, apart from the handle and from
+ *     each other; none may be null, not even one with length 0.
+ *
+ * Work of the collector is counted in units; a unit is not a machine instruction. Units count
+ * neither words written, up to 4,097 for 3 units, nor looks at roots. So ask for no more owners and
+ * slots than you use. Below, ratio is that with which the heap was opened. A call that names no
+ * units does no collector work, but for the rheap_insist_ calls, which may do that of two
+ * rheap_collect.
+ */
+#ifndef RHEAP_H
+#define RHEAP_H
+
+#include <stddef.h>
+#include <stdint.h>
+#include <string.h>
+
+#define RHEAP_VERSION_MAJOR 0
+#define RHEAP_VERSION_MINOR 1
+#define RHEAP_VERSION_PATCH 0
+
+#ifdef __cplusplus
+extern "C" {
+#endif
+
+/* The statuses. From 1 to 7 the call asks what it may not; from 8 to 10 a limit refuses it. Where
+   several hold, the least of 1 to 10 is answered, and NOT_OPEN before them. The calls on fields
+   in a row say their own order. A call that opens a heap answers the first that holds of IS_OPEN,
+   NO_PACE, BAD_SIZES and NO_MEMORY. */
+enum {
+    /* The call was done. */
+    RHEAP_DONE = 0,
+    /* The owner, a root's owner or its slot isn't there. */
+    RHEAP_NO_ROOT = 1,
+    /* A root belongs to another owner, who isn't owner 0. */
+    RHEAP_NOT_YOURS = 2,
+    /* The root names no object. */
+    RHEAP_NOT_OBJECT = 3,
+    /* The object has no such field. */
+    RHEAP_NO_FIELD = 4,
+    /* The object is raw, and the value is a reference. */
+    RHEAP_RAW_FIELD = 5,
+    /* The number is below RHEAP_MIN_INT or above RHEAP_MAX_INT. */
+    RHEAP_INT_RANGE = 6,
+    /* An object may not have so many fields: more than RHEAP_MAX_FIELDS. */
+    RHEAP_FIELDS_RANGE = 7,
+    /* The object needs more words, its fields and 2, than are free. rheap_room tells both. */
+    RHEAP_SPACE_FULL = 8,
+    /* In a cycle: the log holds as many stores as it may, or has no places for so many. */
+    RHEAP_LOG_FULL = 9,
+    /* 2^62 stores were done. */
+    RHEAP_NUMBERS_SPENT = 10,
+    /* 2^62 - 1 cycles were done, so nothing can be collected any more. */
+    RHEAP_EPOCHS_SPENT = 11,
+    /* The handle holds no heap: none was opened, or it was closed. */
+    RHEAP_NOT_OPEN = 12,
+    /* The handle holds a heap already. */
+    RHEAP_IS_OPEN = 13,
+    /* At these sizes no pace keeps up: the ratio is below 4, or the space is too small. */
+    RHEAP_NO_PACE = 14,
+    /* The words aren't 8 to 16,777,216, the ratio is above 64, the owners aren't 1 to 16, or the
+       slots aren't 1 to 256. */
+    RHEAP_BAD_SIZES = 15,
+    /* Memory was refused. */
+    RHEAP_NO_MEMORY = 16
+};
+
+/* The kinds of values. */
+enum {
+    /* No object and no number: a field of a new object, or a root that was never written. */
+    RHEAP_NIL = 0,
+    /* A whole number. */
+    RHEAP_NUMBER = 1,
+    /* A reference to an object. */
+    RHEAP_OBJECT = 2,
+    /* A reference to a raw object, whose fields hold nil and numbers alone. */
+    RHEAP_RAW = 3
+};
+
+/* The limits of a heap. */
+#define RHEAP_MAX_WORDS 16777216u
+#define RHEAP_MAX_OWNERS 16u
+#define RHEAP_MAX_SLOTS 256u
+#define RHEAP_MAX_FIELDS 4095u
+#define RHEAP_MAX_INT INT64_C(2305843009213693951)
+#define RHEAP_MIN_INT (-RHEAP_MAX_INT - 1)
+
+/* A handle: what a program keeps of a heap. While it is uninitialised, any call on it is undefined,
+   rheap_open too. An assignment makes a second copy: use one of the two from then on, and give the
+   other RHEAP_INIT. */
+typedef struct rheap {
+    void *at;
+} rheap;
+
+/* A handle that holds no heap. It initialises alone. A handle in memory of malloc takes it by
+   `*heap = (rheap)RHEAP_INIT;` in C, and by `*heap = rheap RHEAP_INIT;` in C++. */
+#ifdef __cplusplus
+#define RHEAP_INIT { nullptr }
+#else
+#define RHEAP_INIT { 0 }
+#endif
+
+/* A root: a slot of an owner, both counted from 0. */
+typedef struct rheap_root_id {
+    uint32_t owner;
+    uint32_t slot;
+} rheap_root_id;
+
+/* What a root or a field holds. */
+typedef struct rheap_value {
+    /* RHEAP_NIL, RHEAP_NUMBER, RHEAP_OBJECT or RHEAP_RAW. */
+    uint32_t kind;
+    /* How many fields the object has; 0 where the value is no reference. */
+    uint32_t fields;
+    /* The number; 0 where the value is none. */
+    int64_t number;
+} rheap_value;
+
+/* The numbers of a heap. */
+typedef struct rheap_stats {
+    /* The words of the space that objects have, and those that none has. */
+    uint64_t used;
+    uint64_t free;
+    /* The epoch, from 1: one more after each cycle. */
+    uint64_t epoch;
+    /* The number of the last accepted store, and 0 before the first. */
+    uint64_t number;
+    /* The stores that the log holds. */
+    uint64_t log;
+    /* The units that words allocated in the last cycle granted, those that stores paid or a
+       collection added, and those that were spent. They stay after its end. */
+    uint64_t granted;
+    uint64_t idle;
+    uint64_t spent;
+    /* The objects that are placed, and their fields whose last store isn't held yet. */
+    uint64_t placed;
+    uint64_t missing;
+    /* The flips, each of which ended a cycle, and the words of roots that they wrote: 2^64 - 1
+       where there were more. */
+    uint64_t flips;
+    uint64_t root_words;
+    /* 1 where a cycle is on, and else 0. */
+    uint8_t cycle;
+} rheap_stats;
+
+/* What the last increment or collection did. */
+typedef struct rheap_did {
+    /* How many stores of the log and fields of placed objects it looked at. */
+    uint64_t held;
+    /* How many objects it placed since roots refer to them. */
+    uint32_t shaded;
+    /* Where it ended a cycle: the roots that it wrote, and the words that live on. */
+    uint32_t roots;
+    uint32_t live_words;
+    /* 1 where it began a cycle, and else 0. */
+    uint8_t began;
+    /* 1 where it ended a cycle, and else 0. */
+    uint8_t flipped;
+} rheap_did;
+
+/* The pace at which a heap collects. */
+typedef struct rheap_pacing {
+    /* A cycle begins where fewer words than these are free. */
+    uint32_t mark;
+    /* The units of collector work that a store pays in a cycle. */
+    uint32_t store_units;
+    /* The stores that the log holds at most. */
+    uint32_t log_limit;
+} rheap_pacing;
+
+/* The words of an object beside those of the heap. */
+typedef struct rheap_words {
+    /* The words that an object of so many fields needs: its fields and 2. */
+    uint64_t need;
+    /* The words of the space that no object has. */
+    uint64_t free;
+} rheap_words;
+
+/* --- Life --- */
+
+/* Opens a heap without objects, whose roots are all nil, in a space of so many words.
+
+   It collects in time where all of these hold:
+     - no more than `live` words are reached whenever a cycle begins, one of rheap_collect too;
+     - no object has more than `biggest` words, its fields and 2;
+     - the epochs aren't spent.
+   In time means that no SPACE_FULL comes. Where mark - 2 * biggest is below 1,048,575, no LOG_FULL
+   comes either, but of rheap_store_ints and rheap_store_text; rheap_pace tells the mark.
+
+   In a cycle at most `ratio` units of collector work follow each allocated word and each stored
+   field, and 5 more each allocation and each store. It takes memory, and is the only call beside
+   rheap_open_sized that does.
+
+   Mind the order: words, live, biggest, ratio, owners, slots. All are of one type, so no compiler
+   finds two of them swapped. rheap_open_sized leaves out `live` alone.
+   DONE, IS_OPEN, NO_PACE, BAD_SIZES, NO_MEMORY. */
+uint8_t rheap_open(rheap *heap, uint32_t words, uint32_t live, uint32_t biggest, uint32_t ratio,
+                   uint32_t owners, uint32_t slots);
+
+/* As rheap_open, where no bound is known of what lives: as much of the space may live as the ratio
+   allows. That is words - 2 * mark, with the mark that rheap_pace tells. Of a space that is large
+   beside `biggest`, it is about 45, 68, 83 and 91 percent at ratios 8, 16, 32 and 64.
+   DONE, IS_OPEN, NO_PACE, BAD_SIZES, NO_MEMORY. */
+uint8_t rheap_open_sized(rheap *heap, uint32_t words, uint32_t biggest, uint32_t ratio,
+                         uint32_t owners, uint32_t slots);
+
+/* Closes the heap, and frees its memory. The handle may be opened again. DONE, NOT_OPEN. */
+uint8_t rheap_close(rheap *heap);
+
+/* --- Objects --- */
+
+/* The root `dst` names a new object of so many fields, all nil. In a cycle at most
+   ratio * (fields + 2) + 5 units follow; none follow outside.
+   DONE, NO_ROOT, NOT_YOURS, FIELDS_RANGE, SPACE_FULL, NOT_OPEN. */
+uint8_t rheap_alloc(rheap *heap, uint32_t owner, rheap_root_id dst, uint32_t fields);
+
+/* The same of a raw object: its fields hold nil and numbers alone. */
+uint8_t rheap_alloc_raw(rheap *heap, uint32_t owner, rheap_root_id dst, uint32_t fields);
+
+/* --- Fields, counted from 0 --- */
+
+/* The root `dst` takes the value of a field of the object that `src` names; `value` tells it.
+   DONE, NO_ROOT, NOT_YOURS, NOT_OBJECT, NO_FIELD, NOT_OPEN. */
+uint8_t rheap_load(rheap *heap, uint32_t owner, rheap_root_id dst, rheap_root_id src,
+                   uint32_t field, rheap_value *value);
+
+/* A field of the object that `object` names becomes nil, takes a whole number, or takes what the
+   root `src` holds. In a cycle at most ratio + 5 units follow; none follow outside.
+   DONE, NO_ROOT, NOT_YOURS, NOT_OBJECT, NO_FIELD, RAW_FIELD (of rheap_store_root alone), INT_RANGE
+   (of rheap_store_int alone), LOG_FULL, NUMBERS_SPENT, NOT_OPEN. */
+uint8_t rheap_store_nil(rheap *heap, uint32_t owner, rheap_root_id object, uint32_t field);
+uint8_t rheap_store_int(rheap *heap, uint32_t owner, rheap_root_id object, uint32_t field,
+                        int64_t number);
+uint8_t rheap_store_root(rheap *heap, uint32_t owner, rheap_root_id object, uint32_t field,
+                         rheap_root_id src);
+
+/* --- Fields in a row, from `from` on --- */
+
+/* The fields take whole numbers, as many as `length` says: all of them or none. It is the list of
+   their stores, in a fraction of the time where no cycle is on. In a cycle at most ratio + 5 units
+   follow each number; none follow outside. Length 0 changes nothing, and is DONE.
+
+   The first refusal of these stores is answered, in their order: NO_ROOT, NOT_YOURS, NOT_OBJECT,
+   NO_FIELD or INT_RANGE. Then comes LOG_FULL, where a cycle is on and the log has fewer places left
+   than there are numbers: rheap_insist_store_ints collects then. Last comes NUMBERS_SPENT.
+   DONE, NO_ROOT, NOT_YOURS, NOT_OBJECT, NO_FIELD, INT_RANGE, LOG_FULL, NUMBERS_SPENT, NOT_OPEN. */
+uint8_t rheap_store_ints(rheap *heap, uint32_t owner, rheap_root_id object, uint32_t from,
+                         const int64_t *numbers, size_t length);
+
+/* The whole numbers of the fields are read: as many as `length` says, or up to the first field that
+   holds none. `count` tells how many were read; what is behind them in `numbers` stays. It reads
+   the heap alone, and does no collector work. Length 0 reads nothing, and is DONE.
+
+   Each of `length` fields must be there. After a refusal `numbers` is as it was, and `count` is 0.
+   DONE, NO_ROOT, NOT_YOURS, NOT_OBJECT, NO_FIELD, NOT_OPEN. */
+uint8_t rheap_load_ints(rheap *heap, uint32_t owner, rheap_root_id object, uint32_t from,
+                        int64_t *numbers, size_t length, uint32_t *count);
+
+/* For the bytes of a text there are rheap_store_text and rheap_load_text, below. */
+
+/* --- Roots --- */
+
+/* The root `dst` takes what the root `src` holds. DONE, NO_ROOT, NOT_YOURS, NOT_OPEN. */
+uint8_t rheap_copy(rheap *heap, uint32_t owner, rheap_root_id dst, rheap_root_id src);
+
+/* The root becomes nil. DONE, NO_ROOT, NOT_YOURS, NOT_OPEN. */
+uint8_t rheap_drop(rheap *heap, uint32_t owner, rheap_root_id root);
+
+/* `same` is 1 where both roots hold the same number, refer to the same object, or are nil, and else
+   0. DONE, NO_ROOT, NOT_YOURS, NOT_OPEN. */
+uint8_t rheap_same(rheap *heap, uint32_t owner, rheap_root_id a, rheap_root_id b, uint8_t *same);
+
+/* --- With room made first --- */
+
+/* As the call of the same name without insist_. Where there is no room in the space or in the log,
+   it collects and tries again, twice at most: each time as rheap_collect. LOG_FULL never comes.
+   SPACE_FULL means that what the roots reach and the object don't fit together, unless the epochs
+   are spent. Stop at the first: each further try collects twice. */
+uint8_t rheap_insist_alloc(rheap *heap, uint32_t owner, rheap_root_id dst, uint32_t fields);
+uint8_t rheap_insist_alloc_raw(rheap *heap, uint32_t owner, rheap_root_id dst, uint32_t fields);
+uint8_t rheap_insist_store_nil(rheap *heap, uint32_t owner, rheap_root_id object, uint32_t field);
+uint8_t rheap_insist_store_int(rheap *heap, uint32_t owner, rheap_root_id object, uint32_t field,
+                               int64_t number);
+uint8_t rheap_insist_store_root(rheap *heap, uint32_t owner, rheap_root_id object, uint32_t field,
+                                rheap_root_id src);
+
+/* As rheap_store_ints. Where the log has too few places for the numbers, it collects once, as
+   rheap_collect, and stores then. LOG_FULL never comes.
+   DONE, NO_ROOT, NOT_YOURS, NOT_OBJECT, NO_FIELD, INT_RANGE, NUMBERS_SPENT, NOT_OPEN. */
+uint8_t rheap_insist_store_ints(rheap *heap, uint32_t owner, rheap_root_id object, uint32_t from,
+                                const int64_t *numbers, size_t length);
+
+/* --- Reading --- */
+
+/* Reading changes nothing of the heap. But each call, a reading one too, takes the heap out of the
+   handle while it runs. So no two run at once on a handle, not even under a lock of readers. */
+
+/* What a root holds. It asks for no owner. DONE, NO_ROOT, NOT_OPEN. */
+uint8_t rheap_root(rheap *heap, rheap_root_id root, rheap_value *value);
+
+/* How many fields the object has that the root names. It asks for no owner.
+   DONE, NO_ROOT, NOT_OBJECT, NOT_OPEN. */
+uint8_t rheap_fields(rheap *heap, rheap_root_id root, uint32_t *fields);
+
+/* What a field holds of the object that the root names, without a root for the value. It asks for
+   no owner. DONE, NO_ROOT, NOT_OBJECT, NO_FIELD, NOT_OPEN. */
+uint8_t rheap_field(rheap *heap, rheap_root_id root, uint32_t field, rheap_value *value);
+
+/* The same for an owner: it answers as rheap_load.
+   DONE, NO_ROOT, NOT_YOURS, NOT_OBJECT, NO_FIELD, NOT_OPEN. */
+uint8_t rheap_peek(rheap *heap, uint32_t owner, rheap_root_id src, uint32_t field,
+                   rheap_value *value);
+
+/* The words that an object of so many fields needs, and those that are free. SPACE_FULL comes of an
+   allocation where more are needed than are free; after it, these are the numbers of the refusal.
+   DONE, NOT_OPEN. */
+uint8_t rheap_room(rheap *heap, uint32_t fields, rheap_words *room);
+
+/* --- The collector --- */
+
+/* Collects at once: a cycle begins where none is on, and ends. Where none was on, only what the
+   roots reach is left. Where one was on, more may be; a second call leaves only that. It spends at
+   most 6 units, and 3 for each of these: a word in use that isn't yet copied, a field of a placed
+   object that isn't yet handed on, and a store that the log holds and no increment looked at. Where
+   no cycle was on, that is 3 for each word in use, and 6.
+   DONE, EPOCHS_SPENT, NOT_OPEN. */
+uint8_t rheap_collect(rheap *heap);
+
+/* One increment of collector work, of at most 5 units. It begins a cycle that is due.
+   DONE, NOT_OPEN. */
+uint8_t rheap_increment(rheap *heap);
+
+/* The numbers of the heap. DONE, NOT_OPEN. */
+uint8_t rheap_stat(rheap *heap, rheap_stats *stats);
+
+/* What the last increment or collection did; all 0 before the first. DONE, NOT_OPEN. */
+uint8_t rheap_last_did(rheap *heap, rheap_did *did);
+
+/* The pace of the heap. DONE, NOT_OPEN. */
+uint8_t rheap_pace(rheap *heap, rheap_pacing *pacing);
+
+/* --- What needs no export. It is not proved. --- */
+
+/* The root of an owner's slot. */
+static inline rheap_root_id rheap_slot(uint32_t owner, uint32_t slot) {
+    rheap_root_id root;
+    root.owner = owner;
+    root.slot = slot;
+    return root;
+}
+
+/* The name of a status, without its prefix. */
+static inline const char *rheap_name(uint8_t status) {
+    static const char *const names[] = {
+        "DONE",       "NO_ROOT",       "NOT_YOURS",    "NOT_OBJECT", "NO_FIELD",      "RAW_FIELD",
+        "INT_RANGE",  "FIELDS_RANGE",  "SPACE_FULL",   "LOG_FULL",   "NUMBERS_SPENT", "EPOCHS_SPENT",
+        "NOT_OPEN",   "IS_OPEN",       "NO_PACE",      "BAD_SIZES",  "NO_MEMORY"};
+    return status <= RHEAP_NO_MEMORY ? names[status] : "UNKNOWN";
+}
+
+/* Slots of one owner that are used as a stack: rheap_push takes the next one, and rheap_pop_to
+   makes those from a mark on nil. A function remembers `top`, pushes what it needs, and pops to
+   what it remembered. Past the last slot of the owner, calls on the root answer NO_ROOT.
+
+   `rheap_scope scope = { &heap, owner, first };` makes one whose first slot is `first`. Nothing
+   sees that two scopes of one owner overlap: give each slots of its own. Owner 0's slots are
+   everybody's. */
+typedef struct rheap_scope {
+    rheap *heap;
+    uint32_t owner;
+    uint32_t top;
+} rheap_scope;
+
+/* The next slot. Its value is what it was left with: nil, where it was popped or never used. Push
+   in a statement of its own: two pushes among the arguments of one call have no order. */
+static inline rheap_root_id rheap_push(rheap_scope *scope) {
+    return rheap_slot(scope->owner, scope->top++);
+}
+
+/* Makes the slots from `mark` on nil, and takes them back. The first status that isn't DONE, which
+   is NO_ROOT where a slot was pushed that the owner hasn't. */
+static inline uint8_t rheap_pop_to(rheap_scope *scope, uint32_t mark) {
+    uint8_t first = RHEAP_DONE;
+    while (scope->top > mark) {
+        uint8_t status;
+        scope->top--;
+        status = rheap_drop(scope->heap, scope->owner, rheap_slot(scope->owner, scope->top));
+        if (first == RHEAP_DONE) {
+            first = status;
+        }
+    }
+    return first;
+}
+
+/* --- The bytes of a text. This isn't proved either. --- */
+
+/* A field takes seven bytes as a number, the first one as its lowest bits; the last field has zeros
+   behind them. A text doesn't say how long it is: keep its length, say in the field before it. */
+
+#ifdef __cplusplus
+#define RHEAP_CAST(type, what) static_cast<type>(what)
+#else
+#define RHEAP_CAST(type, what) ((type)(what))
+#endif
+
+/* The calls on texts take 32 KiB of stack. They aren't inlined, so no frame of yours grows. */
+#ifdef __GNUC__
+#define RHEAP_APART static __attribute__((noinline, unused))
+#else
+#define RHEAP_APART static inline
+#endif
+
+/* How many fields a text of so many bytes takes. If that is more than an object has, it is
+   RHEAP_MAX_FIELDS + 1: rheap_alloc_raw then answers FIELDS_RANGE. */
+static inline uint32_t rheap_text_fields(size_t length) {
+    return length > 7 * RHEAP_MAX_FIELDS ? RHEAP_MAX_FIELDS + 1
+                                         : RHEAP_CAST(uint32_t, (length + 6) / 7);
+}
+
+/* The number of seven bytes, of which eight are there: the least significant one is the first in
+   memory. */
+static inline int64_t rheap_seven_bytes(const unsigned char *bytes) {
+    int64_t number;
+    memcpy(&number, bytes, 8);
+    return number & INT64_C(0xffffffffffffff);
+}
+
+/* Writes the numbers of a text to `numbers`, which has room for RHEAP_MAX_FIELDS + 1. How many there
+   are; one more than any object has, where the text is too long. */
+RHEAP_APART uint32_t rheap_pack_text(const void *text, size_t length, int64_t *numbers) {
+    const unsigned char *bytes = RHEAP_CAST(const unsigned char *, text);
+    const uint32_t fields = rheap_text_fields(length);
+    size_t left = length < 7 * RHEAP_CAST(size_t, fields) ? length : 7 * RHEAP_CAST(size_t, fields);
+    int64_t *next = numbers;
+    /* By fours, which takes about half the time. */
+    for (; left >= 29; left -= 28) {
+        next[0] = rheap_seven_bytes(bytes);
+        next[1] = rheap_seven_bytes(bytes + 7);
+        next[2] = rheap_seven_bytes(bytes + 14);
+        next[3] = rheap_seven_bytes(bytes + 21);
+        next += 4;
+        bytes += 28;
+    }
+    for (; left >= 8; left -= 7) {
+        *next++ = rheap_seven_bytes(bytes);
+        bytes += 7;
+    }
+    if (left > 0) {
+        *next = 0;
+        memcpy(next, bytes, left);
+    }
+    return fields;
+}
+
+/* The fields from `from` on take the bytes of a text, rheap_text_fields(length) of them: all or
+   none. It is one rheap_store_ints: it answers and does collector work as that. NO_FIELD is also the
+   answer where the text is too long for any object. */
+RHEAP_APART uint8_t rheap_store_text(rheap *heap, uint32_t owner, rheap_root_id object,
+                                     uint32_t from, const void *text, size_t length) {
+    int64_t numbers[RHEAP_MAX_FIELDS + 1];
+    const uint32_t fields = rheap_pack_text(text, length, numbers);
+    return rheap_store_ints(heap, owner, object, from, numbers, fields);
+}
+
+/* The same as one rheap_insist_store_ints: LOG_FULL never comes. */
+RHEAP_APART uint8_t rheap_insist_store_text(rheap *heap, uint32_t owner, rheap_root_id object,
+                                            uint32_t from, const void *text, size_t length) {
+    int64_t numbers[RHEAP_MAX_FIELDS + 1];
+    const uint32_t fields = rheap_pack_text(text, length, numbers);
+    return rheap_insist_store_ints(heap, owner, object, from, numbers, fields);
+}
+
+/* The bytes that the fields from `from` on hold are read: `length` of them, or those of the fields
+   before the first that holds no number. `count` tells how many were read; what is behind them in
+   `text` stays. Of a number, its lowest 56 bits are read. It is one rheap_load_ints of
+   rheap_text_fields(length), and answers as that. */
+RHEAP_APART uint8_t rheap_load_text(rheap *heap, uint32_t owner, rheap_root_id object,
+                                    uint32_t from, void *text, size_t length, uint32_t *count) {
+    int64_t numbers[RHEAP_MAX_FIELDS + 1];
+    unsigned char *bytes = RHEAP_CAST(unsigned char *, text);
+    const int64_t *next = numbers;
+    uint32_t read;
+    const uint8_t status =
+        rheap_load_ints(heap, owner, object, from, numbers, rheap_text_fields(length), &read);
+    size_t left = length < 7 * RHEAP_CAST(size_t, read) ? length : 7 * RHEAP_CAST(size_t, read);
+    *count = RHEAP_CAST(uint32_t, left);
+    /* Each eighth byte is then written over. */
+    for (; left >= 29; left -= 28) {
+        memcpy(bytes, next, 8);
+        memcpy(bytes + 7, next + 1, 8);
+        memcpy(bytes + 14, next + 2, 8);
+        memcpy(bytes + 21, next + 3, 8);
+        next += 4;
+        bytes += 28;
+    }
+    for (; left >= 8; left -= 7) {
+        memcpy(bytes, next++, 8);
+        bytes += 7;
+    }
+    if (left > 0) {
+        memcpy(bytes, next, left);
+    }
+    return status;
+}
+
+#undef RHEAP_APART
+#undef RHEAP_CAST
+
+#ifdef __cplusplus
+}
+#endif
+
+#endif
