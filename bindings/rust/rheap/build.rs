@@ -1,0 +1,141 @@
+//! Finds the static library of the heap, and has it linked. `RHEAP_LIB_DIR` names its folder, or
+//! `pkg-config rheap` does.
+
+use std::env;
+use std::fs;
+use std::path::{Path, PathBuf};
+use std::process::{exit, Command};
+
+/// The names under which the library stands in its folder, the installed one first.
+const NAMES: [&str; 2] = ["rheap", "rheap_c"];
+
+fn main() {
+    println!("cargo:rerun-if-changed=build.rs");
+    for name in [
+        "RHEAP_LIB_DIR",
+        "PKG_CONFIG",
+        "PKG_CONFIG_PATH",
+        "PKG_CONFIG_LIBDIR",
+        "DOCS_RS",
+    ] {
+        println!("cargo:rerun-if-env-changed={name}");
+    }
+    println!("cargo:rustc-check-cfg=cfg(rheap_memory_inside)");
+    // Pages are made where no library is, and nothing is linked there.
+    if env::var_os("DOCS_RS").is_some() {
+        return;
+    }
+    if let Err(why) = link() {
+        eprintln!("error: rheap: {why}");
+        eprintln!();
+        eprintln!("  The crate needs the static library librheap.a, or librheap_c.a. Either");
+        eprintln!("    set RHEAP_LIB_DIR to the absolute path of its folder, or");
+        eprintln!("    have `pkg-config --variable=libdir rheap` print that folder: set");
+        eprintln!("    PKG_CONFIG_PATH to the folder of rheap.pc.");
+        eprintln!("  To make it: `./rheap --install PREFIX`, in a clone of rheap, leaves both");
+        eprintln!("  files below PREFIX/lib.");
+        exit(1);
+    }
+}
+
+/// Has the library linked, or says why it can't be.
+fn link() -> Result<(), String> {
+    let arch = env::var("CARGO_CFG_TARGET_ARCH").unwrap_or_default();
+    let os = env::var("CARGO_CFG_TARGET_OS").unwrap_or_default();
+    if arch != "x86_64" || os != "linux" {
+        return Err(format!(
+            "the library is built for Linux on x86-64, not for {os} on {arch}"
+        ));
+    }
+    let folder = folder()?;
+    let Some(name) = NAMES
+        .into_iter()
+        .find(|name| archive(&folder, name).is_file())
+    else {
+        return Err(format!(
+            "neither librheap.a nor librheap_c.a is in {}",
+            folder.display()
+        ));
+    };
+    let archive = archive(&folder, name);
+    let bytes = fs::read(&archive).map_err(|e| format!("{}: {e}", archive.display()))?;
+    if !exports(&bytes, "rheap_open") {
+        return Err(format!("{} has no rheap_open", archive.display()));
+    }
+    // An archive may have the three functions by which it takes memory. The crate brings its own
+    // only where it hasn't, since two of a name don't link.
+    if exports(&bytes, "rattle_alloc") {
+        println!("cargo:rustc-cfg=rheap_memory_inside");
+    }
+    println!("cargo:rerun-if-changed={}", archive.display());
+    println!("cargo:rustc-link-search=native={}", folder.display());
+    println!("cargo:rustc-link-lib=static={name}");
+    Ok(())
+}
+
+fn archive(folder: &Path, name: &str) -> PathBuf {
+    folder.join(format!("lib{name}.a"))
+}
+
+/// The folder of the library.
+fn folder() -> Result<PathBuf, String> {
+    if let Some(folder) = env::var_os("RHEAP_LIB_DIR") {
+        let folder = PathBuf::from(folder);
+        // A build script runs in the folder of its crate, not in that of the command.
+        if !folder.is_absolute() {
+            return Err(format!(
+                "RHEAP_LIB_DIR is {}, which is no absolute path",
+                folder.display()
+            ));
+        }
+        return Ok(folder);
+    }
+    let command = env::var_os("PKG_CONFIG").unwrap_or_else(|| "pkg-config".into());
+    let command = command.to_string_lossy().into_owned();
+    let said = Command::new(&command)
+        .args(["--print-errors", "--variable=libdir", "rheap"])
+        .output()
+        .map_err(|e| format!("RHEAP_LIB_DIR isn't set, and {command} didn't run: {e}"))?;
+    let folder = String::from_utf8_lossy(&said.stdout).trim().to_string();
+    if !said.status.success() || folder.is_empty() {
+        return Err(format!(
+            "RHEAP_LIB_DIR isn't set, and {command} doesn't know rheap: {}",
+            String::from_utf8_lossy(&said.stderr)
+                .lines()
+                .next()
+                .unwrap_or_default()
+        ));
+    }
+    Ok(PathBuf::from(folder))
+}
+
+/// Whether the index of the archive lists the symbol. The index of an `ar` archive is its first
+/// member, named `/`: a count and as many offsets of 4 bytes, big end first, then the names of what
+/// the members define, each ended by a 0.
+fn exports(archive: &[u8], symbol: &str) -> bool {
+    const MAGIC: usize = 8;
+    const HEADER: usize = 60;
+    let Some(index) = archive.get(MAGIC..).filter(|rest| rest.starts_with(b"/ ")) else {
+        return false;
+    };
+    let Some(size) = index
+        .get(48..58)
+        .and_then(|digits| std::str::from_utf8(digits).ok())
+        .and_then(|digits| digits.trim().parse::<usize>().ok())
+    else {
+        return false;
+    };
+    let Some(index) = index.get(HEADER..HEADER + size) else {
+        return false;
+    };
+    let Some(count) = index.get(..4) else {
+        return false;
+    };
+    let count = u32::from_be_bytes([count[0], count[1], count[2], count[3]]) as usize;
+    let Some(names) = index.get(4 + 4 * count..) else {
+        return false;
+    };
+    names
+        .split(|byte| *byte == 0)
+        .any(|name| name == symbol.as_bytes())
+}
