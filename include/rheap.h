@@ -12,6 +12,9 @@
  * whatever the status: nil or 0 where there is nothing to tell. Of numbers or bytes in a row it
  * writes only those that it read.
  *
+ * Whole traces, below, are run by two calls of another kind: they take a text in place of a handle,
+ * and have statuses of their own.
+ *
  * What a program must keep, since nothing checks it:
  *   - make the handle by RHEAP_INIT before the first call, and leave its word alone from then on;
  *   - move it, if you like, but never use two copies of it;
@@ -207,8 +210,8 @@ typedef struct rheap_words {
    comes either, but of rheap_store_ints and rheap_store_text; rheap_pace tells the mark.
 
    In a cycle at most `ratio` units of collector work follow each allocated word and each stored
-   field, and 5 more each allocation and each store. It takes memory, and is the only call beside
-   rheap_open_sized that does.
+   field, and 5 more each allocation and each store. It takes memory, and is the only call on a
+   handle beside rheap_open_sized that does.
 
    Mind the order: words, live, biggest, ratio, owners, slots. All are of one type, so no compiler
    finds two of them swapped. rheap_open_sized leaves out `live` alone.
@@ -357,6 +360,43 @@ uint8_t rheap_last_did(rheap *heap, rheap_did *did);
 
 /* The pace of the heap. DONE, NOT_OPEN. */
 uint8_t rheap_pace(rheap *heap, rheap_pacing *pacing);
+
+/* --- Whole traces --- */
+
+/* A trace is a text whose first line makes a heap; each further line is something to do, and is
+   answered. `rheap run --help` has the language. A call runs a trace on a new heap, and keeps
+   nothing of it. It needs no handle, and several threads may make such calls at once.
+
+   `trace` has as many bytes as `trace_length` says, and `answers` has room for `answers_length`. A
+   call takes memory for the heap, 32 bytes for each of its words, for the lines of the trace, and
+   for the text; it frees all of it. It returns after the last line, however long that takes: a
+   trace has at most 1,048,576 lines. */
+
+/* The statuses of these two calls. They aren't those above, and rheap_name doesn't name them. */
+enum {
+    /* `answers` begins with the text, and is as it was behind it; `length` tells its bytes. */
+    RHEAP_RUN_DONE = 0,
+    /* The trace has a fault, or no pace keeps up with it. `answers` is as it was, `length` is 0. */
+    RHEAP_RUN_FAULT = 1,
+    /* Memory was refused. `answers` is as it was, and `length` is 0. */
+    RHEAP_RUN_NO_MEMORY = 3,
+    /* `answers` is too small for the text, and as it was; `length` tells the bytes that are due. */
+    RHEAP_RUN_NO_ROOM = 5
+};
+
+/* Runs a trace that drives its cycles itself, or has none. The text is what `rheap run` prints: a
+   line for each answer, and the total line. A refused line is an answer.
+   RUN_DONE, RUN_FAULT, RUN_NO_MEMORY, RUN_NO_ROOM. */
+uint8_t rheap_run(const uint8_t *trace, size_t trace_length, uint8_t *answers,
+                  size_t answers_length, size_t *length);
+
+/* Runs a trace of commands alone, on a heap that collects by itself. The text is what `rheap run
+   --paced --mark N` prints, with `mark` for N: a cycle begins where fewer words are free. With 0 it
+   is what `rheap run --paced` prints, which takes the lowest mark that keeps up. No mark stands for
+   `--mark 0`, at which no cycle begins.
+   RUN_DONE, RUN_FAULT, RUN_NO_MEMORY, RUN_NO_ROOM. */
+uint8_t rheap_run_paced(const uint8_t *trace, size_t trace_length, uint32_t mark,
+                        uint8_t *answers, size_t answers_length, size_t *length);
 
 /* --- What needs no export. It is not proved. --- */
 
