@@ -1,6 +1,6 @@
-/* Memory that is refused, each piece in turn, at both calls that open a heap: the status tells it, and
-   nothing is left taken. Each other call is made while all memory is refused, and asks for none. It
-   is linked with --wrap for malloc, realloc and free. Prints nothing where all is as it should be.
+/* Memory that is refused, each piece in turn, at both calls that open a heap, and at both that run a
+   whole trace: the status tells it, and nothing is left taken. Each other call is made while all
+   memory is refused, and asks for none. It is linked with --wrap for malloc, realloc and free. Prints nothing where all is as it should be.
 
    With an argument, the system refuses the memory of the largest heap, as `ulimit -v` has it do: the
    status tells it, nothing is left taken, and a small heap can be opened then. */
@@ -181,6 +181,36 @@ static void each_call(rheap *heap) {
     IS(rheap_collect(heap), DONE);
 }
 
+/* A trace of commands, and what it answers. */
+static const char trace[] = "heap 1024 32 64 1 1\n0 alloc 0.0 1\n0 store 0.0 0 7\n";
+static const char answer[] = "object 1\ndone\ntotal commands 2 refused 0 flips 0 rootwords 0\n";
+
+/* Runs the trace by either call where each piece of memory is refused once. */
+static void traces(int paced) {
+    const uint8_t *bytes = (const uint8_t *)trace;
+    uint8_t answers[sizeof answer];
+    size_t length = 0;
+    uint8_t status = RHEAP_RUN_NO_MEMORY;
+    all = 0;
+    for (refused_at = 1; refused_at < 10000 && status == RHEAP_RUN_NO_MEMORY; refused_at++) {
+        asked = 0;
+        answers[0] = '?';
+        length = 1;
+        status = paced ? rheap_run_paced(bytes, sizeof trace - 1, 0, answers, sizeof answers, &length)
+                       : rheap_run(bytes, sizeof trace - 1, answers, sizeof answers, &length);
+        if (taken != 0 || (status == RHEAP_RUN_NO_MEMORY && (length != 0 || answers[0] != '?'))) {
+            printf("a trace, refused at %ld: %ld pieces are left\n", refused_at, taken);
+            wrong++;
+        }
+    }
+    /* The last one refused none. */
+    if (status != RHEAP_RUN_DONE || refused_at < 4 || asked != refused_at - 2 ||
+        length != sizeof answer - 1 || memcmp(answers, answer, length) != 0) {
+        printf("a trace: status %d after %ld, with %ld asked for\n", status, refused_at, asked);
+        wrong++;
+    }
+}
+
 /* Opens the largest heap, for which the system has no memory, and then a small one. */
 static void where_the_system_refuses(void) {
     rheap heap = RHEAP_INIT;
@@ -225,6 +255,8 @@ int main(int argc, char **argv) {
     }
     IS(rheap_open(&heap, 1000, 100, 4, 3, 2, 8), NO_PACE);
     IS(rheap_open_sized(&heap, 1000, 4, 65, 2, 8), BAD_SIZES);
+    traces(0);
+    traces(1);
     counting = 0;
     return wrong != 0;
 }
