@@ -6,8 +6,15 @@ use std::fs;
 use std::path::{Path, PathBuf};
 use std::process::{exit, Command};
 
-/// The names under which the library stands in its folder, the installed one first.
-const NAMES: [&str; 2] = ["rheap", "rheap_c"];
+/// The archives of which the library is made: the installed one, or else both parts. Each with a
+/// call that it has.
+const SETS: [&[(&str, &[&str])]; 2] = [
+    &[("rheap", &["rheap_open", "rheap_run"])],
+    &[
+        ("rheap_c", &["rheap_open"]),
+        ("rheap_static", &["rheap_run"]),
+    ],
+];
 
 fn main() {
     println!("cargo:rerun-if-changed=build.rs");
@@ -28,7 +35,8 @@ fn main() {
     if let Err(why) = link() {
         eprintln!("error: rheap: {why}");
         eprintln!();
-        eprintln!("  The crate needs the static library librheap.a, or librheap_c.a. Either");
+        eprintln!("  The crate needs the static library librheap.a, or its two parts,");
+        eprintln!("  librheap_c.a and librheap_static.a, in one folder. Either");
         eprintln!("    set RHEAP_LIB_DIR to the absolute path of its folder, or");
         eprintln!("    have `pkg-config --variable=libdir rheap` print that folder: set");
         eprintln!("    PKG_CONFIG_PATH to the folder of rheap.pc.");
@@ -48,19 +56,26 @@ fn link() -> Result<(), String> {
         ));
     }
     let folder = folder()?;
-    let Some(name) = NAMES
-        .into_iter()
-        .find(|name| archive(&folder, name).is_file())
-    else {
+    let is_there = |(name, _): &(&str, &[&str])| archive(&folder, name).is_file();
+    let Some(set) = SETS.into_iter().find(|set| set.iter().all(is_there)) else {
         return Err(format!(
-            "neither librheap.a nor librheap_c.a is in {}",
+            "neither librheap.a nor both librheap_c.a and librheap_static.a are in {}",
             folder.display()
         ));
     };
-    let archive = archive(&folder, name);
-    let bytes = fs::read(&archive).map_err(|e| format!("{}: {e}", archive.display()))?;
-    if !exports(&bytes, "rheap_open") {
-        return Err(format!("{} has no rheap_open", archive.display()));
+    for (name, calls) in set {
+        link_archive(&archive(&folder, name), calls)?;
+        println!("cargo:rustc-link-lib=static={name}");
+    }
+    println!("cargo:rustc-link-search=native={}", folder.display());
+    Ok(())
+}
+
+/// Looks at an archive that is linked, or says which of the calls it hasn't.
+fn link_archive(archive: &Path, calls: &[&str]) -> Result<(), String> {
+    let bytes = fs::read(archive).map_err(|e| format!("{}: {e}", archive.display()))?;
+    if let Some(call) = calls.iter().find(|call| !exports(&bytes, call)) {
+        return Err(format!("{} has no {call}", archive.display()));
     }
     // An archive may have the three functions by which it takes memory. The crate brings its own
     // only where it hasn't, since two of a name don't link.
@@ -68,8 +83,6 @@ fn link() -> Result<(), String> {
         println!("cargo:rustc-cfg=rheap_memory_inside");
     }
     println!("cargo:rerun-if-changed={}", archive.display());
-    println!("cargo:rustc-link-search=native={}", folder.display());
-    println!("cargo:rustc-link-lib=static={name}");
     Ok(())
 }
 

@@ -52,6 +52,11 @@
 //! [`Heap::load_ints`] reads them. [`Heap::store_text`] and [`Heap::load_text`] do so with bytes, seven
 //! to a field. [`Heap::alloc_raw`] makes an object for them; [`text_fields`] says of how many fields.
 //!
+//! # Whole traces
+//!
+//! [`run`] and [`run_paced`] take a text of commands, run it on a heap of its own, and return what the
+//! program `rheap run` prints of it.
+//!
 //! # Refusals
 //!
 //! A refused call returns an [`Error`] with the numbers that explain it. It changes nothing; the
@@ -93,6 +98,7 @@ mod numbers;
 mod raw;
 mod root;
 mod text;
+mod trace;
 mod value;
 
 pub use error::{Error, Result};
@@ -100,6 +106,7 @@ pub use heap::{Fields, Heap};
 pub use numbers::{Did, Pacing, Room, Sizes, Stats};
 pub use root::{Owner, Root};
 pub use text::text_fields;
+pub use trace::{run, run_paced, TraceError};
 pub use value::{Operand, Value};
 
 /// The most words that a space has.

@@ -23,6 +23,11 @@ pub const NO_PACE: u8 = 14;
 pub const BAD_SIZES: u8 = 15;
 pub const NO_MEMORY: u8 = 16;
 
+pub const RUN_DONE: u8 = 0;
+pub const RUN_FAULT: u8 = 1;
+pub const RUN_NO_MEMORY: u8 = 3;
+pub const RUN_NO_ROOM: u8 = 5;
+
 pub const NIL: u32 = 0;
 pub const NUMBER: u32 = 1;
 pub const OBJECT: u32 = 2;
@@ -233,4 +238,20 @@ extern "C" {
     pub fn rheap_stat(heap: *mut Rheap, stats: *mut RheapStats) -> u8;
     pub fn rheap_last_did(heap: *mut Rheap, did: *mut RheapDid) -> u8;
     pub fn rheap_pace(heap: *mut Rheap, pacing: *mut RheapPacing) -> u8;
+
+    pub fn rheap_run(
+        trace: *const u8,
+        trace_length: usize,
+        answers: *mut u8,
+        answers_length: usize,
+        length: *mut usize,
+    ) -> u8;
+    pub fn rheap_run_paced(
+        trace: *const u8,
+        trace_length: usize,
+        mark: u32,
+        answers: *mut u8,
+        answers_length: usize,
+        length: *mut usize,
+    ) -> u8;
 }

@@ -183,7 +183,7 @@ fn the_declarations_are_those_of_the_header() {
         items.iter().filter(|item| item.starts_with(kind)).count()
     };
     // What was looked for was found.
-    assert!(of(&header, "fn ") >= 27, "{header:#?}");
+    assert!(of(&header, "fn ") >= 29, "{header:#?}");
     assert!(of(&header, "struct ") >= 7, "{header:#?}");
     assert!(of(&header, "const ") >= 27, "{header:#?}");
     let missing: Vec<_> = header.difference(&rust).collect();
@@ -207,6 +207,11 @@ fn a_difference_is_found() {
         ("RHEAP_MAX_FIELDS 4095u", "RHEAP_MAX_FIELDS 4094u"),
         ("uint32_t shaded;", "uint64_t shaded;"),
         ("uint8_t *same)", "uint8_t *same, uint8_t *more)"),
+        ("RHEAP_RUN_NO_ROOM = 5", "RHEAP_RUN_NO_ROOM = 4"),
+        (
+            "size_t trace_length, uint32_t mark",
+            "uint32_t mark, size_t trace_length",
+        ),
     ] {
         assert!(header.contains(from), "the header has no longer: {from}");
         assert_ne!(of_header(&header.replace(from, to)), items, "{from}");
