@@ -1,6 +1,7 @@
 -- A plain heap accepts each call of a queue.
-use Rattle.std.proofs.Common.{◌≡◌, ℕ, zero, suc, ◌+◌, ◌<◌, ◌≤◌, Bool, false, List, [], ◌∷◌, ◌++◌, length, Option, Some, None, Ok, refl, sym, ap, subst, ◌∙◌, arith}
-use Rattle.std.specs.Prelude.{IsOk, is_ok, slice_get, slice_index_or}
+use Rattle.std.proofs.Common.{◌≡◌, ℕ, zero, suc, ◌+◌, ◌<◌, ◌≤◌, Bool, false, List, [], ◌∷◌, ◌++◌, length, Option, Some, None, Result, Ok, refl, sym, ap, subst, ◌∙◌, arith}
+use Rattle.std.specs.Prelude.{All, IsOk, is_ok, slice_get, slice_index_or}
+use Rattle.std.proofs.lemmas.List.Elements.{All-cons, All-nil}
 use Rattle.rh_layout.specs.Command.{value_fault}
 use Rattle.rh_layout.specs.Refusing.{first_of}
 use Rattle.rh_layout.specs.declared.value.Value.{Value}
@@ -8,11 +9,25 @@ use Rattle.rh_layout.specs.declared.value.Value.TheVariants.{Nil, Ref}
 use Rattle.rh_layout.specs.declared.command.Command.{Command}
 use Rattle.rh_layout.specs.declared.command.Command.TheVariants.{Alloc, Load, Store, Copy, Drop}
 use Rattle.rh_layout.specs.declared.command.Operand.TheVariants.{Root}
+use Rattle.rh_layout.specs.declared.command.Reply.{Reply}
 use Rattle.rh_layout.specs.declared.command.Reply.TheVariants.{Done}
+use Rattle.rh_layout.specs.declared.refusal.Refusal.{Refusal}
 use Rattle.rh_model.specs.Graph.{fault_in, field_fault, field_value, refusal_of, reply_to}
 use Rattle.rh_model.specs.Plain.{PlainHeap, PlainObject, empty_plain, field_lists, kinds, objects_with_field, plain_after_command, step, step_unless}
+use Rattle.rh_pace.specs.PlainReplies.{plain_replies}
 use Rattle.rh_pace.specs.Worked.{one_joins, one_leaves, queue_calls, slot_of_one, times}
-use Rattle.uses.specs.Queue.{AreAccepted}
+
+-- a plain heap accepts each command of a list, one after the other
+abbrev AreAccepted : PlainHeap → List (ℕ × Command) → Type 0
+AreAccepted p [] = Unit {0}
+AreAccepted p (call ∷ rest) = IsOk (step p call.0 call.1).1 × AreAccepted (step p call.0 call.1).0 rest
+
+-- so each reply says
+accepted-replies : (calls : List (ℕ × Command)) (p : PlainHeap) → AreAccepted p calls → All (λ reply. IsOk reply) (plain_replies p calls)
+accepted-replies [] p accepted = All-nil (λ (reply : Result Reply Refusal). IsOk reply)
+accepted-replies (call ∷ rest) p accepted =
+    let done = step p call.0 call.1 in
+    All-cons (λ (reply : Result Reply Refusal). IsOk reply) done.1 (plain_replies done.0 rest) accepted.0 (accepted-replies rest done.0 accepted.1)
 
 -- a cell with a cell behind it, or nil
 abbrev cell_before : Value → PlainObject
@@ -160,8 +175,11 @@ unfolding step refusal_of fault_in plain_after_command reply_to
 first-copied = (refl, refl)
 
 -- The calls of a queue.
-pub queue-accepted : (more rounds : ℕ) → AreAccepted (empty_plain 2 3) (queue_calls more rounds)
+queue-accepted : (more rounds : ℕ) → AreAccepted (empty_plain 2 3) (queue_calls more rounds)
 queue-accepted more rounds =
     let rest = times more one_joins ++ times rounds (one_joins ++ one_leaves) in
     accepted-next (empty_plain 2 3) (heap_at (Ref 0) Nil Nil (cells 0 0)) (Alloc (slot_of_one 0) 2) ((1, Copy (slot_of_one 1) (slot_of_one 0)) ∷ rest) first-made
     (accepted-next (heap_at (Ref 0) Nil Nil (cells 0 0)) (queue_at 0 0) (Copy (slot_of_one 1) (slot_of_one 0)) rest first-copied (accepted-fills more 0 rounds))
+
+pub queue-replies : (more rounds : ℕ) → All (λ reply. IsOk reply) (plain_replies (empty_plain 2 3) (queue_calls more rounds))
+queue-replies more rounds = accepted-replies (queue_calls more rounds) (empty_plain 2 3) (queue-accepted more rounds)

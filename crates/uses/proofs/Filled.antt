@@ -1,28 +1,23 @@
--- The heap of the queue is made, has room for its calls, and none of them is a mistake.
-use Rattle.std.proofs.Common.{◌≡◌, ℕ, zero, suc, ◌+◌, ◌-◌, ◌*◌, ◌^◌, ◌<◌, ◌≤◌, List, ◌++◌, length, Option, None, Some, refl, sym, ap, subst, ◌∙◌, inl, inr, arith}
-use Rattle.std.specs.Prelude.{min}
+-- The heap of the queue is made, and has epochs and numbers for its calls.
+use Rattle.std.proofs.Common.{◌≡◌, ℕ, zero, suc, ◌+◌, ◌-◌, ◌*◌, ◌^◌, ◌<◌, ◌≤◌, ◌++◌, length, Option, None, Some, refl, sym, ap, subst, ◌∙◌, inl, inr, arith}
+use Rattle.std.specs.Prelude.{All, IsOk, min}
 use Rattle.std.proofs.lemmas.List.{length-append}
 use Rattle.std.proofs.lemmas.Option.{none-some}
-use Rattle.rh_layout.specs.declared.command.Command.{Command}
-use Rattle.rh_model.specs.Plain.{empty_plain}
 use Rattle.rh_mutator.specs.Config.{FaultHolds, fault_of}
 use Rattle.rh_mutator.specs.declared.config.Config.{Config}
 use Rattle.rh_mutator.specs.declared.config.ConfigFault.{ConfigFault}
 use Rattle.rh_mutator.specs.declared.config.ConfigFault.TheVariants.{BadSpace, BadRatio, BadRoots, BadLog, BadNumbers}
 use Rattle.rh_mutator.specs.lemmas.FirstFault.{fault_of-exactly}
-use Rattle.rh_mutator.specs.Mutator.{StandsFor}
 use Rattle.rh_core.specs.declared.errors.HeapError.{HeapError}
 use Rattle.rh_core.specs.declared.errors.HeapError.TheVariants as errors
 use Rattle.rh_core.specs.Heap.{new_heap}
 use Rattle.rh_pace.specs.declared.pace.Pace.{Pace}
-use Rattle.rh_pace.specs.Pace.{IsLowest, KeepsUp, lag_of, paced_by}
-use Rattle.rh_pace.specs.InTime.{paced_after}
+use Rattle.rh_pace.specs.Pace.{IsLowest, KeepsUp, paced_by}
+use Rattle.rh_pace.specs.InTime.{paced_after, paced_replies}
 use Rattle.rh_pace.specs.Paced.{PacedState, paced_heap}
-use Rattle.rh_pace.specs.PlainBounds.{AreBounded, HaveRoomToLimit}
 use Rattle.rh_pace.specs.Worked.{one_joins, one_leaves, queue_calls, times}
 use Rattle.uses.specs.declared.problem.Problem.TheVariants as problems
-use Rattle.uses.specs.Queue.{IsAsked, LeadTo, queue_config, queue_heap}
-use Rattle.uses.proofs.Accepted.{queue-accepted}
+use Rattle.uses.specs.Queue.{LeadTo, queue_config, queue_heap}
 
 -- 4 calls for each that joins
 length-joins : (n : ℕ) → length (times n one_joins) ≡ 4 * n
@@ -40,17 +35,14 @@ length-turns (suc n) =
     let next : length (times (suc n) (one_joins ++ one_leaves)) ≡ suc (suc (suc (suc (suc (length (times n (one_joins ++ one_leaves))))))) = refl in
     omega (arith, rest, next)
 
--- there are more epochs than calls
-few-calls : (more rounds : ℕ) → more ≤ 248 → rounds < 2 ^ 32 → 1 + length (queue_calls more rounds) < 4611686018427387904
+-- there are more epochs and numbers than calls
+pub few-calls : (more rounds : ℕ) → more ≤ 248 → rounds < 2 ^ 32 → (1 + length (queue_calls more rounds) ≤ 4611686018427387904) × (length (queue_calls more rounds) ≤ 4611686018427387904)
 few-calls more rounds joins turns =
     let filled = length-joins more in
     let turned = length-turns rounds in
     let both = length-append (times more one_joins) (times rounds (one_joins ++ one_leaves)) in
     let all : length (queue_calls more rounds) ≡ suc (suc (length (times more one_joins ++ times rounds (one_joins ++ one_leaves)))) = refl in
-    omega (arith, filled, turned, both, all, joins, turns)
-
-fewer : (n m : ℕ) → 1 + n < m → 0 + n < m
-fewer n m few = omega (arith, few)
+    (omega (arith, filled, turned, both, all, joins, turns), omega (arith, filled, turned, both, all, joins, turns))
 
 none-of : {F : Type 0} (o : Option F) → ((f : F) → o ≡ Some f → ⊥) → o ≡ None
 none-of None refuted = refl
@@ -90,48 +82,20 @@ pace-queue pace up lowest own =
     let log : pace.log_limit ≡ 603 = up.log_limit ∙ ap (λ (m : ℕ). min (m - 8 + 2) 1048576) mark in
     λ k. record { mark = mark k; store_units = up.store_units k; log_limit = log k }
 
-abbrev pub HasRoomByBounds : Type 0
-HasRoomByBounds = (live biggest : ℕ) (c : Config) → fault_of c ≡ None → (pace : Pace) → KeepsUp c.words live biggest c.ratio pace → lag_of pace biggest < c.log_limit → (calls : List (ℕ × Command)) → AreBounded live biggest (empty_plain c.owners c.slots) calls → HaveRoomToLimit (paced_heap (new_heap c) pace) calls
-
-abbrev pub IsBoundedQueue : Type 0
-IsBoundedQueue = (more rounds live : ℕ) → 4 * (more + 2) ≤ live → AreBounded live 4 (empty_plain 2 3) (queue_calls more rounds)
-
-abbrev pub HoldsLag : Type 0
-HoldsLag = (words live biggest ratio : ℕ) (pace : Pace) → KeepsUp words live biggest ratio pace → lag_of pace biggest < 1048576 → lag_of pace biggest < pace.log_limit
-
--- So a heap that is made so has room for the calls of the queue, whatever pace that is.
-module _ (law : HasRoomByBounds) (bounded : IsBoundedQueue) (holds : HoldsLag) (own : KeepsUp 2218 1000 4 8 (paced_by 601 4 8)) (rounds : ℕ) where
+-- So a heap that is made so is the queue's, whatever pace that is, and is led to where its calls lead.
+module _ (own : KeepsUp 2218 1000 4 8 (paced_by 601 4 8)) (rounds : ℕ) where
   -- the state after these calls
   abbrev pub queue_last : PacedState
   queue_last = paced_after queue_heap (queue_calls 248 rounds)
 
-  pub queue-leads : rounds < 2 ^ 32 → (s : PacedState) → s ≡ queue_heap → StandsFor s.heap.mutators (empty_plain 2 3) → LeadTo s (queue_calls 248 rounds) queue_last
-  queue-leads turns s made stands =
-      let low : lag_of (paced_by 601 4 8) 4 < 1048576 = omega arith in
-      let log : lag_of (paced_by 601 4 8) 4 < 603 = holds 2218 1000 4 8 (paced_by 601 4 8) own low in
-      let fill : 4 * (248 + 2) ≤ 1000 = omega arith in
-      let few = few-calls 248 rounds (omega arith) turns in
-      let asked : IsAsked queue_heap (queue_calls 248 rounds) = record {
-        plain = empty_plain 2 3;
-        stands = subst (λ (t : PacedState). StandsFor t.heap.mutators (empty_plain 2 3)) made stands;
-        accepted = queue-accepted 248 rounds;
-      } in
-      let leads : LeadTo queue_heap (queue_calls 248 rounds) queue_last = record {
-        room = law 1000 4 queue_config sound (paced_by 601 4 8) own log (queue_calls 248 rounds) (bounded 248 rounds 1000 fill);
-        epochs = few;
-        numbers = fewer (length (queue_calls 248 rounds)) 4611686018427387904 few;
-        asked = asked;
-        after = refl;
-      } in
-      subst (λ (t : PacedState). LeadTo t (queue_calls 248 rounds) queue_last) (sym made) leads
-
-  pub made-leads : (pace : Pace) → KeepsUp 2218 1000 4 8 pace → IsLowest 2218 1000 4 8 pace → (c : Config) → c ≡ config_at pace
-      → (s : PacedState) → s ≡ paced_heap (new_heap c) pace → StandsFor s.heap.mutators (empty_plain c.owners c.slots) → rounds < 2 ^ 32 → LeadTo s (queue_calls 248 rounds) queue_last
-  made-leads pace up lowest c is s made stands turns =
+  pub made-leads : (pace : Pace) → KeepsUp 2218 1000 4 8 pace → IsLowest 2218 1000 4 8 pace → (c : Config) → c ≡ config_at pace → (s : PacedState) → s ≡ paced_heap (new_heap c) pace
+      → All (λ reply. IsOk reply) (paced_replies queue_heap (queue_calls 248 rounds)) → LeadTo s (queue_calls 248 rounds) queue_last
+  made-leads pace up lowest c is s made accepted =
       let same = pace-queue pace up lowest own in
       let config : c ≡ queue_config = is ∙ ap config_at same in
       let made_so : s ≡ queue_heap = made ∙ (λ k. paced_heap (new_heap (config k)) (same k)) in
-      queue-leads turns s made_so (subst (λ (d : Config). StandsFor s.heap.mutators (empty_plain d.owners d.slots)) config stands)
+      let leads : LeadTo queue_heap (queue_calls 248 rounds) queue_last = record { accepted = accepted; after = refl } in
+      subst (λ (t : PacedState). LeadTo t (queue_calls 248 rounds) queue_last) (sym made_so) leads
 
 -- Nothing but memory keeps it from being made.
 pub only-memory : (own : KeepsUp 2218 1000 4 8 (paced_by 601 4 8)) (pace : Pace) → KeepsUp 2218 1000 4 8 pace → IsLowest 2218 1000 4 8 pace → (c : Config) → c ≡ config_at pace

@@ -1,6 +1,4 @@
 mod Accepted
 mod Filled
-mod Numbers
-mod Replies
+mod NoLimit
 mod Served
-mod Unlimited

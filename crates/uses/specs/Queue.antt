@@ -1,36 +1,16 @@
 -- What it means that a program's calls are accepted, and lead to a state.
-use Rattle.std.specs.Prelude.{◌≡◌, ◌+◌, ◌<◌, ℕ, List, [], ◌∷◌, length, Result, Ok, Err, IsOk}
+use Rattle.std.specs.Prelude.{◌≡◌, ℕ, All, List, Result, Ok, Err, IsOk}
 use Rattle.rh_layout.specs.declared.command.Command.{Command}
 use Rattle.rh_layout.specs.declared.refusal.Refusal.{Refusal}
-use Rattle.rh_model.specs.Plain.{PlainHeap, step}
 use Rattle.rh_mutator.specs.declared.config.Config.{Config}
-use Rattle.rh_mutator.specs.Mutator.{StandsFor}
 use Rattle.rh_core.specs.Heap.{new_heap}
 use Rattle.rh_pace.specs.Pace.{paced_by}
 use Rattle.rh_pace.specs.Paced.{PacedState, paced_heap}
-use Rattle.rh_pace.specs.InTime.{paced_after}
-use Rattle.rh_pace.specs.PlainBounds.{HaveRoomToLimit}
+use Rattle.rh_pace.specs.InTime.{paced_after, paced_replies}
 
--- a plain heap accepts each command of a list, one after the other
-abbrev pub AreAccepted : PlainHeap → List (ℕ × Command) → Type 0
-AreAccepted p [] = Unit {0}
-AreAccepted p (call ∷ rest) =
-    IsOk (step p call.0 call.1).1 × AreAccepted (step p call.0 call.1).0 rest
-
--- the heap stands for a plain heap that accepts these calls
-pub record IsAsked (s : PacedState) (calls : List (ℕ × Command)) : Type 0 where
-  pub plain : PlainHeap
-  pub stands : StandsFor s.heap.mutators plain
-  pub accepted : AreAccepted plain calls
-
--- These calls lead a heap to a state: it has room for them, up to the first that a limit refuses;
--- there are more epochs and numbers than calls; no call is a mistake; and it is in this state after
--- them.
+-- These calls lead a heap to a state: each is accepted, and it is in this state after them.
 pub record LeadTo (s : PacedState) (calls : List (ℕ × Command)) (last : PacedState) : Type 0 where
-  pub room : HaveRoomToLimit s calls
-  pub epochs : s.heap.epoch + length calls < s.heap.mutators.config.last_epoch
-  pub numbers : s.heap.mutators.log.number + length calls < s.heap.mutators.log.last_number
-  pub asked : IsAsked s calls
+  pub accepted : All (λ reply. IsOk reply) (paced_replies s calls)
   pub after : paced_after s calls ≡ last
 
 -- What the queue's heap is made with: 2,218 words at ratio 8, for two owners with 3 slots.

@@ -11,16 +11,8 @@ ghost use Rattle.uses.specs.Queue.{IsServed, LeadTo, queue_heap};
 ghost use Rattle.uses.specs.declared.problem.Problem.TheVariants as problems;
 
 use crate::problem::Problem;
-use rh_core::laws::heaps_answer_as_plain_heaps;
-use rh_core::laws::holds::what_collectors_do_adds_up;
-use rh_core::laws::runs::{a_new_heap_is_well_formed, every_event_keeps_a_heap_well_formed};
 use rh_heap::{Operand, Pace, PacedHeap, Refusal, RootId};
-use rh_pace::laws::calls::{
-    a_command_moves_the_epoch_by_one_at_most, a_step_is_a_paced_call,
-    every_call_keeps_a_heap_paced, increments_and_collections_are_collector_work,
-};
-use rh_pace::laws::in_time::a_cycle_goes_on_only_as_long_as_its_lag;
-use rh_pace::laws::plain_bounds::what_is_bounded_on_a_plain_heap_has_room;
+use rh_pace::laws::no_limits::within_its_bounds_a_program_meets_no_limit;
 use rh_pace::laws::worked::a_queue_in_45_percent_of_the_space_has_room;
 use std::alloc::Allocator;
 
@@ -54,11 +46,8 @@ pub fn run<A: Allocator + Copy>(alloc: A, rounds: u32) -> Result<u64, Problem>
         (paced_replies queue_heap (queue_calls 248 rounds)) }
     ensures memory { IfErr result (λ problem. problem ≡ problems.Heap heap_errors.OutOfMemory) }
 {
-    // Only for the proof: the queue stays within the bounds of its pace, the log holds its lag, and
-    // so no call is refused.
+    // Only for the proof: the pace is the queue's, and no call is refused.
     a_queue_in_45_percent_of_the_space_has_room::<A>();
-    what_is_bounded_on_a_plain_heap_has_room::<A>();
-    a_cycle_goes_on_only_as_long_as_its_lag();
     no_call_of_the_queue_is_refused::<A>();
     let pace = Pace::of(WORDS, LIVE, CELL_WORDS, RATIO)?;
     let mut heap = PacedHeap::new(alloc, pace.config(WORDS, RATIO, 2, 3), pace)?;
@@ -66,23 +55,15 @@ pub fn run<A: Allocator + Copy>(alloc: A, rounds: u32) -> Result<u64, Problem>
     Ok(heap.stat().flips)
 }
 
-/// The plain heap accepts each call of the queue; the heap has room for each, up to the first that
-/// a limit refuses; and epochs and numbers are left for all of them. So each is accepted.
+/// The plain heap accepts each call of the queue. The queue stays within the bounds of its pace, the
+/// log holds its lag, and epochs and numbers are left for all calls. So the heap answers as the
+/// plain heap does, and accepts each.
 fn no_call_of_the_queue_is_refused<A: Allocator + Copy>()
     ensures { (rounds : ℕ) → rounds < 2 ^ 32
         → All (λ reply. IsOk reply) (paced_replies queue_heap (queue_calls 248 rounds)) }
 {
     a_queue_in_45_percent_of_the_space_has_room::<A>();
-    what_is_bounded_on_a_plain_heap_has_room::<A>();
-    a_cycle_goes_on_only_as_long_as_its_lag();
-    a_command_moves_the_epoch_by_one_at_most();
-    a_step_is_a_paced_call::<A>();
-    every_call_keeps_a_heap_paced::<A>();
-    increments_and_collections_are_collector_work::<A>();
-    every_event_keeps_a_heap_well_formed::<A>();
-    what_collectors_do_adds_up::<A>();
-    a_new_heap_is_well_formed();
-    heaps_answer_as_plain_heaps();
+    within_its_bounds_a_program_meets_no_limit::<A>();
 }
 
 /// The queue is filled, and then one joins and one leaves so many times.
@@ -127,7 +108,6 @@ fn start<A: Allocator + Copy>(heap: &mut PacedHeap<A>) -> Result<(), Refusal>
         → LeadTo heap.old (first_cell ++ rest) last
         → IsServed result (LeadTo heap.new rest last) }
 {
-    a_command_moves_the_epoch_by_one_at_most();
     heap.alloc(OWNER, FIRST, CELL_WORDS - 2)?;
     heap.copy(OWNER, LAST, FIRST)?;
     Ok(())
@@ -139,7 +119,6 @@ fn join<A: Allocator + Copy>(heap: &mut PacedHeap<A>) -> Result<(), Refusal>
         → LeadTo heap.old (one_joins ++ rest) last
         → IsServed result (LeadTo heap.new rest last) }
 {
-    a_command_moves_the_epoch_by_one_at_most();
     heap.alloc(OWNER, NEW, CELL_WORDS - 2)?;
     heap.store(OWNER, LAST, 1, Operand::Root(NEW))?;
     heap.copy(OWNER, LAST, NEW)?;
@@ -153,7 +132,6 @@ fn leave<A: Allocator + Copy>(heap: &mut PacedHeap<A>) -> Result<(), Refusal>
         → LeadTo heap.old (one_leaves ++ rest) last
         → IsServed result (LeadTo heap.new rest last) }
 {
-    a_command_moves_the_epoch_by_one_at_most();
     heap.load(OWNER, FIRST, FIRST, 1)?;
     Ok(())
 }

@@ -8,6 +8,7 @@ ghost use Rattle.uses.specs.declared.problem.Problem.TheVariants as problems;
 
 use crate::problem::Problem;
 use rh_heap::{Command, Operand, PacedHeap, Refusal, Reply, RootId, Sizes};
+use rh_pace::laws::no_limits::what_changes_roots_alone_meets_no_limit;
 use std::sync::{Mutex, Wait};
 use std::thread::{self, Threads};
 
@@ -78,6 +79,7 @@ fn push(heap: &mut PacedHeap, owner: u32, n: i64) -> Result<(), Refusal>
     for command in [&alloc, &fill, &link] {
         heap.insist(owner, command)?;
     }
+    what_changes_roots_alone_meets_no_limit();
     heap.copy(owner, LIST, obj)?;
     Ok(())
 }
@@ -86,6 +88,7 @@ fn push(heap: &mut PacedHeap, owner: u32, n: i64) -> Result<(), Refusal>
 fn pop(heap: &mut PacedHeap, owner: u32) -> Result<(), Refusal>
     ensures { IfErr result (λ refusal. refusal ≢ LogFull) }
 {
+    what_changes_roots_alone_meets_no_limit();
     heap.copy(owner, RootId { owner, slot: 0 }, LIST)?;
     heap.load(owner, LIST, LIST, 1)?;
     Ok(())
@@ -95,6 +98,7 @@ fn pop(heap: &mut PacedHeap, owner: u32) -> Result<(), Refusal>
 fn number(heap: &mut PacedHeap, owner: u32) -> Result<i64, Problem>
     ensures { IfErr result (λ problem. problem ≢ problems.Refused LogFull) }
 {
+    what_changes_roots_alone_meets_no_limit();
     let (cell, dst) = (RootId { owner, slot: 0 }, RootId { owner, slot: 1 });
     match heap.load(owner, dst, cell, 0)? {
         Reply::Int(n) => Ok(n),

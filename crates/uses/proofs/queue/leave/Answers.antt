@@ -5,11 +5,9 @@ use Rattle.uses.proofs.queue.leave.Goals as goal
 
 pub returns-in_err-load : goal.returns-in_err-load
 returns-in_err-load g c = λ rest last room.
-    let laws = c.a_command_moves_the_epoch_by_one_at_most.ensures in
-    let refused = served-call laws.epoch laws.config _ _ _ _ _ (behind (one_leaves ++ rest)) last c.in_err-load.ensures room in
+    let refused = served-call _ _ _ _ _ (behind (one_leaves ++ rest)) last c.in_err-load.ensures room in
     absurd refused
 
 pub returns : goal.returns
 returns g c = λ rest last room.
-    let laws = c.a_command_moves_the_epoch_by_one_at_most.ensures in
-    served-call laws.epoch laws.config _ _ _ _ _ rest last c.in_ok-load.ensures room
+    served-call _ _ _ _ _ rest last c.in_ok-load.ensures room

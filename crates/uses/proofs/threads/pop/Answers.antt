@@ -1,13 +1,13 @@
 use Rattle.std.proofs.lemmas.Result.{err_from_is_err_and}
-use Rattle.uses.proofs.Unlimited.{answer-roots}
+use Rattle.uses.proofs.NoLimit.{not_full}
 use Rattle.uses.proofs.threads.pop.Goals as goal
 
 pub returns-in_err-copy : goal.returns-in_err-copy
 returns-in_err-copy c =
     let p = err_from_is_err_and c.from_residual.result c.from_residual.ensures.1 in
-    rw (p.1, p.2) (answer-roots _ _ _ _ c.in_err-copy.ensures.answer tt)
+    rw (p.1, p.2) (not_full c.what_changes_roots_alone_meets_no_limit.ensures _ _ _ _ c.in_err-copy.ensures.answer tt)
 
 pub returns-in_err-load : goal.returns-in_err-load
 returns-in_err-load c =
     let p = err_from_is_err_and c.from_residual-in_err-load.result c.from_residual-in_err-load.ensures.1 in
-    rw (p.1, p.2) (answer-roots _ _ _ _ c.in_err-load.ensures.answer tt)
+    rw (p.1, p.2) (not_full c.what_changes_roots_alone_meets_no_limit.ensures _ _ _ _ c.in_err-load.ensures.answer tt)
