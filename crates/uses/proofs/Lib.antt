@@ -1,4 +1,5 @@
 mod Accepted
 mod Filled
 mod NoLimit
+mod Renewed
 mod Served

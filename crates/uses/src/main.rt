@@ -8,6 +8,7 @@ mod owners;
 mod problem;
 mod queue;
 mod recorded;
+mod renewal;
 mod threads;
 
 use problem::Problem;
@@ -29,6 +30,8 @@ fn run(rt: &(impl Print + AllocGlobal + Threads + Wait + Sync)) -> Result<(), Pr
     println!(rt; "full live {live}")?;
     let cycles = queue::run(alloc, 10_000)?;
     println!(rt; "queue cycles {cycles}")?;
+    let cycles = renewal::run(alloc, 10_000)?;
+    println!(rt; "renewal cycles over 400 {}", cycles > 400)?;
     let (calls, objects) = recorded::run(alloc, &mut io::writer(rt))?;
     println!(rt; "recorded calls {calls} objects {objects}")?;
     Ok(())
