@@ -5,7 +5,7 @@ use Rattle.rh_syntax.specs.Spelling.{Script}
 use Rattle.rh_pace.specs.declared.errors.PaceError.{PaceError}
 use Rattle.rh_pace.specs.declared.errors.PaceError.TheVariants.{RatioTooLow, TooSmall}
 use Rattle.rh_pace.specs.declared.pace.Pace.{Pace}
-use Rattle.rh_pace.specs.Pace.{CanKeepUp, IsLowestFilling, KeepsUp, words_left}
+use Rattle.rh_pace.specs.Pace.{AsksForLog, CanKeepUp, IsLowestFilling, KeepsUp, words_left}
 use Rattle.rh_paced_trace.specs.Lines.{biggest_of, commands_in}
 
 -- the pace that begins a cycle where fewer words than the mark are free
@@ -13,12 +13,13 @@ abbrev pub pace_at : ℕ → Header → Pace
 pace_at mark header = record { mark = mark; store_units = header.ratio; log_limit = header.log }
 
 -- The filling pace of a space of so many words: the lowest that keeps up with all words that it
--- leaves. Or why there is none: the ratio is less than 4, or else the space has fewer words than are
+-- leaves, with a log for its lag. Or why there is none: the ratio is less than 4, or else the space has fewer words than are
 -- needed, which are told.
 abbrev pub IsFilling : ℕ → ℕ → ℕ → Result Pace PaceError → Type 0
 IsFilling words biggest ratio (Ok pace) =
     KeepsUp words (words_left words pace) biggest ratio pace
-    × IsLowestFilling words biggest ratio pace × CanKeepUp words (biggest + 1) biggest ratio
+    × IsLowestFilling words biggest ratio pace × AsksForLog biggest pace
+    × CanKeepUp words (biggest + 1) biggest ratio
 IsFilling words biggest ratio (Err RatioTooLow) = ratio < 4
 IsFilling words biggest ratio (Err (TooSmall need)) =
     (4 ≤ ratio) × (words < need)

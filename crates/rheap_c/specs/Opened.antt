@@ -7,7 +7,7 @@ use Rattle.rh_mutator.specs.Mutator.{StandsFor}
 use Rattle.rh_core.specs.Heap.{new_heap}
 use Rattle.rh_pace.specs.declared.pace.Pace.{Pace}
 use Rattle.rh_pace.specs.InTime.{IsInTime}
-use Rattle.rh_pace.specs.Pace.{IsLowest, IsLowestFilling, KeepsUp, words_left}
+use Rattle.rh_pace.specs.Pace.{AsksForLog, IsLowest, IsLowestFilling, KeepsUp, words_left}
 use Rattle.rh_pace.specs.Paced.{PacedState, paced_heap}
 use Rattle.rheap_c.specs.declared.opening.OpenFault.{OpenFault}
 use Rattle.rheap_c.specs.declared.opening.OpenFault.TheVariants.{NoPace, BadSizes, NoMemory}
@@ -53,16 +53,17 @@ Opens Fits can config end =
     ((end ≡ Err NoPace) × ¬ can)
     ⊎ (can × (pace : Pace) × Fits pace × MakesAt (config pace) pace end)
 
--- the pace with the lowest mark that keeps up with so many live words
+-- the pace with the lowest mark that keeps up with so many live words, and a log for its lag
 abbrev pub IsPaceFor : ℕ → ℕ → ℕ → ℕ → Pace → Type 0
 IsPaceFor words live biggest ratio pace =
     KeepsUp words live biggest ratio pace × IsLowest words live biggest ratio pace
+    × AsksForLog biggest pace
 
--- the pace with the lowest mark that keeps up with all that it leaves
+-- the pace with the lowest mark that keeps up with all that it leaves, and a log for its lag
 abbrev pub IsFillingPace : ℕ → ℕ → ℕ → Pace → Type 0
 IsFillingPace words biggest ratio pace =
     KeepsUp words (words_left words pace) biggest ratio pace
-    × IsLowestFilling words biggest ratio pace
+    × IsLowestFilling words biggest ratio pace × AsksForLog biggest pace
 
 -- the status where no heap was opened
 abbrev pub status_of_fault : OpenFault → ℕ

@@ -12,7 +12,7 @@ use Rattle.rh_core.specs.declared.errors.HeapError.{HeapError}
 use Rattle.rh_core.specs.declared.errors.HeapError.TheVariants as errors
 use Rattle.rh_core.specs.Heap.{new_heap}
 use Rattle.rh_pace.specs.declared.pace.Pace.{Pace}
-use Rattle.rh_pace.specs.Pace.{IsLowest, KeepsUp, paced_by}
+use Rattle.rh_pace.specs.Pace.{AsksForLog, IsLowest, KeepsUp, paced_by}
 use Rattle.rh_pace.specs.InTime.{paced_after, paced_replies}
 use Rattle.rh_pace.specs.Paced.{PacedState, paced_heap}
 use Rattle.rh_pace.specs.Worked.{one_joins, one_leaves, queue_calls, times}
@@ -73,13 +73,13 @@ abbrev pub config_at : Pace → Config
 config_at pace = record queue_config { log_limit = pace.log_limit }
 
 -- the pace of the queue: of the lowest mark, since its own keeps up
-pace-queue : (pace : Pace) → KeepsUp 2218 1000 4 8 pace → IsLowest 2218 1000 4 8 pace → KeepsUp 2218 1000 4 8 (paced_by 601 4 8) → pace ≡ paced_by 601 4 8
-pace-queue pace up lowest own =
+pace-queue : (pace : Pace) → KeepsUp 2218 1000 4 8 pace → IsLowest 2218 1000 4 8 pace → AsksForLog 4 pace → KeepsUp 2218 1000 4 8 (paced_by 601 4 8) → pace ≡ paced_by 601 4 8
+pace-queue pace up lowest asks own =
     let most : pace.mark ≤ 609 = lowest (paced_by 601 4 8) own in
     let enough = up.enough in
     let room = up.room in
     let mark : pace.mark ≡ 609 = omega (arith, most, enough, room) in
-    let log : pace.log_limit ≡ 603 = up.log_limit ∙ ap (λ (m : ℕ). min (m - 8 + 2) 1048576) mark in
+    let log : pace.log_limit ≡ 603 = asks.log_limit ∙ ap (λ (m : ℕ). min (m - 8 + 2) 1048576) mark in
     λ k. record { mark = mark k; store_units = up.store_units k; log_limit = log k }
 
 -- So a heap that is made so is the queue's, whatever pace that is, and is led to where its calls lead.
@@ -88,19 +88,19 @@ module _ (own : KeepsUp 2218 1000 4 8 (paced_by 601 4 8)) (rounds : ℕ) where
   abbrev pub queue_last : PacedState
   queue_last = paced_after queue_heap (queue_calls 248 rounds)
 
-  pub made-leads : (pace : Pace) → KeepsUp 2218 1000 4 8 pace → IsLowest 2218 1000 4 8 pace → (c : Config) → c ≡ config_at pace → (s : PacedState) → s ≡ paced_heap (new_heap c) pace
+  pub made-leads : (pace : Pace) → KeepsUp 2218 1000 4 8 pace → IsLowest 2218 1000 4 8 pace → AsksForLog 4 pace → (c : Config) → c ≡ config_at pace → (s : PacedState) → s ≡ paced_heap (new_heap c) pace
       → All (λ reply. IsOk reply) (paced_replies queue_heap (queue_calls 248 rounds)) → LeadTo s (queue_calls 248 rounds) queue_last
-  made-leads pace up lowest c is s made accepted =
-      let same = pace-queue pace up lowest own in
+  made-leads pace up lowest asks c is s made accepted =
+      let same = pace-queue pace up lowest asks own in
       let config : c ≡ queue_config = is ∙ ap config_at same in
       let made_so : s ≡ queue_heap = made ∙ (λ k. paced_heap (new_heap (config k)) (same k)) in
       let leads : LeadTo queue_heap (queue_calls 248 rounds) queue_last = record { accepted = accepted; after = refl } in
       subst (λ (t : PacedState). LeadTo t (queue_calls 248 rounds) queue_last) (sym made_so) leads
 
 -- Nothing but memory keeps it from being made.
-pub only-memory : (own : KeepsUp 2218 1000 4 8 (paced_by 601 4 8)) (pace : Pace) → KeepsUp 2218 1000 4 8 pace → IsLowest 2218 1000 4 8 pace → (c : Config) → c ≡ config_at pace
+pub only-memory : (own : KeepsUp 2218 1000 4 8 (paced_by 601 4 8)) (pace : Pace) → KeepsUp 2218 1000 4 8 pace → IsLowest 2218 1000 4 8 pace → AsksForLog 4 pace → (c : Config) → c ≡ config_at pace
     → (error : HeapError) → ((f : ConfigFault) → error ≡ errors.Config f → fault_of c ≡ Some f) → problems.Heap error ≡ problems.Heap errors.OutOfMemory
-only-memory own pace up lowest c is (errors.Config f) told =
-    let config : c ≡ queue_config = is ∙ ap config_at (pace-queue pace up lowest own) in
+only-memory own pace up lowest asks c is (errors.Config f) told =
+    let config : c ≡ queue_config = is ∙ ap config_at (pace-queue pace up lowest asks own) in
     absurd (none-some f (sym sound ∙ sym (ap fault_of config) ∙ told f refl))
-only-memory own pace up lowest c is errors.OutOfMemory told = refl
+only-memory own pace up lowest asks c is errors.OutOfMemory told = refl

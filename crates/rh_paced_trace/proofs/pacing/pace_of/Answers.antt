@@ -7,5 +7,5 @@ pub returns-in-None : goal.returns-in-None
 returns-in-None c =
     let h = c.args.header in
     let told = c.filling.ensures in
-    let filled = filling h.words c.biggest_of.result h.ratio c.filling.result told.keeps_up told.lowest told.exactly told.ratio told.need in
+    let filled = filling h.words c.biggest_of.result h.ratio c.filling.result told.keeps_up told.lowest told.log_limit told.exactly told.ratio told.need in
     rw c.in-None.is (subst (λ (n : ℕ). IsFilling h.words n h.ratio c.filling.result) c.biggest_of.ensures filled)
