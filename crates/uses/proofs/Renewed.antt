@@ -1,5 +1,5 @@
 -- A heap that serves renewals serves one fewer after each.
-use Rattle.std.proofs.Common.{◌≡◌, ℕ, zero, suc, ◌+◌, ◌-◌, ◌<◌, ◌≤◌, false, List, [], ◌∷◌, ◌++◌, length, Result, refl, ap, subst, ◌∙◌, arith}
+use Rattle.std.proofs.Common.{◌≡◌, ℕ, suc, ◌+◌, ◌-◌, ◌<◌, ◌≤◌, false, List, [], ◌∷◌, ◌++◌, length, Result, refl, ap, subst, ◌∙◌, arith}
 use Rattle.std.specs.Prelude.{IsOk, is_ok, slice_set}
 use Rattle.rh_layout.specs.Shape.{shape_of}
 use Rattle.rh_layout.specs.declared.value.Value.{Value}
