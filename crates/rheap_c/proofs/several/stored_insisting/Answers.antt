@@ -1,5 +1,10 @@
+use Rattle.std.proofs.Common.{rules}
 use Rattle.rheap_c.proofs.Unless.{AreStored-again}
 use Rattle.rheap_c.proofs.several.stored_insisting.Goals as goal
+
+pub returns-then-status-ne-LOG_FULL-clause-not_full
+    : goal.returns-then-status-ne-LOG_FULL-clause-not_full
+returns-then-status-ne-LOG_FULL-clause-not_full c = search rules
 
 pub returns-clause-not_full : goal.returns-clause-not_full
 returns-clause-not_full c =
