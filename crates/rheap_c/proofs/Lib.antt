@@ -2,6 +2,7 @@ pub mod Boxes
 pub mod Handles
 pub mod Openings
 pub mod Readings
+pub mod Rows
 pub mod Runs
 pub mod InTime
 pub mod Refused

@@ -1,25 +1,33 @@
 -- Calls that were made one after the other make one run, whose answers are a plain heap's.
-use Rattle.std.proofs.Common.{◌≡◌, ℕ, zero, suc, drop, take, inl, inr, List, [], ◌∷◌, refl, sym, ap, ◌∙◌, subst}
-use Rattle.std.specs.Prelude.{All, map, Option, Some, None, Result, Ok, Err}
+use Rattle.std.proofs.Common.{◌≡◌, ℕ, zero, suc, ℤ, drop, take, inl, inr, List, [], ◌∷◌, length, refl, sym, ap, ◌∙◌, subst}
+use Rattle.std.specs.Prelude.{All, map, Option, Some, None, Result, Err}
 use Rattle.std.proofs.lemmas.List.Elements.{All-nil, All-cons}
 use Rattle.rh_layout.specs.declared.command.Command.{Command}
 use Rattle.rh_layout.specs.declared.command.Command.TheVariants.{Copy, Load, Same}
 use Rattle.rh_layout.specs.declared.command.Reply.{Reply}
 use Rattle.rh_layout.specs.declared.refusal.Refusal.{Refusal}
-use Rattle.rh_layout.specs.declared.refusal.Refusal.TheVariants.{NoRoot, NotYours, NotObject, NoField, RawField, IntRange, FieldsRange, SpaceFull, LogFull, NumbersSpent}
+use Rattle.rh_layout.specs.declared.command.RootId.{RootId}
+use Rattle.rh_model.specs.Graph.{Graph}
 use Rattle.rh_model.specs.Plain.{PlainHeap, step}
-use Rattle.rh_mutator.specs.Commands.{AnswersAs, is_limit_answer, plain_unless}
-use Rattle.rh_mutator.specs.Mutator.{StandsFor}
+use Rattle.rh_mutator.specs.Commands.{AnswersAs, plain_unless}
+use Rattle.rh_mutator.specs.LoadingAll.{AreLoaded, field_loads, number_told}
+use Rattle.rh_mutator.specs.Mutator.{MutatorState, StandsFor, graph_of}
+use Rattle.rh_mutator.specs.StoringAll.{first_refusal, log_limit_for, number_stores}
 use Rattle.rh_pace.specs.Calls.{IsTransparent}
 use Rattle.rh_pace.specs.InTime.{paced_after, paced_replies}
 use Rattle.rh_pace.specs.Paced.{PacedState, paced_step}
+use Rattle.rh_pace.proofs.StoringAll.{first_refusal-met, first_refusal-plain}
 use Rattle.rheap_c.specs.declared.value.RheapValue.{RheapValue}
 use Rattle.rheap_c.specs.Collected.{collect_status}
 use Rattle.rheap_c.specs.Read.{field_answer, peek_answer, root_answer}
-use Rattle.rheap_c.specs.Runs.{Answer, Call, IsMade, AreMade, after_call, answer_to, after_calls, answers_to, doing, is_limit_status, plain_after_call, plain_after_command, plain_after_calls, tells, DoesAsPlain, TellsAsPlain, TellAsPlain, with_count, with_same, with_status, with_value}
-use Rattle.rheap_c.specs.Runs.Call.{Does, Loads, Compares, InsistsOn, CollectsNow, IncrementsNow, Peeks, ReadsField, ReadsRoot, Counts, TellsNumbers}
+use Rattle.rheap_c.specs.Rows.{after_row, read_into, ready_for, row_refusal, row_status}
+use Rattle.rheap_c.specs.Several.{AreReadUnless, AreStored}
+use Rattle.rheap_c.specs.Runs.{Answer, Call, IsMade, AreMade, after_call, answer_to, after_calls, answers_to, doing, is_limit_status, command_of, question_of, row_of, plain_after_call, plain_after_command, plain_after_row, plain_after_calls, tells, DoesAsPlain, StoresAsPlain, TellsAsPlain, TellAsPlain, with_count, with_numbers, with_read, with_same, with_status, with_value}
+use Rattle.rheap_c.specs.Runs.Call.{Does, Loads, Compares, InsistsOn, CollectsNow, IncrementsNow, Peeks, ReadsField, ReadsRoot, Counts, TellsNumbers, StoresInts, InsistsOnInts, LoadsInts}
 use Rattle.rheap_c.specs.Told.{same_told, status_of, told_value}
 use Rattle.rheap_c.proofs.Readings.{field_answer-plain, peek_answer-plain, root_answer-plain}
+use Rattle.rheap_c.proofs.Rows.{AreStoredInsisting-ready, AreStoredInsisting-stands, AreStoredUnless-after, AreStoredUnless-plain, AreStoredUnless-status, is_limit_status-status_of, log_limit_for-IsOnlyLimit, read_into-loaded}
+use Rattle.rheap_c.proofs.Unless.{asked-no_limit}
 
 -- One run.
 
@@ -32,6 +40,42 @@ both_same {m} {n} {x} {y} e f = ap (λ status. with_same status x) e ∙ ap (λ 
 
 both_count : {m n x y : ℕ} → m ≡ n → x ≡ y → with_count m x ≡ with_count n y
 both_count {m} {n} {x} {y} e f = ap (λ status. with_count status x) e ∙ ap (λ count. with_count n count) f
+
+both_numbers : {m n x y : ℕ} (numbers : List ℤ) → m ≡ n → x ≡ y → with_numbers m numbers x ≡ with_numbers n numbers y
+both_numbers {m} {n} {x} {y} numbers e f = ap (λ status. with_numbers status numbers x) e ∙ ap (with_numbers n numbers) f
+
+module _ (s : PacedState) (new : Option PacedState) (owner : ℕ) (object : RootId) (from : ℕ)
+    (numbers : List ℤ) (status : ℕ) (stored : AreStored (Some s) new owner object from numbers status) where
+  AreStored-after : new ≡ Some (after_row s owner object from numbers)
+  AreStored-after = stored.1 ∙ ap Some (AreStoredUnless-after (row_refusal s owner object from numbers) s stored.0 (number_stores owner object from numbers) status stored.2)
+
+  AreStored-status : status ≡ row_status (row_refusal s owner object from numbers)
+  AreStored-status = AreStoredUnless-status (row_refusal s owner object from numbers) s stored.0 (number_stores owner object from numbers) status stored.2
+
+-- what is read is told, by the heap and by the plain heap
+module _ (s : PacedState) (owner : ℕ) (object : RootId) (from : ℕ) (before : List ℤ) (a : Answer)
+    (shape : a ≡ with_numbers a.status a.numbers a.count) where
+  told_read : (load : ℕ → Result Reply Refusal) → AreLoaded (λ f. number_told (load f)) from before a.numbers a.count → a.status ≡ 0
+      → a ≡ with_read None before (read_into (λ f. number_told (load f)) from before)
+  told_read load loaded zero_is =
+      shape ∙ both_numbers a.numbers zero_is refl
+      ∙ ap (λ (read : List ℤ × ℕ). with_read None before read) (sym (read_into-loaded (λ f. number_told (load f)) from before a.numbers a.count loaded))
+
+  told_unread : (why : Refusal) (read : List ℤ × ℕ) → a.numbers ≡ before → a.count ≡ 0 → a.status ≡ status_of (Err why) → a ≡ with_read (Some why) before read
+  told_unread why read same none rank = shape ∙ both_numbers a.numbers rank none ∙ ap (λ numbers. with_numbers (status_of (Err why)) numbers 0) same
+
+  AreReadUnless-told : (r : Option Refusal) → AreReadUnless r s owner object from before a.numbers a.count a.status
+      → a ≡ with_read r before (read_into (λ f. number_told (paced_step s owner (Load object object f)).1) from before)
+  AreReadUnless-told None (read, zero_is) = told_read (λ f. (paced_step s owner (Load object object f)).1) read.loaded zero_is
+  AreReadUnless-told (Some why) (same, none, rank) =
+      told_unread why (read_into (λ f. number_told (paced_step s owner (Load object object f)).1) from before) same none rank
+
+  AreReadUnless-plain : (p : PlainHeap) → StandsFor s.heap.mutators p → (r : Option Refusal)
+      → AreReadUnless r s owner object from before a.numbers a.count a.status
+      → a ≡ with_read r before (read_into (λ f. number_told (step p owner (Load object object f)).1) from before)
+  AreReadUnless-plain p stands None (read, zero_is) = told_read (λ f. (step p owner (Load object object f)).1) (read.plain p stands) zero_is
+  AreReadUnless-plain p stands (Some why) (same, none, rank) =
+      told_unread why (read_into (λ f. number_told (step p owner (Load object object f)).1) from before) same none rank
 
 -- a call on a heap leaves what the heap is after it
 pub IsMade-after : (s : PacedState) (new : Option PacedState) (call : Call) (a : Answer)
@@ -47,6 +91,12 @@ IsMade-after s new (ReadsField root field) a ((e, st, v), shape) = e
 IsMade-after s new (ReadsRoot root) a ((e, st, v), shape) = e
 IsMade-after s new (Counts root) a ((e, st, v), shape) = e
 IsMade-after s new TellsNumbers a ((e, st), shape) = e
+IsMade-after s new (StoresInts owner object from numbers) a (stored, shape) =
+    AreStored-after s new owner object from numbers a.status stored
+IsMade-after s new (InsistsOnInts owner object from numbers) a (stored, shape) =
+    AreStored-after (ready_for s owner object from numbers) new owner object from numbers a.status
+    (AreStoredInsisting-ready s owner object from numbers new a.status stored)
+IsMade-after s new (LoadsInts owner object from before) a ((e, read), shape) = e
 
 -- and tells what it tells on that heap
 pub IsMade-answer : (s : PacedState) (new : Option PacedState) (call : Call) (a : Answer)
@@ -67,6 +117,15 @@ IsMade-answer s new (ReadsField root field) a ((e, st, v), shape) = shape ∙ bo
 IsMade-answer s new (ReadsRoot root) a ((e, st, v), shape) = shape ∙ both_values st v
 IsMade-answer s new (Counts root) a ((e, st, v), shape) = shape ∙ both_count st v
 IsMade-answer s new TellsNumbers a ((e, st), shape) = shape ∙ ap with_status st
+IsMade-answer s new (StoresInts owner object from numbers) a (stored, shape) =
+    shape ∙ ap with_status (AreStored-status s new owner object from numbers a.status stored)
+IsMade-answer s new (InsistsOnInts owner object from numbers) a (stored, shape) =
+    shape ∙ ap with_status
+    (AreStored-status (ready_for s owner object from numbers) new owner object from numbers a.status
+    (AreStoredInsisting-ready s owner object from numbers new a.status stored))
+IsMade-answer s new (LoadsInts owner object from before) a ((e, read), shape) =
+    AreReadUnless-told s owner object from before a shape
+    (first_refusal (graph_of s.heap.mutators) (field_loads owner object from (length before))) read
 
 -- so do calls one after the other
 pub AreMade-run : (s : PacedState) (new : Option PacedState) (calls : List Call) (more : List Answer)
@@ -131,6 +190,9 @@ IsMade-none new (ReadsField root field) a ((e, st, v), shape) = (e, st)
 IsMade-none new (ReadsRoot root) a ((e, st, v), shape) = (e, st)
 IsMade-none new (Counts root) a ((e, st, v), shape) = (e, st)
 IsMade-none new TellsNumbers a ((e, st), shape) = (e, st)
+IsMade-none new (StoresInts owner object from numbers) a ((e, st), shape) = (e, st)
+IsMade-none new (InsistsOnInts owner object from numbers) a ((e, st), shape) = (e, st)
+IsMade-none new (LoadsInts owner object from before) a ((e, st, same, none), shape) = (e, st)
 
 abbrev IsUnopened : Answer → Type 0
 IsUnopened a = a.status ≡ 12
@@ -146,21 +208,6 @@ AreMade-none new (call ∷ calls) (a ∷ more) (between, made, rest) =
     (further.0, All-cons IsUnopened a more here.1 further.1)
 
 -- As a plain heap.
-
--- a status is a limit's where the answer is
-pub is_limit_status-status_of : (told : Result Reply Refusal)
-    → is_limit_status (status_of told) ≡ is_limit_answer told
-is_limit_status-status_of (Ok reply) = refl
-is_limit_status-status_of (Err NoRoot) = refl
-is_limit_status-status_of (Err NotYours) = refl
-is_limit_status-status_of (Err NotObject) = refl
-is_limit_status-status_of (Err NoField) = refl
-is_limit_status-status_of (Err RawField) = refl
-is_limit_status-status_of (Err IntRange) = refl
-is_limit_status-status_of (Err FieldsRange) = refl
-is_limit_status-status_of (Err (SpaceFull need free)) = refl
-is_limit_status-status_of (Err LogFull) = refl
-is_limit_status-status_of (Err NumbersSpent) = refl
 
 -- what is answered so is told so
 told_as_plain : (owner : ℕ) (command : Command) (tell : Result Reply Refusal → Answer)
@@ -198,42 +245,81 @@ abbrev Plainly : PacedState → Call → Answer → PlainHeap → Type 0
 Plainly s call a p = TellsAsPlain p call a
     × StandsFor (after_call s call).heap.mutators (plain_after_call p call a)
 
-IsMade-plain : (s : PacedState) (new : Option PacedState) (call : Call) (a : Answer) (p : PlainHeap)
+-- a row is stored so
+stored_plain : (s : PacedState) (new : Option PacedState) (owner : ℕ) (object : RootId) (from : ℕ)
+    (numbers : List ℤ) (a : Answer) (p : PlainHeap) → AreStored (Some s) new owner object from numbers a.status
+    → a ≡ with_status a.status → StandsFor s.heap.mutators p
+    → StoresAsPlain (Some (number_stores owner object from numbers)) p a
+    × StandsFor (after_row s owner object from numbers).heap.mutators
+    (plain_after_row (Some (number_stores owner object from numbers)) (is_limit_status a.status) p)
+stored_plain s new owner object from numbers a p (after, e, stored) shape stands =
+    let m : MutatorState = s.heap.mutators in
+    let row : List (ℕ × Command) = number_stores owner object from numbers in
+    let both = AreStoredUnless-plain row s after p a shape stands
+    (first_refusal (graph_of m) row) (log_limit_for (length numbers) m.cycle m.log)
+    (asked-no_limit (graph_of m) row) (log_limit_for-IsOnlyLimit m (length numbers))
+    (first_refusal-met m p stands owner object from numbers) stored in (
+      both.0,
+      subst (λ (t : PacedState). StandsFor t.heap.mutators (plain_after_row (Some row) (is_limit_status a.status) p))
+          (AreStoredUnless-after (row_refusal s owner object from numbers) s after row a.status stored) both.1,
+    )
+
+pub IsMade-plain : (s : PacedState) (new : Option PacedState) (call : Call) (a : Answer) (p : PlainHeap)
     → IsMade (Some s) new call a → StandsFor s.heap.mutators p → Plainly s call a p
 IsMade-plain s new (Does owner command) a p ((told, after, e, done, st), shape) stands =
     let both = transparent_call s after owner command (tells (Does owner command)) p a told st
     (shape ∙ ap with_status st) done.transparent stands in
-    ((both.0, tt), subst (λ t. StandsFor t.heap.mutators (plain_after_call p (Does owner command) a)) done.state both.1)
+    ((both.0, tt, tt, tt), subst (λ t. StandsFor t.heap.mutators (plain_after_call p (Does owner command) a)) done.state both.1)
 IsMade-plain s new (Loads owner dst src field) a p ((told, after, e, done, st, v), shape) stands =
     let call = Loads owner dst src field in
     let both = transparent_call s after owner (Load dst src field) (tells call) p a told st
     (shape ∙ both_values st v)
     done.transparent stands in
-    ((both.0, tt), subst (λ t. StandsFor t.heap.mutators (plain_after_call p call a)) done.state both.1)
+    ((both.0, tt, tt, tt), subst (λ t. StandsFor t.heap.mutators (plain_after_call p call a)) done.state both.1)
 IsMade-plain s new (Compares owner r q) a p ((told, after, e, done, st, v), shape) stands =
     let call = Compares owner r q in
     let both = transparent_call s after owner (Same r q) (tells call) p a told st
     (shape ∙ both_same st v)
     done.transparent stands in
-    ((both.0, tt), subst (λ t. StandsFor t.heap.mutators (plain_after_call p call a)) done.state both.1)
+    ((both.0, tt, tt, tt), subst (λ t. StandsFor t.heap.mutators (plain_after_call p call a)) done.state both.1)
 IsMade-plain s new (InsistsOn owner command) a p ((told, after, e, done, st), shape) stands =
     let call = InsistsOn owner command in
     let both = transparent_call s after owner command (tells call) p a told st
     (shape ∙ ap with_status st) done.transparent stands in
-    ((both.0, tt), subst (λ t. StandsFor t.heap.mutators (plain_after_call p call a)) done.state both.1)
+    ((both.0, tt, tt, tt), subst (λ t. StandsFor t.heap.mutators (plain_after_call p call a)) done.state both.1)
 IsMade-plain s new CollectsNow a p ((told, after, e, done, st), shape) stands =
-    ((tt, tt), subst (λ t. StandsFor t.heap.mutators p) done.state (done.stands p stands))
+    ((tt, tt, tt, tt), subst (λ t. StandsFor t.heap.mutators p) done.state (done.stands p stands))
 IsMade-plain s new IncrementsNow a p ((after, e, done, st), shape) stands =
-    ((tt, tt), subst (λ t. StandsFor t.heap.mutators p) done.state (done.stands p stands))
+    ((tt, tt, tt, tt), subst (λ t. StandsFor t.heap.mutators p) done.state (done.stands p stands))
 IsMade-plain s new (Peeks owner src field) a p made stands =
-    ((tt, asked_as_plain s new (Peeks owner src field) a p made (peek_answer s owner src field) (step p owner (Load src src field)).1 refl (peek_answer-plain s p stands owner src field)), stands)
+    ((tt, asked_as_plain s new (Peeks owner src field) a p made (peek_answer s owner src field) (step p owner (Load src src field)).1 refl (peek_answer-plain s p stands owner src field), tt, tt), stands)
 IsMade-plain s new (ReadsField root field) a p made stands =
-    ((tt, asked_as_plain s new (ReadsField root field) a p made (field_answer s root field) (step p root.owner (Load root root field)).1 refl (field_answer-plain s p stands root field)), stands)
+    ((tt, asked_as_plain s new (ReadsField root field) a p made (field_answer s root field) (step p root.owner (Load root root field)).1 refl (field_answer-plain s p stands root field), tt, tt), stands)
 IsMade-plain s new (ReadsRoot root) a p made stands =
-    ((tt, asked_as_plain s new (ReadsRoot root) a p made (root_answer s root) (step p root.owner (Copy root root)).1 refl (root_answer-plain s p stands root)), stands)
+    ((tt, asked_as_plain s new (ReadsRoot root) a p made (root_answer s root) (step p root.owner (Copy root root)).1 refl (root_answer-plain s p stands root), tt, tt), stands)
 IsMade-plain s new (Counts root) a p made stands =
-    ((tt, asked_as_plain s new (Counts root) a p made (root_answer s root) (step p root.owner (Copy root root)).1 refl (root_answer-plain s p stands root)), stands)
-IsMade-plain s new TellsNumbers a p made stands = ((tt, tt), stands)
+    ((tt, asked_as_plain s new (Counts root) a p made (root_answer s root) (step p root.owner (Copy root root)).1 refl (root_answer-plain s p stands root), tt, tt), stands)
+IsMade-plain s new TellsNumbers a p made stands = ((tt, tt, tt, tt), stands)
+IsMade-plain s new (StoresInts owner object from numbers) a p (stored, shape) stands =
+    let both = stored_plain s new owner object from numbers a p stored shape stands in
+    ((tt, tt, both.0, tt), both.1)
+IsMade-plain s new (InsistsOnInts owner object from numbers) a p (stored, shape) stands =
+    let both = stored_plain (ready_for s owner object from numbers) new owner object from numbers a p
+    (AreStoredInsisting-ready s owner object from numbers new a.status stored) shape
+    (AreStoredInsisting-stands s owner object from numbers new a.status p stored stands) in
+    ((tt, tt, both.0, tt), both.1)
+IsMade-plain s new (LoadsInts owner object from before) a p ((e, read), shape) stands =
+    let g : Graph = graph_of s.heap.mutators in
+    let loads = field_loads owner object from (length before) in (
+      (
+        tt,
+        tt,
+        tt,
+        AreReadUnless-plain s owner object from before a shape p stands (first_refusal g loads) read
+            ∙ ap (λ r. with_read r before (read_into (λ f. number_told (step p owner (Load object object f)).1) from before)) (first_refusal-plain s.heap.mutators p stands loads),
+      ),
+      stands,
+    )
 
 -- so do calls one after the other
 pub AreMade-plain : (s : PacedState) (new : Option PacedState) (calls : List Call) (more : List Answer)
@@ -248,3 +334,21 @@ AreMade-plain s new (call ∷ calls) (a ∷ more) p (between, made, rest) stands
     let further = AreMade-plain (after_call s call) new calls more (plain_after_call p call a)
     (subst (λ b. AreMade b new calls more) (IsMade-after s between call a made) rest) here.1 in
     ((here.0, further.0), further.1)
+
+-- what does a row does no other command, and asks for no answer
+pub row_of-only : (call : Call) (row : List (ℕ × Command)) → row_of call ≡ Some row
+    → (command_of call ≡ None) × (question_of call ≡ None)
+row_of-only (Does owner command) row is = absurd (cc)
+row_of-only (Loads owner dst src field) row is = absurd (cc)
+row_of-only (Compares owner r q) row is = absurd (cc)
+row_of-only (InsistsOn owner command) row is = absurd (cc)
+row_of-only CollectsNow row is = absurd (cc)
+row_of-only IncrementsNow row is = absurd (cc)
+row_of-only (Peeks owner src field) row is = absurd (cc)
+row_of-only (ReadsField root field) row is = absurd (cc)
+row_of-only (ReadsRoot root) row is = absurd (cc)
+row_of-only (Counts root) row is = absurd (cc)
+row_of-only TellsNumbers row is = absurd (cc)
+row_of-only (StoresInts owner object from numbers) row is = (refl, refl)
+row_of-only (InsistsOnInts owner object from numbers) row is = (refl, refl)
+row_of-only (LoadsInts owner object from before) row is = absurd (cc)

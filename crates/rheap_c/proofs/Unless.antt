@@ -1,7 +1,7 @@
 -- What calls for several fields promise, by cases of what refuses them.
 use Rattle.std.proofs.Common.{◌≡◌, ◌≢◌, inl, ℕ, suc, ◌+◌, ℤ, Bool, true, false, List, [], ◌∷◌, length, Option, Some, None, Result, Ok, Err, refl, sym, ap, subst, ◌∙◌, arith}
-use Rattle.std.specs.Prelude.{◌↔◌, nat_lt, if◌then◌else◌}
-use Rattle.std.proofs.lemmas.Bool.{false≢true}
+use Rattle.std.specs.Prelude.{◌↔◌, ◌<◌, nat_lt, ◌&&◌, if◌then◌else◌}
+use Rattle.std.proofs.lemmas.Bool.{false≢true, ltb-true}
 use Rattle.rh_layout.specs.declared.command.Command.{Command}
 use Rattle.rh_layout.specs.declared.command.RootId.{RootId}
 use Rattle.rh_layout.specs.declared.refusal.Refusal.{Refusal}
@@ -10,7 +10,7 @@ use Rattle.rh_layout.specs.Refusal.{is_limit, rank_of}
 use Rattle.rh_layout.specs.Refusing.{first_of}
 use Rattle.rh_model.specs.Graph.{Graph, refusal_of}
 use Rattle.rh_mutator.specs.Mutator.{MutatorState, graph_of}
-use Rattle.rh_mutator.specs.StoringAll.{first_refusal, log_limit_for, number_stores, numbers_refusal}
+use Rattle.rh_mutator.specs.StoringAll.{first_refusal, number_stores, numbers_refusal}
 use Rattle.rh_mutator.specs.lemmas.Limits.{IsNoLimit, refusal_of-IsNoLimit}
 use Rattle.rh_core.specs.declared.outcomes.Flipped.{Flipped}
 use Rattle.rh_pace.specs.declared.errors.EpochsSpent.{EpochsSpent}
@@ -66,7 +66,7 @@ first-no_limit : (a b : Option Refusal) → IsNoLimit a → IsNoLimit b → IsNo
 first-no_limit None b x y = y
 first-no_limit (Some r) b x y = x
 
-asked-no_limit : (g : Graph) (calls : List (ℕ × Command)) → IsNoLimit (first_refusal g calls)
+pub asked-no_limit : (g : Graph) (calls : List (ℕ × Command)) → IsNoLimit (first_refusal g calls)
 asked-no_limit g [] = tt
 asked-no_limit g (call ∷ rest) =
     first-no_limit (refusal_of g call.0 call.1) (first_refusal g rest)
@@ -86,17 +86,25 @@ spent-not_full : (b : Bool) → (if b then Some NumbersSpent else None) ≡ Some
 spent-not_full true is = absurd (cc)
 spent-not_full false is = absurd (cc)
 
--- the log is too full for numbers in a cycle alone
-full-in_cycle : (m : MutatorState) (owner : ℕ) (object : RootId) (from : ℕ) (numbers : List ℤ)
-    → numbers_refusal m owner object from numbers ≡ Some LogFull → m.cycle ≡ true
-full-in_cycle m owner object from numbers is =
-    by m.cycle (full-later (first_refusal (graph_of m) (number_stores owner object from numbers)) _
+-- the log is too full for numbers in a cycle alone, where it has fewer places left
+pub full-places : (m : MutatorState) (owner : ℕ) (object : RootId) (from : ℕ) (numbers : List ℤ)
+    → numbers_refusal m owner object from numbers ≡ Some LogFull
+    → (m.cycle ≡ true) × (m.log.limit < length m.log.entries + length numbers)
+full-places m owner object from numbers is =
+    by m.cycle (nat_lt m.log.limit (length m.log.entries + length numbers)) refl
+    (full-later (first_refusal (graph_of m) (number_stores owner object from numbers)) _
     (asked-no_limit (graph_of m) (number_stores owner object from numbers)) is)
   where
-    by : (cycle : Bool) → log_limit_for (length numbers) cycle m.log ≡ Some LogFull → cycle ≡ true
-    by true full = refl
-    by false full =
-        absurd (spent-not_full (nat_lt m.log.last_number (m.log.number + length numbers)) full)
+    spent : Bool
+    spent = nat_lt m.log.last_number (m.log.number + length numbers)
+
+    by : (cycle full : Bool) → nat_lt m.log.limit (length m.log.entries + length numbers) ≡ full
+        → (if cycle && full then Some LogFull else if spent then Some NumbersSpent else None)
+        ≡ Some LogFull
+        → (cycle ≡ true) × (m.log.limit < length m.log.entries + length numbers)
+    by true true full_is is = (refl, ltb-true m.log.limit (length m.log.entries + length numbers) full_is)
+    by true false full_is is = absurd (spent-not_full spent is)
+    by false full full_is is = absurd (spent-not_full spent is)
 
 rank-full : (why : Refusal) → rank_of why ≡ 9 → why ≡ LogFull
 rank-full NoRoot is = absurd (omega (arith, is))
@@ -133,17 +141,22 @@ module _ (owner : ℕ) (object : RootId) (from : ℕ) (numbers : List ℤ) where
       → AreStoredUnless (numbers_refusal collected.heap.mutators owner object from numbers) collected
       new (number_stores owner object from numbers) status
       → (status ≢ 9) × (numbers_refusal old.heap.mutators owner object from numbers ≡ Some LogFull)
+      × IsCollection old (collect_step old).0 (collect_step old).1
       × AreStoredUnless
       (numbers_refusal (collect_step old).0.heap.mutators owner object from numbers)
       (collect_step old).0 new (number_stores owner object from numbers) status
   AreStored-again old between collected new told first status nine full collects stored =
       let was = status-full (why old) old between given first full nine in
-      let on = full-in_cycle between.heap.mutators owner object from numbers
-      (ap why was.1 ∙ was.0) in
+      let on = (full-places between.heap.mutators owner object from numbers
+      (ap why was.1 ∙ was.0)).0 in
       let off = collects.outside (collects.flips.1 (inl on)) in (
-        λ again. false≢true (sym off ∙ full-in_cycle collected.heap.mutators owner object from numbers
-            (status-full (why collected) collected new given status stored again).0),
+        λ again. false≢true (sym off
+            ∙ (full-places collected.heap.mutators owner object from numbers
+            (status-full (why collected) collected new given status stored again).0).0),
         was.0,
+        subst (λ (s : PacedState). IsCollection s (collect_step s).0 (collect_step s).1) was.1
+            (subst (λ (s : PacedState). IsCollection between s (collect_step between).1) collects.state
+            (subst (IsCollection between collected) collects.answer collects)),
         subst (λ (s : PacedState). AreStoredUnless (why s) s new given status)
             (collects.state ∙ ap (λ (s : PacedState). (collect_step s).0) was.1) stored,
       )

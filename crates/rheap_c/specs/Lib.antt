@@ -10,3 +10,4 @@ pub mod Read
 pub mod Runs
 pub mod Room
 pub mod Several
+pub mod Rows

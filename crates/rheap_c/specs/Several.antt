@@ -16,6 +16,7 @@ use Rattle.rh_pace.specs.Collecting.{collect_step}
 use Rattle.rh_pace.specs.InTime.{paced_after, paced_replies}
 use Rattle.rh_pace.specs.Paced.{PacedState, paced_step}
 use Rattle.rh_pace.specs.PlainBounds.{plain_after}
+use Rattle.rheap_c.specs.Collected.{IsCollection}
 
 -- The heap does each command of a list, and goes on standing for the plain heap that does them.
 pub record AreDone (old new : PacedState) (given : List (ℕ × Command)) : Type 0 where
@@ -37,8 +38,8 @@ AreStored (Some old) new owner object from numbers status =
     × AreStoredUnless (numbers_refusal old.heap.mutators owner object from numbers) old after
     (number_stores owner object from numbers) status
 
--- It stores so, and where the log has too few places for them, it collects first: the log is never
--- full.
+-- It stores so, and where the log has too few places for them, it collects first, as a collection
+-- does: the log is never full.
 abbrev pub AreStoredInsisting
     : Option PacedState → Option PacedState → ℕ → RootId → ℕ → List ℤ → ℕ → Type 0
 AreStoredInsisting None new owner object from numbers status = (new ≡ None) × (status ≡ 12)
@@ -46,6 +47,7 @@ AreStoredInsisting (Some old) new owner object from numbers status =
     (status ≢ 9)
     × (AreStored (Some old) new owner object from numbers status
     ⊎ ((numbers_refusal old.heap.mutators owner object from numbers ≡ Some LogFull)
+    × IsCollection old (collect_step old).0 (collect_step old).1
     × AreStored (Some (collect_step old).0) new owner object from numbers status))
 
 -- The whole numbers that fields hold are read, as the heap's loads tell them, and as the loads of

@@ -6,6 +6,7 @@ ghost use Rattle.rh_mutator.specs.Mutator.{graph_of};
 ghost use Rattle.rh_mutator.specs.LoadingAll.{field_loads};
 ghost use Rattle.rh_mutator.specs.StoringAll.{first_refusal, number_stores, numbers_refusal};
 ghost use Rattle.rh_pace.specs.Collecting.{collect_step};
+ghost use Rattle.rheap_c.specs.Collected.{IsCollection};
 ghost use Rattle.rheap_c.specs.Several.{AreReadUnless, AreStored, AreStoredInsisting, AreStoredUnless, AreTold};
 ghost use Rattle.rheap_c.specs.Told.{root_of};
 
@@ -127,6 +128,7 @@ fn stored_insisting(
         (numbers_refusal heap.old.heap.mutators owner object from numbers.now)
         heap.old heap.new (number_stores owner object from numbers.now) result
         ⊎ ((numbers_refusal heap.old.heap.mutators owner object from numbers.now ≡ Some LogFull)
+        × IsCollection heap.old (collect_step heap.old).0 (collect_step heap.old).1
         × AreStoredUnless (numbers_refusal (collect_step heap.old).0.heap.mutators owner object from
         numbers.now) (collect_step heap.old).0 heap.new
         (number_stores owner object from numbers.now) result) }

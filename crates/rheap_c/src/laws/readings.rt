@@ -1,16 +1,20 @@
 //! Laws of readings.
 
-ghost use Rattle.std.specs.Prelude.{◌≡◌, ℕ, ℤ, true, false, List, length, Some};
+ghost use Rattle.std.specs.Prelude.{◌≡◌, ℕ, ℤ, true, false, List, length, None, Some};
 ghost use Rattle.rh_layout.specs.declared.command.Command.TheVariants.{Copy, Load};
 ghost use Rattle.rh_layout.specs.declared.command.RootId.{RootId};
+ghost use Rattle.rh_layout.specs.declared.refusal.Refusal.{Refusal};
+ghost use Rattle.rh_layout.specs.Refusal.{rank_of};
 ghost use Rattle.rh_layout.specs.declared.value.Value.{Value};
 ghost use Rattle.rh_layout.specs.declared.value.Value.TheVariants.{Nil, Int, Ref};
 ghost use Rattle.rh_layout.specs.Root.{has_root, may_use};
 ghost use Rattle.rh_model.specs.Graph.{root_value};
+ghost use Rattle.rh_mutator.specs.LoadingAll.{AreLoaded, field_loads, number_told};
+ghost use Rattle.rh_mutator.specs.StoringAll.{first_refusal};
 ghost use Rattle.rh_pace.specs.Paced.{PacedState, paced_step};
 ghost use Rattle.rheap_c.specs.Read.{field_answer, graph_in, peek_answer, root_answer};
-ghost use Rattle.rheap_c.specs.Runs.{answer_to, with_count};
-ghost use Rattle.rheap_c.specs.Runs.Call.{Counts};
+ghost use Rattle.rheap_c.specs.Runs.{answer_to, with_count, with_numbers};
+ghost use Rattle.rheap_c.specs.Runs.Call.{Counts, LoadsInts};
 
 /// A reading is answered as a command, which it doesn't do.
 ///
@@ -29,6 +33,25 @@ pub fn readings_answer_as_commands()
         → field_answer s root field ≡ peek_answer s root.owner root field }
     ensures root { (s : PacedState) (root : RootId)
         → root_answer s root ≡ (paced_step s root.owner (Copy root root)).1 }
+{}
+
+/// A row is read as its fields are.
+///
+/// - `read`: where no load of the fields is refused, `rheap_load_ints` has status 0, and what it
+///   reads is what `rheap_peek` tells of these fields, up to the first that holds no whole number.
+/// - `refused`: else its status is that of the first load that is refused, and nothing is read.
+pub fn a_row_is_read_as_its_fields_are()
+    ensures read { (s : PacedState) (owner : ℕ) (object : RootId) (from : ℕ) (before : List ℤ)
+        → first_refusal (graph_in s) (field_loads owner object from (length before)) ≡ None
+        → ((answer_to s (LoadsInts owner object from before)).status ≡ 0)
+        × AreLoaded (λ f. number_told (peek_answer s owner object f)) from before
+        (answer_to s (LoadsInts owner object from before)).numbers
+        (answer_to s (LoadsInts owner object from before)).count }
+    ensures refused { (s : PacedState) (owner : ℕ) (object : RootId) (from : ℕ)
+        (before : List ℤ) (why : Refusal)
+        → first_refusal (graph_in s) (field_loads owner object from (length before)) ≡ Some why
+        → answer_to s (LoadsInts owner object from before)
+        ≡ with_numbers (rank_of why) before 0 }
 {}
 
 /// `rheap_fields` counts the fields of the object that a root names.

@@ -16,13 +16,18 @@ ghost use Rattle.rheap_c.specs.Called.{IsDone};
 ghost use Rattle.rheap_c.specs.Insisted.{IsInsisted};
 ghost use Rattle.rheap_c.specs.Numbers.{room_in};
 ghost use Rattle.rheap_c.specs.Opened.{IsFillingPace, IsNew, IsOpened, IsPaceFor, Opens, config_at};
-ghost use Rattle.rheap_c.specs.Room.{AlwaysFindRoom, AlwaysFindSpace, CallsStayWithin, FindRoomToLimit, InsistsOnNothing, IsRefusedFor};
+ghost use Rattle.rheap_c.specs.Room.{AlwaysFindRoom, AlwaysFindSpace, AreCallsBounded, CallsStayWithin, FindRoomIfFit, FindRoomIfFitToLimit, FindRoomToLimit, InsistsOnNothing, IsRefusedFor, RowFits};
 ghost use Rattle.rheap_c.specs.Runs.{Answer, Call, AreMade, doing};
 
 use rh_core::laws::cycles::a_flip_is_refused_exactly_where_its_cycle_is_not_closed;
 use rh_core::laws::gives::classes_are_told_apart;
-use rh_core::laws::runs::{a_new_heap_is_well_formed, every_event_keeps_a_heap_well_formed};
-use rh_pace::laws::plain_bounds::what_is_bounded_on_a_plain_heap_has_room;
+use rh_core::laws::heaps_answer_as_plain_heaps;
+use rh_core::laws::holds::what_collectors_do_adds_up;
+use rh_core::laws::runs::{
+    a_new_heap_is_well_formed, an_event_answers_as_the_plain_heap,
+    every_event_keeps_a_heap_well_formed,
+};
+use rh_pace::laws::calls::increments_and_collections_are_collector_work;
 use std::alloc::Global;
 
 /// It keeps up. From an open on, calls within the bounds of the pace find room: no status is 8 or 9,
@@ -30,12 +35,14 @@ use std::alloc::Global;
 ///
 /// The bounds are these. No object has more words than the biggest, its fields and 2. Wherever a
 /// cycle begins, also one of a collection, no more words are reached than may live. The log keeps
-/// more entries than the lag of the pace.
+/// more entries than the lag of the pace. Only a call that stores more numbers in a row than the
+/// log keeps entries beyond the lag may have status 9. One that insists never has.
 ///
 /// - `open`: on a heap of `rheap_open`, where `live` words may live.
 /// - `open_sized`: on a heap of `rheap_open_sized`, where as many may live as its pace leaves.
 /// - `open_space`, `open_sized_space`: whatever the log keeps no status is 8, where no call insists.
 /// - `new`: on any new heap at a pace that keeps up.
+/// - `fit`: where no call stores such a row, all of them find room.
 /// - `commands`: both of a list of commands.
 pub fn calls_within_bounds_find_room()
     ensures open { (words live biggest ratio owners slots status : ℕ) (s : PacedState)
@@ -44,7 +51,7 @@ pub fn calls_within_bounds_find_room()
         → (new : Option PacedState) (calls : List Call) (answers : List Answer)
         → AreMade (Some s) new calls answers → CallsStayWithin live biggest s calls
         → lag_of s.pace biggest < s.heap.mutators.config.log_limit
-        → AlwaysFindRoom s calls answers }
+        → FindRoomIfFit biggest s calls answers }
     ensures open_space { (words live biggest ratio owners slots status : ℕ) (s : PacedState)
         → IsOpened (Opens (IsPaceFor words live biggest ratio) (CanKeepUp words live biggest ratio)
         (λ pace. config_at pace words ratio owners slots)) None (Some s) status
@@ -59,7 +66,7 @@ pub fn calls_within_bounds_find_room()
         → AreMade (Some s) new calls answers
         → CallsStayWithin (words_left words s.pace) biggest s calls
         → lag_of s.pace biggest < s.heap.mutators.config.log_limit
-        → AlwaysFindRoom s calls answers }
+        → FindRoomIfFit biggest s calls answers }
     ensures open_sized_space { (words biggest ratio owners slots status : ℕ) (s : PacedState)
         → IsOpened (Opens (IsFillingPace words biggest ratio)
         (CanKeepUp words (biggest + 1) biggest ratio)
@@ -73,6 +80,10 @@ pub fn calls_within_bounds_find_room()
         → lag_of pace biggest < config.log_limit
         → (new : Option PacedState) (calls : List Call) (answers : List Answer)
         → AreMade (Some s) new calls answers → CallsStayWithin live biggest s calls
+        → FindRoomIfFit biggest s calls answers }
+    ensures fit { (biggest : ℕ) (s : PacedState) (calls : List Call) (answers : List Answer)
+        → FindRoomIfFit biggest s calls answers
+        → All (RowFits (lag_of s.pace biggest) s.heap.mutators.config.log_limit) calls
         → AlwaysFindRoom s calls answers }
     ensures commands { (config : Config) (pace : Pace) (s : PacedState) → IsNew config pace s
         → (live biggest : ℕ) → KeepsUp config.words live biggest config.ratio pace
@@ -91,8 +102,20 @@ pub fn calls_within_bounds_find_room()
 /// told of a plain heap, which never collects: no command makes an object of more than the biggest
 /// words, and after none are more words reached than may live. Then no status is 8 or 9, unless the
 /// epochs were spent before that call. It is so up to the first status of a limit.
+///
+/// - `calls`: of any calls, but for a row of more numbers than the log keeps entries beyond the
+///   lag. A row that is stored is the list of its stores there. Where a call collects, no more words
+///   are reached than may live.
+/// - `commands`: of a list of commands.
 pub fn calls_bounded_on_a_plain_heap_find_room()
-    ensures { (config : Config) (pace : Pace) (s : PacedState) → IsNew config pace s
+    ensures calls { (config : Config) (pace : Pace) (s : PacedState) → IsNew config pace s
+        → (live biggest : ℕ) → KeepsUp config.words live biggest config.ratio pace
+        → lag_of pace biggest < config.log_limit
+        → (new : Option PacedState) (calls : List Call) (answers : List Answer)
+        → AreMade (Some s) new calls answers
+        → AreCallsBounded live biggest (empty_plain config.owners config.slots) calls
+        → FindRoomIfFitToLimit biggest s calls answers }
+    ensures commands { (config : Config) (pace : Pace) (s : PacedState) → IsNew config pace s
         → (live biggest : ℕ) → KeepsUp config.words live biggest config.ratio pace
         → lag_of pace biggest < config.log_limit
         → (new : Option PacedState) (given : List (ℕ × Command)) (answers : List Answer)
@@ -100,7 +123,14 @@ pub fn calls_bounded_on_a_plain_heap_find_room()
         → AreBounded live biggest (empty_plain config.owners config.slots) given
         → FindRoomToLimit s (map doing given) answers }
 {
-    what_is_bounded_on_a_plain_heap_has_room::<Global>();
+    every_event_keeps_a_heap_well_formed::<Global>();
+    an_event_answers_as_the_plain_heap::<Global>();
+    what_collectors_do_adds_up::<Global>();
+    increments_and_collections_are_collector_work::<Global>();
+    a_new_heap_is_well_formed();
+    heaps_answer_as_plain_heaps();
+    classes_are_told_apart();
+    a_flip_is_refused_exactly_where_its_cycle_is_not_closed();
 }
 
 /// Status 8 is the refusal `SpaceFull` with the numbers that `rheap_room` tells next, of which more

@@ -1,4 +1,5 @@
 use Rattle.std.proofs.Common.{refl}
+use Rattle.rheap_c.proofs.Runs.{row_of-only}
 use Rattle.rheap_c.proofs.laws.runs.calls_are_these_commands.Goals as goal
 
 pub returns : goal.returns
@@ -8,4 +9,7 @@ returns c = record {
   only_does = λ owner command dst src a b field. (refl, refl, refl, refl);
   only_asks = λ owner src root field. (refl, refl, refl, refl);
   neither = (refl, refl, refl, refl, refl, refl);
+  neither_in_a_row = λ owner object from numbers. (refl, refl, refl, refl, refl, refl);
+  rows = λ owner object from numbers. (refl, refl, refl);
+  only_rows = row_of-only;
 }

@@ -14,4 +14,7 @@ returns c = record {
   field = λ old new root field status value done. (done, refl);
   root = λ old new root status value done. (done, refl);
   counts = λ old new root status count done. (done, refl);
+  stores_ints = λ old new owner object from numbers status done. (done, refl);
+  insists_on_ints = λ old new owner object from numbers status done. (done, refl);
+  loads_ints = λ old new owner object from before after count status done. (done, refl);
 }
