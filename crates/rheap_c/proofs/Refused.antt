@@ -1,7 +1,7 @@
 -- Which numbers a refusal has that says that there is no room for an object.
 use Rattle.std.proofs.Common.{◌≡◌, inl, inr, ℕ, ◌+◌, ◌<◌, Bool, true, false, Option, Some, None, Result, Ok, Err, refl, sym, ap, subst, ◌∙◌, arith}
-use Rattle.std.specs.Prelude.{nat_lt, if◌then◌else◌}
-use Rattle.std.proofs.lemmas.Bool.{true≢false, ltb-true}
+use Rattle.std.specs.Prelude.{◌↔◌, nat_lt, if◌then◌else◌}
+use Rattle.std.proofs.lemmas.Bool.{true≢false, ltb-false, ltb-true}
 use Rattle.std.proofs.lemmas.Option.{same_Some}
 use Rattle.rh_layout.specs.Refusal.{is_limit}
 use Rattle.rh_layout.specs.Refusing.{first_of}
@@ -26,8 +26,11 @@ use Rattle.rh_pace.proofs.kept_up.Insisting.{paced_step-refused}
 use Rattle.rheap_c.specs.Called.{IsDone}
 use Rattle.rheap_c.specs.Insisted.{IsInsisted}
 use Rattle.rheap_c.specs.Numbers.{room_in}
+use Rattle.rheap_c.specs.Read.{graph_in}
 use Rattle.rheap_c.specs.Room.{IsRefusedFor}
+use Rattle.rheap_c.specs.Runs.{is_limit_status}
 use Rattle.rheap_c.specs.Told.{status_of}
+use Rattle.rheap_c.proofs.Rows.{is_limit_status-status_of}
 
 -- status 8 is this refusal
 pub full_told : (told : Result Reply Refusal) → 8 ≡ status_of told → (need : ℕ) × (free : ℕ) × (told ≡ Err (SpaceFull need free))
@@ -56,6 +59,22 @@ numbers-by (Some why) full h command needs now need free asked is answer =
 numbers-by None true h command needs now need free asked is answer =
     record { same_need = cc; same_free = cc; less = ltb-true now needs is }
 numbers-by None false h command needs now need free asked is answer = absurd (cc)
+
+-- status 8 exactly where nothing is asked that is refused, and more words are needed than are free
+abbrev IsFullExactly : ℕ → Option Refusal → ℕ → ℕ → Type 0
+IsFullExactly status asked free need = (status ≡ 8) ↔ ((asked ≡ None) × (free < need))
+
+full-by : (asked : Option Refusal) (full : Bool) (h : HeapState) (command : Command) (needs now : ℕ) → IsNoLimit asked → nat_lt now needs ≡ full
+    → IsFullExactly (status_of (heap_step_unless (first_of asked (if full then Some (SpaceFull needs now) else None)) h command).1) asked now needs
+full-by (Some why) full h command needs now none is = (
+  λ eight. absurd (true≢false (sym (ap is_limit_status eight) ∙ is_limit_status-status_of (Err why) ∙ none)),
+  λ both. absurd (let some = both.0 in cc),
+)
+full-by None true h command needs now none is = (λ eight. (refl, ltb-true now needs is), λ both. refl)
+full-by None false h command needs now none is = (
+  λ eight. absurd (omega (arith, eight)),
+  λ both. absurd (let less = both.1 in omega (arith, less, ltb-false now needs is)),
+)
 
 module _ (command : Command) (fields : ℕ) (raw : Bool) (limit : (m : MutatorState) → limit_of m command ≡ space_limit_of m.space (shape_of fields raw)) where
   numbers-heap_step : (h : HeapState) (owner need free : ℕ) → (heap_step h owner command).1 ≡ Err (SpaceFull need free)
@@ -105,6 +124,27 @@ module _ (command : Command) (fields : ℕ) (raw : Bool) (limit : (m : MutatorSt
         ]
       ]
 
+  -- The other way too: it is refused so exactly where fewer are free.
+  answer-paced_step : (s : PacedState) (owner : ℕ) → (paced_step s owner command).1 ≡ (heap_step s.heap owner command).1
+  unfolding paced_step
+  answer-paced_step s owner = refl
+
+  full-heap_step : (h : HeapState) (owner : ℕ) → IsFullExactly (status_of (heap_step h owner command).1) (refusal_of (graph_of h.mutators) owner command) (free_words h.mutators.space) (2 + fields)
+  unfolding heap_step
+  full-heap_step h owner =
+      let asked : Option Refusal = refusal_of (graph_of h.mutators) owner command in
+      subst (λ (l : Option Refusal). IsFullExactly (status_of (heap_step_unless (first_of asked l) h command).1) asked (free_words h.mutators.space) (2 + fields)) (sym (limit h.mutators))
+      (full-by asked (nat_lt (free_words h.mutators.space) (2 + fields)) h command (2 + fields) (free_words h.mutators.space) (refusal_of-IsNoLimit (graph_of h.mutators) owner command) refl)
+
+  done-full : (old : PacedState) (new : PacedState) (owner status : ℕ) → IsDone (Some old) (Some new) owner command status
+      → IsFullExactly status (refusal_of (graph_in old) owner command) (room_in fields old).free (room_in fields old).need
+  done-full old new owner status (told, after, is, done, st) =
+      let exact = full-heap_step old.heap owner in
+      let told_is = st ∙ ap status_of (done.answer ∙ answer-paced_step old owner) in (
+        λ eight. let both = exact.0 (sym told_is ∙ eight) in let less = both.1 in (both.0, omega (arith, less)),
+        λ both. let less = both.1 in told_is ∙ exact.1 (both.0, omega (arith, less)),
+      )
+
 alloc-limit : (dst : RootId) (fields : ℕ) (m : MutatorState) → limit_of m (Alloc dst fields) ≡ space_limit_of m.space (shape_of fields false)
 unfolding limit_of
 alloc-limit dst fields m = refl
@@ -128,3 +168,11 @@ insisted_alloc-refused old new owner dst fields = insisted-refused (Alloc dst fi
 pub insisted_raw-refused : (old new : PacedState) (owner : ℕ) (dst : RootId) (fields : ℕ) → IsInsisted (Some old) (Some new) owner (Raw dst fields) 8
     → IsRefusedFor (room_in fields new) (insist_step old owner (Raw dst fields)).1
 insisted_raw-refused old new owner dst fields = insisted-refused (Raw dst fields) fields true (raw-limit dst fields) old new owner
+
+pub alloc-full : (old new : PacedState) (owner : ℕ) (dst : RootId) (fields status : ℕ) → IsDone (Some old) (Some new) owner (Alloc dst fields) status
+    → IsFullExactly status (refusal_of (graph_in old) owner (Alloc dst fields)) (room_in fields old).free (room_in fields old).need
+alloc-full old new owner dst fields status = done-full (Alloc dst fields) fields false (alloc-limit dst fields) old new owner status
+
+pub raw-full : (old new : PacedState) (owner : ℕ) (dst : RootId) (fields status : ℕ) → IsDone (Some old) (Some new) owner (Raw dst fields) status
+    → IsFullExactly status (refusal_of (graph_in old) owner (Raw dst fields)) (room_in fields old).free (room_in fields old).need
+raw-full old new owner dst fields status = done-full (Raw dst fields) fields true (raw-limit dst fields) old new owner status

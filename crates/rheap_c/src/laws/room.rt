@@ -1,9 +1,10 @@
 //! Laws of the room that calls find.
 
-ghost use Rattle.std.specs.Prelude.{◌+◌, ◌<◌, ℕ, All, List, map, Option, Some, None};
+ghost use Rattle.std.specs.Prelude.{◌≡◌, ◌↔◌, ◌+◌, ◌<◌, ℕ, All, List, map, Option, Some, None};
 ghost use Rattle.rh_layout.specs.declared.command.Command.{Command};
 ghost use Rattle.rh_layout.specs.declared.command.Command.TheVariants.{Alloc, Raw};
 ghost use Rattle.rh_layout.specs.declared.command.RootId.{RootId};
+ghost use Rattle.rh_model.specs.Graph.{refusal_of};
 ghost use Rattle.rh_model.specs.Plain.{empty_plain};
 ghost use Rattle.rh_pace.specs.Collecting.{insist_step};
 ghost use Rattle.rh_pace.specs.InTime.{StayWithin};
@@ -16,6 +17,7 @@ ghost use Rattle.rheap_c.specs.Called.{IsDone};
 ghost use Rattle.rheap_c.specs.Insisted.{IsInsisted};
 ghost use Rattle.rheap_c.specs.Numbers.{room_in};
 ghost use Rattle.rheap_c.specs.Opened.{IsFillingPace, IsNew, IsOpened, IsPaceFor, Opens, config_at};
+ghost use Rattle.rheap_c.specs.Read.{graph_in};
 ghost use Rattle.rheap_c.specs.Room.{AlwaysFindRoom, AlwaysFindSpace, AreCallsBounded, CallsStayWithin, FindRoomIfFit, FindRoomIfFitToLimit, FindRoomToLimit, InsistsOnNothing, IsRefusedFor, RowFits};
 ghost use Rattle.rheap_c.specs.Runs.{Answer, Call, AreMade, doing};
 
@@ -136,10 +138,20 @@ pub fn calls_bounded_on_a_plain_heap_find_room()
 /// Status 8 is the refusal `SpaceFull` with the numbers that `rheap_room` tells next, of which more
 /// is needed than is free.
 ///
+/// - `full`, `raw_full`: a new object has it exactly where nothing that its call asks is refused,
+///   and it needs more words than are free, by the numbers that `rheap_room` tells before the call.
 /// - `alloc`, `raw`: of a new object.
 /// - `insist`, `insist_raw`: of one that was insisted on, where these are the numbers after the
 ///   collections.
 pub fn a_refusal_for_room_has_the_numbers_of_rheap_room()
+    ensures full { (old new : PacedState) (owner : ℕ) (dst : RootId) (fields status : ℕ)
+        → IsDone (Some old) (Some new) owner (Alloc dst fields) status
+        → (status ≡ 8) ↔ ((refusal_of (graph_in old) owner (Alloc dst fields) ≡ None)
+        × ((room_in fields old).free < (room_in fields old).need)) }
+    ensures raw_full { (old new : PacedState) (owner : ℕ) (dst : RootId) (fields status : ℕ)
+        → IsDone (Some old) (Some new) owner (Raw dst fields) status
+        → (status ≡ 8) ↔ ((refusal_of (graph_in old) owner (Raw dst fields) ≡ None)
+        × ((room_in fields old).free < (room_in fields old).need)) }
     ensures alloc { (old new : PacedState) (owner : ℕ) (dst : RootId) (fields : ℕ)
         → IsDone (Some old) (Some new) owner (Alloc dst fields) 8
         → IsRefusedFor (room_in fields new) (paced_step old owner (Alloc dst fields)).1 }
