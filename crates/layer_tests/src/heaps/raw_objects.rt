@@ -30,6 +30,7 @@ fn no_give_puts_a_reference_into_a_raw_object(rt: HostRuntime) {
     expect_equal(&rt, heap.begin(), Ok(1));
     expect_equal(&rt, heap.alloc(1, root(1, 1), 6), Ok(Reply::Object(6)));
     expect_equal(&rt, (heap.raw(0), heap.raw(4)), (Some(true), Some(false)));
+    expect_equal(&rt, (heap.raw(1), heap.raw(12)), (None, None));
     expect_equal(&rt, heap.shade(RAW), Ok(Shaded::Placed));
     let invented = [
         (item(0, 0, 1, Value::Ref(4)), forged(0)),

@@ -207,6 +207,7 @@ fn calls_one_by_one(rt: HostRuntime) {
     expect_equal(&rt, heap.root(A), Some(Value::Nil));
     expect_equal(&rt, heap.root(root(2, 0)), None);
     expect_equal(&rt, heap.fields(1), None);
+    expect_equal(&rt, heap.raw(1), None);
     expect_equal(&rt, heap.command(2, &drop_root(C)), Err(Refusal::NoRoot));
     expect_equal(&rt, heap.alloc_raw(1, B, 1), Ok(Reply::Raw(1)));
 }
