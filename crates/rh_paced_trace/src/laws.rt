@@ -1,6 +1,6 @@
 //! Laws of the definitions alone. Each function does nothing: its contract is the law.
 
-ghost use Rattle.std.specs.Prelude.{◌≡◌, ◌↔◌, ◌⊎◌, ◌+◌, ◌≤◌, ℕ, List, [], length, map, min, take, count_by, slice_get, false, Some, None};
+ghost use Rattle.std.specs.Prelude.{◌≡◌, ◌↔◌, ◌⊎◌, ◌+◌, ◌≤◌, ℕ, List, [], length, map, min, take, count_by, slice_get, false, Some, None, Ok, Err};
 ghost use Rattle.rh_layout.specs.declared.command.Command.{Command as CommandOf};
 ghost use Rattle.rh_layout.specs.declared.command.RootId.{RootId};
 ghost use Rattle.rh_layout.specs.declared.shape.Shape.{Shape};
@@ -14,11 +14,13 @@ ghost use Rattle.rh_syntax.specs.Reading.{fault_at};
 ghost use Rattle.rh_syntax.specs.Spelling.{Script};
 ghost use Rattle.rh_trace.specs.Events.{is_command};
 ghost use Rattle.rh_trace.specs.Run.{config_of};
+ghost use Rattle.rh_pace.specs.declared.errors.PaceError.{PaceError as PaceErrorOf};
 ghost use Rattle.rh_pace.specs.declared.pace.Pace.{Pace as PaceOf};
 ghost use Rattle.rh_pace.specs.InTime.{paced_after, paced_replies};
 ghost use Rattle.rh_pace.specs.Paced.{PacedState};
 ghost use Rattle.rh_pace.specs.Programs.{paced_answers};
 ghost use Rattle.rh_paced_trace.specs.Lines.{AreCommands, Commands, IsFirstOther, biggest_of, commands_in, other_fault};
+ghost use Rattle.rh_paced_trace.specs.Pacing.{IsPaceOf};
 ghost use Rattle.rh_paced_trace.specs.Run.{new_run, sum_of, summary_to};
 
 use rh_core::laws::cycles::{
@@ -75,6 +77,24 @@ pub fn the_biggest_object_is_the_largest_that_a_line_allocates()
         × (biggest_of (commands_in requests) ≡ min shape.fields 4095 + 2)) }
     ensures range { (requests : List RequestOf) → (2 ≤ biggest_of (commands_in requests))
         × (biggest_of (commands_in requests) ≤ 4097) }
+{}
+
+/// A run at a mark has a pace: its cycles begin where fewer words than that mark are free, and each
+/// store in a cycle pays as many units as a word that is allocated. Its log keeps as many entries
+/// as the first line says.
+pub fn a_run_at_a_mark_has_its_pace()
+    ensures mark { (mark : ℕ) (script : Script) (pace : PaceOf)
+        → IsPaceOf (Some mark) script (Ok pace) → pace.mark ≡ mark }
+    ensures store { (mark : ℕ) (script : Script) (pace : PaceOf)
+        → IsPaceOf (Some mark) script (Ok pace)
+        → pace.store_units ≡ (new_run script pace).heap.work.ratio }
+    ensures log { (mark : ℕ) (script : Script) (pace : PaceOf)
+        → IsPaceOf (Some mark) script (Ok pace)
+        → pace.log_limit ≡ (new_run script pace).heap.mutators.config.log_limit }
+    ensures always { (mark : ℕ) (script : Script) → (pace : PaceOf)
+        × IsPaceOf (Some mark) script (Ok pace) }
+    ensures never { (mark : ℕ) (script : Script) (why : PaceErrorOf)
+        → ¬ IsPaceOf (Some mark) script (Err why) }
 {}
 
 /// Each cycle that ends begins the next epoch, and is one flip of the sums: so these tell how many
