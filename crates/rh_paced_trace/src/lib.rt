@@ -11,4 +11,4 @@ mod running;
 pub use fault::PacedFault;
 pub use rh_pace::{Pace, PaceError};
 pub use rh_trace::Summary;
-pub use running::{run_paced, run_paced_logged};
+pub use running::{run_bytes, run_paced, run_paced_logged};

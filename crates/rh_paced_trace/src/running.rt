@@ -73,6 +73,27 @@ fn run_input<A: Allocator + Copy, W: io::Write>(
     }
 }
 
+/// Runs the trace of commands that these bytes spell, as `run_paced` does of what it reads. Nothing
+/// is read, so it is never answered that a read failed.
+///
+/// # Errors
+///
+/// As `run_paced`, but `Read`.
+pub fn run_bytes<A: Allocator + Copy, W: io::Write>(
+    alloc: A,
+    input: &[u8],
+    writer: &mut W,
+    mark: Option<u32>,
+) -> Result<Summary, PacedFault>
+    ensures told { Ends mark input.now result (W.contents writer.old) (W.contents writer.new) }
+    ensures never_read { ¬ IsErrOf result PacedFault.Read }
+{
+    if input.len() > MAX_INPUT_BYTES {
+        return Err(PacedFault::Long);
+    }
+    run_input(alloc, input, mark, writer, &mut IoLog::new())
+}
+
 /// Reads a trace of commands whole, runs its lines in order on a new heap that collects by itself,
 /// and writes a line for each answer and the total line, one line in each write that the writer
 /// takes whole. Nothing is written before the whole trace was read and its heap made; from then on

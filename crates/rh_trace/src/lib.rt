@@ -22,5 +22,5 @@ pub use rh_syntax::{
 };
 pub use rh_text::Write;
 pub use run_fault::RunFault;
-pub use running::{config_of, run_trace, run_trace_logged};
+pub use running::{config_of, run_bytes, run_trace, run_trace_logged};
 pub use summary::Summary;

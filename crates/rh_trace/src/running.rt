@@ -86,6 +86,26 @@ fn run_input<A: Allocator + Copy, W: io::Write>(
     }
 }
 
+/// Runs the trace that these bytes spell, as `run_trace` does of what it reads. Nothing is read, so
+/// it is never answered that a read failed.
+///
+/// # Errors
+///
+/// As `run_trace`, but `Read`.
+pub fn run_bytes<A: Allocator + Copy, W: io::Write>(
+    alloc: A,
+    input: &[u8],
+    writer: &mut W,
+) -> Result<Summary, RunFault>
+    ensures told { Ends (run_of input.now) result (W.contents writer.old) (W.contents writer.new) }
+    ensures never_read { ¬ IsErrOf result RunFault.Read }
+{
+    if input.len() > MAX_INPUT_BYTES {
+        return Err(RunFault::Long);
+    }
+    run_input(alloc, input, writer, &mut IoLog::new())
+}
+
 /// Reads a trace whole, runs its lines in order on a new heap and on trays, and writes a line for
 /// each answer, a line for each tray that is listed, the text of each dump and the total line: one
 /// line, or a part of a line of a dump, in each write that the writer takes whole. Nothing is

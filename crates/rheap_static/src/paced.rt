@@ -1,6 +1,6 @@
 //! Traces of commands alone, on a heap that collects by itself.
 
-ghost use Rattle.std.specs.Prelude.{◌≡◌, ◌≢◌, ℕ, List, Some, Result, []};
+ghost use Rattle.std.specs.Prelude.{◌≡◌, ◌≢◌, ℕ, List, Some, Result, [], IsErrOf};
 ghost use Rattle.rh_core.specs.runs.Programs.{CommandAnswers};
 ghost use Rattle.rh_syntax.specs.Spelling.{Script};
 ghost use Rattle.rh_trace.specs.declared.summary.Summary.{Summary as SummaryOf};
@@ -16,10 +16,10 @@ use rh_core::laws::runs::{
     a_new_heap_is_well_formed, an_event_answers_as_the_plain_heap,
     every_event_keeps_a_heap_well_formed,
 };
-use rh_paced_trace::{PacedFault, run_paced};
+use rh_paced_trace::{PacedFault, run_bytes};
 use std::alloc::Global;
 
-/// Runs a trace of commands alone on a new heap that collects by itself, as `run_paced` does, and
+/// Runs a trace of commands alone on a new heap that collects by itself, as `run_bytes` does, and
 /// puts the text that it writes, a line for each answer and the total line, at the front of
 /// `answers`; `length` is how many bytes the text has. The status is 0 then. Otherwise `answers` is
 /// as before: with 5 it is too small, and `length` says how many bytes are due; with 1 the trace
@@ -33,9 +33,11 @@ pub extern "C" fn rheap_run_paced(
     answers: &mut [u8],
     length: &mut usize,
 ) -> u8
-    // A run of the trace ended so with this text written, and this is what is told of it.
+    // A run of the trace ended so with this text written, and this is what is told of it. No read
+    // failed, so 3 says that memory was refused.
     ensures told { (outcome : Result SummaryOf PacedFaultOf) × (text : List ℕ)
         × Ends (mark_of mark) trace.now outcome (Some []) (Some text)
+        × ¬ IsErrOf outcome PacedFaultOf.Read
         × TellsPaced outcome text result answers.old answers.new length.new }
     // Said of the plain heap alone, where the status is 0: the bytes are a trace of commands, and
     // what is delivered are the answers to it of a heap that never moves its objects, but for
@@ -51,9 +53,8 @@ pub extern "C" fn rheap_run_paced(
     an_event_answers_as_the_plain_heap::<Global>();
     every_event_keeps_a_heap_well_formed::<Global>();
     what_collectors_do_adds_up::<Global>();
-    let mut reader = trace;
     let mut text = Vec::new(alloc);
-    match run_paced(alloc, &mut reader, &mut text, asked_mark(mark)) {
+    match run_bytes(alloc, trace, &mut text, asked_mark(mark)) {
         Ok(_) => deliver(&text, answers, length),
         Err(fault) => {
             *length = 0;
@@ -69,8 +70,8 @@ fn asked_mark(mark: u32) -> Option<u32>
     if mark == 0 { None } else { Some(mark) }
 }
 
-/// The status after a fault. Reading a slice fails never, and writing a vector where memory is
-/// refused.
+/// The status after a fault. A trace that stands in bytes has no read that fails, and writing a
+/// vector fails where memory is refused.
 fn status_of(fault: PacedFault) -> u8
     ensures status { result ≡ paced_status fault }
     ensures not_done { result ≢ 0 }

@@ -1,6 +1,6 @@
 //! Traces that drive their cycles themselves.
 
-ghost use Rattle.std.specs.Prelude.{◌≡◌, ◌≢◌, ℕ, List, Some, Result, []};
+ghost use Rattle.std.specs.Prelude.{◌≡◌, ◌≢◌, ℕ, List, Some, Result, [], IsErrOf};
 ghost use Rattle.rh_syntax.specs.Spelling.{Script};
 ghost use Rattle.rh_trace.specs.Answers.{Answered};
 ghost use Rattle.rh_trace.specs.Run.{run_of, output_of, Ends, IsPlainRun};
@@ -16,10 +16,10 @@ use rh_core::laws::runs::{
     every_event_keeps_a_heap_well_formed,
 };
 use rh_trace::laws::dumps::a_heap_has_the_dump_of_its_plain_heap;
-use rh_trace::{RunFault, run_trace};
+use rh_trace::{RunFault, run_bytes};
 use std::alloc::Global;
 
-/// Runs a trace on a new heap and on trays, as `run_trace` does, and puts the text that it writes,
+/// Runs a trace on a new heap and on trays, as `run_bytes` does, and puts the text that it writes,
 /// a line for each answer and the total line, at the front of `answers`; `length` is how many bytes
 /// the text has. The status is 0 then. Otherwise `answers` is as before: with 5 it is too small,
 /// and `length` says how many bytes are due; with 1 the trace has a fault and with 3 memory was
@@ -31,9 +31,11 @@ pub extern "C" fn rheap_run(
     answers: &mut [u8],
     length: &mut usize,
 ) -> u8
-    // A run of the trace ended so with this text written, and this is what is told of it.
+    // A run of the trace ended so with this text written, and this is what is told of it. No read
+    // failed, so 3 says that memory was refused.
     ensures told { (outcome : Result SummaryOf RunFaultOf) × (text : List ℕ)
         × Ends (run_of trace.now) outcome (Some []) (Some text)
+        × ¬ IsErrOf outcome RunFaultOf.Read
         × TellsRun outcome text result answers.old answers.new length.new }
     // Said of the plain heap alone, where the status is 0: the bytes are a trace, and what is
     // delivered are the answers to it, to commands and dumps those of a heap that never moves its
@@ -48,9 +50,8 @@ pub extern "C" fn rheap_run(
     an_event_answers_as_the_plain_heap::<Global>();
     every_event_keeps_a_heap_well_formed::<Global>();
     a_heap_has_the_dump_of_its_plain_heap();
-    let mut reader = trace;
     let mut text = Vec::new(alloc);
-    match run_trace(alloc, &mut reader, &mut text) {
+    match run_bytes(alloc, trace, &mut text) {
         Ok(_) => deliver(&text, answers, length),
         Err(fault) => {
             *length = 0;
@@ -59,8 +60,8 @@ pub extern "C" fn rheap_run(
     }
 }
 
-/// The status after a fault. Reading a slice fails never, and writing a vector where memory is
-/// refused.
+/// The status after a fault. A trace that stands in bytes has no read that fails, and writing a
+/// vector fails where memory is refused.
 fn status_of(fault: RunFault) -> u8
     ensures status { result ≡ run_status fault }
     ensures not_done { result ≢ 0 }

@@ -6,7 +6,7 @@ use Rattle.rheap_static.proofs.plain.rheap_run.Goals as goal
 
 pub returns-in-Ok-clause-plain : goal.returns-in-Ok-clause-plain
 returns-in-Ok-clause-plain c = λ done.
-    let text = c.run_trace.new.writer.items in
+    let text = c.run_bytes.new.writer.items in
     let ends = subst (λ (begun : List ℕ). Ends (run_of c.args.trace.now) (Ok c.in-Ok.field-0) (Some begun) (Some text)) c.new-text.ensures.items c.in-Ok.ensures.told in
     let told = subst (λ (ts : List ℕ). AnswersText ts c.deliver.result c.args.answers.now c.deliver.new.answers c.deliver.new.length) c.deref.ensures.value c.deliver.ensures in
     delivers_plain c.deliver.result c.args.answers.now c.deliver.new.answers c.deliver.new.length c.args.trace.now text c.in-Ok.field-0 told done
