@@ -1,1 +1,2 @@
 pub mod PlainText
+mod Statuses

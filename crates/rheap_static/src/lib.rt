@@ -6,6 +6,7 @@
 #![tactic(auto)]
 
 mod delivering;
+pub mod laws;
 mod paced;
 mod plain;
 mod status;
