@@ -1,11 +1,11 @@
 //! Laws of the definitions alone. Each function does nothing: its contract is the law.
 
-ghost use Rattle.std.specs.Prelude.{◌≡◌, ◌↔◌, ℕ, ℤ, ◌+◌, ◌<◌, ◌≤◌, true, false, List, [], ◌∷◌, ◌++◌, Some, Contains, decimal, length, slice_get};
+ghost use Rattle.std.specs.Prelude.{◌≡◌, ◌≢◌, ◌↔◌, ℕ, ℤ, ◌+◌, ◌<◌, ◌≤◌, true, false, List, [], ◌∷◌, ◌++◌, Some, Contains, decimal, length, slice_get};
 ghost use Rattle.std.specs.Fmt.{signed_decimal};
-ghost use Rattle.std.specs.List.{flat_map};
+ghost use Rattle.std.specs.List.{AllByRecursion, flat_map};
 ghost use Rattle.rh_layout.specs.declared.command.RootId.{RootId};
 ghost use Rattle.rh_text.specs.Number.{IsI64, IsU32, integer_of, number_of};
-ghost use Rattle.rh_text.specs.Parts.{IsFormedLine, begins_with_digit, cut_at, has_dot, is_formed, one_part, six_parts, three_parts, two_parts};
+ghost use Rattle.rh_text.specs.Parts.{begins_with_digit, cut_at, has_dot, is_formed, one_part, parts_of, six_parts, three_parts, two_parts};
 ghost use Rattle.rh_text.specs.RawLine.{RawLine, lines_of, raw_text};
 ghost use Rattle.rh_text.specs.Root.{RootFits, root_of, root_text};
 
@@ -20,10 +20,12 @@ pub fn parts_say_what_they_spell()
         → (root_of part ≡ Some r) ↔ ((part ≡ root_text r) × RootFits r) }
 {}
 
-/// A line is found to be formed exactly where all its bytes are printable and none of its parts is
-/// empty.
+/// A line is found to be formed exactly where all its bytes are from 32 to 126 and none of its
+/// parts is empty.
 pub fn formed_lines_are_well_formed()
-    ensures { (line : List ℕ) → (is_formed line ≡ true) ↔ IsFormedLine line }
+    ensures { (line : List ℕ) → (is_formed line ≡ true)
+        ↔ (AllByRecursion (λ b. (32 ≤ b) × (b ≤ 126)) line
+        × AllByRecursion (λ part. part ≢ []) (parts_of line)) }
 {}
 
 /// The raw lines of a text, each with its line end where it has one, are the text. They are cut at
