@@ -183,6 +183,9 @@ pub fn worked_command_lines()
     ensures mark { command_and_file_of (codes "rheap" ∷ codes "run" ∷ codes "--paced"
         ∷ codes "--mark" ∷ codes "7" ∷ codes "x" ∷ [])
         ≡ Ok (SubcommandOf.RunPaced (Some 7), codes "x") }
+    ensures mark_0 { command_and_file_of
+        (codes "rheap" ∷ codes "run" ∷ codes "x" ∷ codes "--paced" ∷ codes "--mark=0" ∷ [])
+        ≡ Ok (SubcommandOf.RunPaced (Some 0), codes "x") }
     ensures mark_alone { command_and_file_of
         (codes "rheap" ∷ codes "run" ∷ codes "x" ∷ codes "--mark=7" ∷ []) ≡ Err FaultOf.Mark }
     ensures no_number { command_and_file_of

@@ -49,6 +49,10 @@ pub returns-clause-mark : goal.returns-clause-mark
 unfolding command_and_file_of number_of digits clap_on_literals
 returns-clause-mark c = refl
 
+pub returns-clause-mark_0 : goal.returns-clause-mark_0
+unfolding command_and_file_of number_of digits clap_on_literals
+returns-clause-mark_0 c = refl
+
 pub returns-clause-mark_alone : goal.returns-clause-mark_alone
 unfolding command_and_file_of number_of digits clap_on_literals
 returns-clause-mark_alone c = refl
