@@ -34,12 +34,14 @@ fn arguments_that_ask_for_each_command(rt: HostRuntime) {
     }
 }
 
-/// Expects a text: whole, where what is due is empty or ends a line, and else as a beginning.
+/// Expects a text: whole, where what is due is empty or ends a line. Else it begins with what is
+/// due, and ends with one line end.
 fn expect_written(rt: &impl Abort, text: &[u8], due: &[u8]) {
     if due.is_empty() || due.ends_with(b"\n") {
         expect_bytes(rt, text, due);
     } else {
         expect_prefix(rt, text, due);
+        assert!(rt; text.ends_with(b"\n") && !text.ends_with(b"\n\n"));
     }
 }
 

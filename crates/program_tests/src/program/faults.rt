@@ -1,11 +1,15 @@
 //! Texts with faults, and what the program tells of them.
 
-use crate::expectations::{Row, expect_equal, expect_text};
+use crate::expectations::{Row, expect_equal, expect_text, expect_texts};
 use crate::program::driving::{DUMP, PACED, REPLAY, RUN, THREADS, drives_to};
 use crate::texts::repeated;
 use rh_cli::{Ask, Subcommand};
+use rh_core::ConfigFault;
 use rh_dump::{DumpFault, DumpKind, DumpReadError};
-use rh_trace::{Kind, ParseError, TraceFault, Write, parse};
+use rh_paced_trace::{PaceError, PacedFault};
+use rh_replay::{HistoryError, HistoryFault, HistoryKind};
+use rh_text::InputFault;
+use rh_trace::{Kind, ParseError, RunFault, TraceFault, Write, parse};
 use std::process::Abort;
 use std::sync::Wait;
 use std::test::Fail;
@@ -91,6 +95,11 @@ const LINES: &[(&[u8], u32, &str)] = &[
     (b"1 drop 10\n", 2, "Root"),
     (b"1 drop 1.0 1.1\n", 2, "Form"),
     (b"1 drop 1.4294967296\n", 2, "Root"),
+    (b"1 drop ~\n", 2, "Root"),
+    (b"1 drop \x7f\n", 2, "Form"),
+    (b"1 drop \x80\n", 2, "Form"),
+    (b"1 drop \xff\n", 2, "Form"),
+    (b"1 drop \x1f\n", 2, "Form"),
     (b"1 drop 4294967296.0\n", 2, "Root"),
     (b"1 store 1.0 0\n", 2, "Form"),
     (b"1 store x 0\n", 2, "Form"),
@@ -154,6 +163,7 @@ const HISTORIES: &[(&[u8], u32, &str)] = &[
     (b"history 2 2\nend 0\nx", 3, "Cut"),
     (b"history 2 2\n", 2, "End"),
     (b"history 2 2\n1 drop 1.0 =\n", 2, "Answer"),
+    (b"history 2 2\n1 grow 1.0 = x\n", 2, "Word"),
     (b"history 2 2\n1 drop 1.0\n", 2, "Answer"),
     (b"history 2 2\n1 drop 1.0 = done = done\n", 2, "Answer"),
     (b"history 2 2\n1 drop 1.0 = int +5\n", 2, "Answer"),
@@ -197,6 +207,7 @@ const DUMPS: &[(&[u8], u32, &str)] = &[
     (b"roots 0\n1.0 @0\n", 3, "Form"),
     (b"roots 2\n1.0 1\n1.0 +5\n", 4, "Order"),
     (b"roots 2\n1.0 1\n1.0 nil\n", 4, "Form"),
+    (b"roots 1\nx nil\n", 3, "Form"),
     (b"roots 1\n1.0 +5\n", 3, "Number"),
     (b"roots 1\n1.0  5\n", 3, "Form"),
     (b"roots 1\n16.0 5\n", 3, "Number"),
@@ -385,6 +396,47 @@ fn files_that_are_too_long(rt: HostRuntime) -> Result<(), Fail> {
     Ok(())
 }
 
+/// What is told of an input that can't be read, and of a run that ends early.
+const INPUT_FAULTS: &[(InputFault, &str)] = &[
+    (InputFault::Read, "read failed"),
+    (InputFault::Long, "too long"),
+    (InputFault::OutOfMemory, "out of memory"),
+];
+
+const RUN_FAULTS: &[(RunFault, &str)] = &[
+    (RunFault::Read, "read failed"),
+    (RunFault::Long, "too long"),
+    (
+        RunFault::Trace(TraceFault {
+            line: 2,
+            kind: Kind::Word,
+        }),
+        "line 2: Word",
+    ),
+    (RunFault::New(ConfigFault::BadLog), "heap: BadLog"),
+    (RunFault::Write, "write failed"),
+    (RunFault::OutOfMemory, "out of memory"),
+];
+
+const PACED_FAULTS: &[(PacedFault, &str)] = &[
+    (PacedFault::Read, "read failed"),
+    (PacedFault::Long, "too long"),
+    (
+        PacedFault::Trace(TraceFault {
+            line: 3,
+            kind: Kind::Word,
+        }),
+        "line 3: Word",
+    ),
+    (PacedFault::New(ConfigFault::BadLog), "heap: BadLog"),
+    (
+        PacedFault::Pace(PaceError::TooSmall { need: 29 }),
+        "pace: TooSmall need 29",
+    ),
+    (PacedFault::Write, "write failed"),
+    (PacedFault::OutOfMemory, "out of memory"),
+];
+
 #[test]
 fn texts_of_faults(rt: HostRuntime) {
     let fault = TraceFault {
@@ -402,4 +454,14 @@ fn texts_of_faults(rt: HostRuntime) {
     };
     expect_text(&rt, DumpReadError::Fault(fault), "line 4: Count");
     expect_text(&rt, DumpReadError::Read, "read failed");
+    expect_text(&rt, DumpReadError::OutOfMemory, "out of memory");
+    expect_texts(&rt, INPUT_FAULTS);
+    expect_texts(&rt, RUN_FAULTS);
+    expect_texts(&rt, PACED_FAULTS);
+    let fault = HistoryFault {
+        line: 3,
+        kind: HistoryKind::Trailing,
+    };
+    expect_text(&rt, HistoryError::Fault(fault), "line 3: Trailing");
+    expect_text(&rt, HistoryError::OutOfMemory, "out of memory");
 }
