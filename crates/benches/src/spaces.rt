@@ -52,7 +52,7 @@ impl Spaces {
     /// Holds a reference to the object itself in the next field that wasn't dealt. Answers whether
     /// there was one.
     pub fn hold_next(&mut self) -> bool {
-        let Some(Place { object, field }) = self.joint.next() else {
+        let Some(Place { object, field }) = self.joint.next(&self.space) else {
             return false;
         };
         self.joint.accept(

@@ -99,6 +99,23 @@ impl Spaces {
         );
     }
 
+    /// What stands where the origin of an object does, which has to be there: its link, where it is
+    /// placed.
+    fn link(&self, rt: &impl Abort, a: u32) -> u32 {
+        assert!(rt; self.space.is_object(a));
+        self.space.origin(a)
+    }
+
+    /// Makes all places undealt again.
+    fn redeal(&mut self) {
+        self.joint.redeal();
+    }
+
+    /// Forgets what was placed, and answers how many objects were.
+    fn forget(&mut self) -> u32 {
+        self.joint.forget(&mut self.space)
+    }
+
     /// Exchanges the spaces, where nothing is missing.
     fn exchange(&mut self, rt: &impl Abort) {
         assert!(rt; self.joint.missing() == 0);
@@ -114,7 +131,7 @@ impl Spaces {
 
     /// The next place.
     fn next(&mut self) -> Option<Place> {
-        self.joint.next()
+        self.joint.next(&self.space)
     }
 
     /// Checks how many objects are placed, and how many places are missing and weren't dealt.
@@ -138,12 +155,16 @@ impl Spaces {
     /// Plays a step.
     fn play_step(&mut self, rt: &impl Abort, step: Step) {
         match step {
+            Step::Make(fields) => self.make(rt, fields),
             Step::Store(a, f, number, value) => self.store(rt, item(a, f, number, value)),
             Step::Place(a, answer) => expect_equal(rt, self.place(rt, a), answer),
             Step::Next(answer) => {
                 let next = self.next().map(|place| (place.object, place.field));
                 expect_equal(rt, next, answer);
             }
+            Step::Link(a, to) => expect_equal(rt, self.link(rt, a), to),
+            Step::Redeal => self.redeal(),
+            Step::Forget(answer) => expect_equal(rt, self.forget(), answer),
             Step::Hold(a, f) => self.hold(rt, a, f),
             Step::Forward(a, to) => expect_equal(rt, self.joint.forward(&self.space, a), to),
             Step::Held(a, f, pair) => {
@@ -187,11 +208,18 @@ fn is_holdable(space: &Space, joint: &Joint, value: Value) -> bool
 /// What is done to a joint or asked of it, with the answer.
 #[derive(Clone, Copy)]
 enum Step {
+    /// The number of fields.
+    Make(u32),
     /// The object, the field, the number and the value.
     Store(u32, u32, u64, Value),
     Place(u32, Placing),
     /// The object and the field that are dealt next.
     Next(Option<(u32, u32)>),
+    /// The object and its link.
+    Link(u32, u32),
+    Redeal,
+    /// How many objects were placed.
+    Forget(u32),
     Hold(u32, u32),
     Forward(u32, Option<u32>),
     Held(u32, u32, Option<(u64, Value)>),
@@ -340,6 +368,43 @@ const PLACED_BETWEEN: &[Step] = &[
     Step::Counts(3, 3, 0),
 ];
 
+/// Five objects without fields, at 3 to 11, are placed between two with fields, at 13 and 0. The
+/// first is linked to the replica of the other, past them.
+const LINKED: &[Step] = &[
+    Step::Make(0),
+    Step::Make(0),
+    Step::Make(0),
+    Step::Make(2),
+    Step::Place(13, NEW),
+    Step::Place(3, NEW),
+    Step::Place(5, NEW),
+    Step::Place(7, NEW),
+    Step::Place(9, NEW),
+    Step::Place(11, NEW),
+    Step::Next(Some((13, 0))),
+    Step::Link(13, 0),
+    Step::Place(0, NEW),
+    Step::Link(13, 14),
+    Step::Next(Some((13, 1))),
+    Step::Next(Some((0, 0))),
+    Step::Next(None),
+    Step::Redeal,
+    Step::Counts(7, 3, 3),
+    Step::Next(Some((13, 0))),
+    Step::Next(Some((13, 1))),
+    Step::Next(Some((0, 0))),
+    Step::Next(None),
+    // What is forgotten has no link, and the scan begins anew.
+    Step::Forget(7),
+    Step::Link(13, 0),
+    Step::Forward(13, None),
+    Step::Counts(0, 0, 0),
+    Step::Place(3, NEW),
+    Step::Place(0, NEW),
+    Step::Next(Some((0, 0))),
+    Step::Next(None),
+];
+
 /// Stores to a field before its object is placed, before it is held, and after that.
 const STORED_TO: &[Step] = &[
     // Nobody misses a field of an object that isn't placed.
@@ -391,6 +456,7 @@ const PLAYS: &[([u32; 3], &[&[Step]])] = &[
     ([3, 1, 0], &[FIELDLESS_BETWEEN, SCANNED]),
     ([3, 1, 0], &[FIELDLESS_LAST, SCANNED]),
     ([1, 0, 2], &[PLACED_BETWEEN]),
+    ([1, 0, 0], &[LINKED]),
     ([2, 0, 0], &[STORED_TO]),
     ([4, 22, 0], &[FULL]),
 ];

@@ -3,7 +3,7 @@ use Rattle.benches.proofs.spaces.Spaces.hold_next.Goals as goal
 
 pub accept-requires-clause-mirrors : goal.accept-requires-clause-mirrors
 accept-requires-clause-mirrors c =
-    rw c.next.ensures.joint (record { words = c.self.invariant.words; originals = c.self.invariant.originals; forward = c.self.invariant.forward })
+    c.next.ensures.mirrors c.self.inside.space c.self.invariant
 
 pub accept-requires-clause-reference : goal.accept-requires-clause-reference
 accept-requires-clause-reference c =
