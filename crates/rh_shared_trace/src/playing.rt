@@ -45,8 +45,9 @@ where
     let heap = &shared;
     let ended = crew(rt, alloc, replicators, &stop, u32::MAX, || {
         played = play_all(rt, alloc, heap, requests, mutators);
-    });
-    if ended.is_err() {
+    })
+    .ok();
+    if ended.is_none() {
         return Err(Unplayed::OutOfMemory);
     }
     let Some(mutators) = played else {

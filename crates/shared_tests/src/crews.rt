@@ -2,7 +2,7 @@
 
 use crate::expectations::expect_equal;
 use refusing::{RefusingAllocator, refused_in_turn};
-use rh_replicator::{NotStarted, OpenGate, Replicator, crew};
+use rh_replicator::{OpenGate, Replicator, crew};
 use rh_rings::new_link;
 use std::alloc::Allocator;
 use std::sync::Wait;
@@ -33,7 +33,7 @@ where
     let has_worked = worked.load(Ordering::SeqCst);
     match ended {
         Ok(both) => !(has_worked && stop.load(Ordering::SeqCst) && both.len() == 2),
-        Err(NotStarted) => !has_worked,
+        Err(_left) => !has_worked,
     }
 }
 
