@@ -12,6 +12,7 @@ use Rattle.rh_mutator.specs.Mutator.{MutatorState, IsMutator, IsStorable, new_mu
 use Rattle.rh_mutator.specs.Commands.{LimitHolds, IsStoring, with_new_object}
 use Rattle.rh_mutator.specs.lemmas.Kept.{IsMutator-with_new_object}
 use Rattle.rh_layout.specs.Shape.{shape_of}
+use Rattle.rh_shared_trace.specs.declared.trace_limits.TraceLimits.{TraceLimits}
 use Rattle.rh_shared_trace.specs.Matching.{MayLeaveOut}
 
 -- eight words, one root, and one number for stores
@@ -66,19 +67,23 @@ nothing : {X : Type 0} → (false ≡ true) ⊎ (false ≡ true) → X
 nothing (inl e) = absurd (true≢false (sym e))
 nothing (inr e) = absurd (true≢false (sym e))
 
-pub left_out_is_limited : (command : Command) → MayLeaveOut false command → IsLimited command
-left_out_is_limited (Alloc dst fields) out = at (Alloc dst fields) (SpaceFull (2 + fields) 0) (dst, shape_of fields false, refl, refl, refl, omega arith)
-left_out_is_limited (Raw dst fields) out = at (Raw dst fields) (SpaceFull (2 + fields) 0) (dst, shape_of fields true, refl, refl, refl, omega arith)
-left_out_is_limited (Store obj field operand) out = at (Store obj field operand) NumbersSpent ((obj, field, operand, refl), refl, λ on. absurd (true≢false (sym on)))
-left_out_is_limited (Load dst src field) out = nothing out
-left_out_is_limited (Copy dst src) out = nothing out
-left_out_is_limited (Same a b) out = nothing out
-left_out_is_limited (Drop root) out = nothing out
+pub left_out_is_limited : (limits : TraceLimits) (command : Command) → MayLeaveOut limits false command → IsLimited command
+left_out_is_limited limits (Alloc dst fields) out = at (Alloc dst fields) (SpaceFull (2 + fields) 0) (dst, shape_of fields false, refl, refl, refl, omega arith)
+left_out_is_limited limits (Raw dst fields) out = at (Raw dst fields) (SpaceFull (2 + fields) 0) (dst, shape_of fields true, refl, refl, refl, omega arith)
+left_out_is_limited limits (Store obj field operand) out = at (Store obj field operand) NumbersSpent ((obj, field, operand, refl), refl, λ on. absurd (true≢false (sym on)))
+left_out_is_limited limits (Load dst src field) out = nothing out
+left_out_is_limited limits (Copy dst src) out = nothing out
+left_out_is_limited limits (Same a b) out = nothing out
+left_out_is_limited limits (Drop root) out = nothing out
 
-stored : (command : Command) → IsStoring command → MayLeaveOut false command
-stored command is = subst (MayLeaveOut false) (sym is.3) (inr refl)
+-- a trace that may come to both limits
+abbrev both_limits : TraceLimits
+both_limits = record { space = true; log = true }
 
-made : (m : MutatorState) (command : Command) (need free : ℕ) → LimitHolds m command (SpaceFull need free) → MayLeaveOut false command
+stored : (command : Command) → IsStoring command → MayLeaveOut both_limits false command
+stored command is = subst (MayLeaveOut both_limits false) (sym is.3) (inr refl)
+
+made : (m : MutatorState) (command : Command) (need free : ℕ) → LimitHolds m command (SpaceFull need free) → MayLeaveOut both_limits false command
 made m (Alloc dst fields) need free holds = inr refl
 made m (Raw dst fields) need free holds = inr refl
 made m (Store obj field operand) need free holds = inr refl
@@ -87,7 +92,7 @@ made m (Copy dst src) need free holds = absurd cc
 made m (Same a b) need free holds = absurd cc
 made m (Drop root) need free holds = absurd cc
 
-pub limited_is_left_out : (m : MutatorState) (command : Command) (limit : Refusal) → LimitHolds m command limit → MayLeaveOut false command
+pub limited_is_left_out : (m : MutatorState) (command : Command) (limit : Refusal) → LimitHolds m command limit → MayLeaveOut both_limits false command
 limited_is_left_out m command NoRoot holds = absurd holds
 limited_is_left_out m command NotYours holds = absurd holds
 limited_is_left_out m command NotObject holds = absurd holds

@@ -3,3 +3,4 @@ pub mod Ending
 pub mod TellingCommands
 pub mod OneOwner
 pub mod LeftOut
+pub mod WhatStands

@@ -6,41 +6,39 @@ use Rattle.rh_layout.specs.declared.command.Command.{Command}
 use Rattle.rh_syntax.specs.Spelling.{Script}
 use Rattle.rh_replay.specs.declared.call.Call.{Call}
 use Rattle.rh_shared.specs.Shares.{calls_of}
-use Rattle.rh_shared_trace.specs.Matching.{AreCallsFor, AreOfTrace, HaveOwnersBelow, lines_of}
+use Rattle.rh_shared_trace.specs.declared.trace_limits.TraceLimits.{TraceLimits}
+use Rattle.rh_shared_trace.specs.Limiting.{limits_of}
+use Rattle.rh_shared_trace.specs.Matching.{AreCallsFor, AreOfTrace, HaveOwnersBelow, commands_of, lines_of}
 use Rattle.rh_shared_trace.proofs.TellingCommands.{asked_by}
 use Rattle.rh_shared_trace.proofs.OwnLines.{calls_of-own, calls_of-other}
 
 -- Calls that are of lines, none of which is left out.
 
-few : (full : Bool) (lines : List Command) (calls : List Call) → AreCallsFor full lines calls → length calls ≤ length lines
-few full [] [] are = omega arith
-few full [] (c ∷ calls) are = absurd are
-few full (l ∷ lines) [] are = omega arith
-few full (l ∷ lines) (c ∷ calls) (inl one) =
-    let less = few full lines calls one.1 in
+few : (limits : TraceLimits) (full : Bool) (lines : List Command) (calls : List Call) → AreCallsFor limits full lines calls → length calls ≤ length lines
+few limits full [] [] are = omega arith
+few limits full [] (c ∷ calls) are = absurd are
+few limits full (l ∷ lines) [] are = omega arith
+few limits full (l ∷ lines) (c ∷ calls) (inl one) =
+    let less = few limits full lines calls one.1 in
     omega (arith, less)
-few full (l ∷ lines) (c ∷ calls) (inr left) =
-    let less = few full lines (c ∷ calls) left.1 in
+few limits full (l ∷ lines) (c ∷ calls) (inr left) =
+    let less = few limits full lines (c ∷ calls) left.1 in
     omega (arith, less)
 
--- the commands of calls
-abbrev commands_of : List Call → List Command
-commands_of calls = map (λ (call : Call). call.command) calls
-
-whole : (full : Bool) (lines : List Command) (calls : List Call) → AreCallsFor full lines calls → length calls ≡ length lines → commands_of calls ≡ lines
-whole full [] [] are same = refl
-whole full [] (c ∷ calls) are same = absurd are
-whole full (l ∷ lines) [] are same = absurd (omega (arith, same))
-whole full (l ∷ lines) (c ∷ calls) (inl one) same =
+whole : (limits : TraceLimits) (full : Bool) (lines : List Command) (calls : List Call) → AreCallsFor limits full lines calls → length calls ≡ length lines → commands_of calls ≡ lines
+whole limits full [] [] are same = refl
+whole limits full [] (c ∷ calls) are same = absurd are
+whole limits full (l ∷ lines) [] are same = absurd (omega (arith, same))
+whole limits full (l ∷ lines) (c ∷ calls) (inl one) same =
     let rest : length calls ≡ length lines = omega (arith, same) in
-    ap (λ x. x ∷ commands_of calls) one.0 ∙ ap (λ xs. l ∷ xs) (whole full lines calls one.1 rest)
-whole full (l ∷ lines) (c ∷ calls) (inr left) same =
-    let less = few full lines (c ∷ calls) left.1 in
+    ap (λ x. x ∷ commands_of calls) one.0 ∙ ap (λ xs. l ∷ xs) (whole limits full lines calls one.1 rest)
+whole limits full (l ∷ lines) (c ∷ calls) (inr left) same =
+    let less = few limits full lines (c ∷ calls) left.1 in
     absurd (omega (arith, same, less))
 
-none-called : (full : Bool) (calls : List Call) → AreCallsFor full [] calls → calls ≡ []
-none-called full [] are = refl
-none-called full (c ∷ calls) are = absurd are
+none-called : (limits : TraceLimits) (full : Bool) (calls : List Call) → AreCallsFor limits full [] calls → calls ≡ []
+none-called limits full [] are = refl
+none-called limits full (c ∷ calls) are = absurd are
 
 -- Calls of one owner.
 
@@ -81,8 +79,9 @@ pub asked-of_lines : (full : Bool) (script : Script) (owner : ℕ) (calls : List
     → ((other : ℕ) → other ≢ owner → lines_of other script.requests ≡ []) → length calls ≡ length (lines_of owner script.requests)
     → map asked_by calls ≡ map (λ (line : Command). (owner, line)) (lines_of owner script.requests)
 asked-of_lines full script owner calls are less others count =
+    let limits : TraceLimits = limits_of script.header script.requests in
     let none : OthersHaveNone owner script.header.owners calls = λ other below apart.
-    none-called full (calls_of other calls) (subst (λ lines. AreCallsFor full lines (calls_of other calls)) (others other apart) (are.lines other below)) in
+    none-called limits full (calls_of other calls) (subst (λ lines. AreCallsFor limits full lines (calls_of other calls)) (others other apart) (are.lines other below)) in
     let one = one-owner owner script.header.owners calls are.owners none in
-    let own : AreCallsFor full (lines_of owner script.requests) calls = subst (AreCallsFor full (lines_of owner script.requests)) one.0 (are.lines owner less) in
-    one.1 ∙ ap (λ (lines : List Command). map (λ (line : Command). (owner, line)) lines) (whole full (lines_of owner script.requests) calls own count)
+    let own : AreCallsFor limits full (lines_of owner script.requests) calls = subst (AreCallsFor limits full (lines_of owner script.requests)) one.0 (are.lines owner less) in
+    one.1 ∙ ap (λ (lines : List Command). map (λ (line : Command). (owner, line)) lines) (whole limits full (lines_of owner script.requests) calls own count)

@@ -1,4 +1,5 @@
 pub mod Lines
 pub mod Options
+pub mod Limiting
 pub mod Matching
 pub mod Run

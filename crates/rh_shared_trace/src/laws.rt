@@ -1,13 +1,20 @@
 //! Laws of the definitions alone. Each function does nothing: its contract is the law.
 
-ghost use Rattle.std.specs.Prelude.{◌≡◌, ◌≢◌, ◌↔◌, ℕ, ◌<◌, false, [], length};
+ghost use Rattle.std.specs.Prelude.{◌≡◌, ◌≢◌, ℕ, ◌+◌, ◌<◌, ◌≤◌, true, false, [], filter, length};
 ghost use Rattle.rh_layout.specs.declared.command.Command.{Command as CommandOf};
 ghost use Rattle.rh_layout.specs.declared.refusal.Refusal.{Refusal as RefusalOf};
 ghost use Rattle.rh_mutator.specs.Commands.{LimitHolds};
 ghost use Rattle.rh_mutator.specs.Mutator.{IsMutator, MutatorState};
+ghost use Rattle.rh_syntax.specs.declared.line.Header.{Header as HeaderOf};
 ghost use Rattle.rh_syntax.specs.Spelling.{Script};
 ghost use Rattle.rh_replay.specs.History.{HistoryState};
-ghost use Rattle.rh_shared_trace.specs.Matching.{lines_of, MayLeaveOut};
+ghost use Rattle.rh_shared.specs.Shares.{calls_of};
+ghost use Rattle.rh_shared_trace.specs.declared.options.RunOptions.{RunOptions as RunOptionsOf};
+ghost use Rattle.rh_shared_trace.specs.declared.trace_limits.Limit.TheVariants.{Space, Log};
+ghost use Rattle.rh_shared_trace.specs.declared.trace_limits.TraceLimits.{TraceLimits as TraceLimitsOf};
+ghost use Rattle.rh_shared_trace.specs.Limiting.{taken_by_all};
+ghost use Rattle.rh_shared_trace.specs.Matching.{allocates, commands_of, lines_of, stores, takes_nothing, MayLeaveOut};
+ghost use Rattle.rh_shared_trace.specs.Options.{shared_config_of};
 ghost use Rattle.rh_shared_trace.specs.Run.{IsHistoryOf};
 
 /// A trace of one owner has one history in which none of its lines is left out, however many
@@ -20,10 +27,54 @@ pub fn a_trace_of_one_owner_has_one_whole_history()
         → length k.calls ≡ length (lines_of owner script.requests) → h ≡ k }
 {}
 
-/// A line may be left out of a history that isn't full exactly where its command meets a limit of
-/// some heap, whatever else is wrong with it.
+/// A line may be left out of a history that isn't full only where its command meets a limit of some
+/// heap, whatever else is wrong with it; and wherever it does, if the trace may come to both
+/// limits, that of the space and that of the log.
 pub fn what_a_limit_may_refuse_may_be_left_out()
-    ensures { (command : CommandOf) → MayLeaveOut false command
-        ↔ ((m : MutatorState) × IsMutator m × (limit : RefusalOf)
-        × LimitHolds m command limit) }
+    ensures only { (limits : TraceLimitsOf) (command : CommandOf)
+        → MayLeaveOut limits false command → (m : MutatorState) × IsMutator m
+        × (limit : RefusalOf) × LimitHolds m command limit }
+    ensures wherever { (command : CommandOf) (m : MutatorState) (limit : RefusalOf)
+        → LimitHolds m command limit
+        → MayLeaveOut (record { space = true; log = true }) false command }
+{}
+
+/// What stands in a history of fewer than 65,536 calls of what each owner's lines ask, in order and
+/// as often.
+///
+/// - `each`: all loads, copies, comparisons and drops.
+/// - `allocations`: all allocations, raw or not, of a trace whose objects have no more words
+///   together than the space.
+/// - `stores`: all stores of a trace that has no more of them than the log has entries.
+pub fn what_no_limit_refuses_stands_in_a_history()
+    ensures each { (script : Script) (h : HistoryState) (owner : ℕ) → IsHistoryOf script h
+        → length h.calls < 65536 → owner < script.header.owners
+        → filter takes_nothing (commands_of (calls_of owner h.calls))
+        ≡ filter takes_nothing (lines_of owner script.requests) }
+    ensures allocations { (script : Script) (h : HistoryState) (owner : ℕ)
+        → IsHistoryOf script h → length h.calls < 65536 → owner < script.header.owners
+        → taken_by_all Space script.requests ≤ script.header.words
+        → filter allocates (commands_of (calls_of owner h.calls))
+        ≡ filter allocates (lines_of owner script.requests) }
+    ensures stores { (script : Script) (h : HistoryState) (owner : ℕ) → IsHistoryOf script h
+        → length h.calls < 65536 → owner < script.header.owners
+        → taken_by_all Log script.requests ≤ script.header.log
+        → filter stores (commands_of (calls_of owner h.calls))
+        ≡ filter stores (lines_of owner script.requests) }
+{}
+
+/// The numbers of a shared run. A cycle begins where fewer than half of the words, rounded down,
+/// are free. An increment deals at most 16 fields or entries, each piece to one replicator. The
+/// history has room for 65,536 calls, and patience ends after 1,000 increments without progress.
+/// The replicators and the idle words are those that were asked for.
+pub fn a_shared_run_goes_by_these_numbers()
+    ensures mark { (header : HeaderOf) (options : RunOptionsOf)
+        → (let c = shared_config_of header options in
+        (c.mark + c.mark ≤ header.words) × (header.words < c.mark + c.mark + 2)) }
+    ensures numbers { (header : HeaderOf) (options : RunOptionsOf)
+        → (let c = shared_config_of header options in
+        (c.most ≡ 16) × (c.copies ≡ 1) × (c.history ≡ 65536) × (c.patience ≡ 1000)) }
+    ensures asked { (header : HeaderOf) (options : RunOptionsOf)
+        → (let c = shared_config_of header options in
+        (c.replicators ≡ options.replicators) × (c.idle ≡ options.idle)) }
 {}

@@ -4,12 +4,14 @@
 
 mod fault;
 pub mod laws;
+mod limiting;
 mod lines;
 mod matching;
 mod options;
 mod playing;
 mod running;
 mod threads;
+mod trace_limits;
 mod writing;
 
 pub use fault::SharedRunFault;

@@ -6,8 +6,8 @@ use Rattle.rh_shared_trace.proofs.matching.after_line.Given as goal
 -- calls, of which there is one at least, are of all lines where they are of the rest of them
 abbrev pub invariant-loop-request : goal.invariant-loop-request
 invariant-loop-request l =
-    (full : Bool) (call : Call) (calls : List Call) → AreCallsFor full (lines_of l.owner l.rest) (call ∷ calls)
-    → AreCallsFor full (lines_of l.owner l.requests) (call ∷ calls)
+    (full : Bool) (call : Call) (calls : List Call) → AreCallsFor l.limits full (lines_of l.owner l.rest) (call ∷ calls)
+    → AreCallsFor l.limits full (lines_of l.owner l.requests) (call ∷ calls)
 
 abbrev pub decreases-loop-request : goal.decreases-loop-request
 decreases-loop-request l = length l.rest
