@@ -11,7 +11,7 @@ ghost use Rattle.rh_replay.specs.declared.call.Call.{Call};
 ghost use Rattle.rh_shared.specs.declared.closing.CloseError.{CloseError as CloseErrorOf};
 ghost use Rattle.rh_shared.specs.declared.closing.CloseError.TheVariants as close_errors;
 ghost use Rattle.rh_shared.specs.declared.kept.CallError.TheVariants as call_errors;
-ghost use Rattle.rh_shared.specs.Kept.{CallMeets, KeptState, kept_call, kept_increment, with_noted};
+ghost use Rattle.rh_shared.specs.Kept.{CallMeets, KeptState, kept_call, with_noted};
 ghost use Rattle.rh_shared.specs.Shares.{HasShares, IsOneEach, MutatorState, PartAt, WhyNotClosed, calls_of, first_mutators, share_of, with_answer};
 ghost use Rattle.rh_increment.specs.Collector.{with_heap};
 ghost use Rattle.rh_increment.specs.Increment.{increment, Meets, Met};
@@ -67,17 +67,6 @@ pub fn a_share_grows_as_the_history_does<A: Allocator + Copy>()
         (after.owner ≡ m.owner) × ((noted : List Call)
         × (done.0.recorder.history.calls ≡ k.recorder.history.calls ++ noted)
         × (after.share.history.calls ≡ m.share.history.calls ++ noted))) }
-{}
-
-/// One more increment does what the collector's increment does, tells it, and keeps it as the last
-/// one. It notes no call.
-pub fn an_increment_is_told_as_the_last<A: Allocator + Copy>()
-    ensures told { (met : Met) (k : KeptState A)
-        → (kept_increment met k).1 ≡ (increment met k.collector).1 }
-    ensures kept { (met : Met) (k : KeptState A) → (kept_increment met k).0 ≡ record k {
-      collector = (increment met k.collector).0;
-      last = (increment met k.collector).1;
-    } }
 {}
 
 /// The mutators that a shared heap is made with are one for each owner.
