@@ -13,6 +13,7 @@ pub use Rattle.rh_mutator.specs.declared.config.ConfigFault
 pub use Rattle.rh_mutator.specs.Config
 pub use Rattle.rh_mutator.specs.LoadingAll
 pub use Rattle.rh_mutator.specs.Mutator
+pub use Rattle.rh_mutator.specs.Texts
 pub use Rattle.rh_core.specs.declared.errors.HeapError
 pub use Rattle.rh_core.specs.Commands
 pub use Rattle.rh_core.specs.Heap

@@ -111,3 +111,28 @@ fn numbers_stop_at_the_limits(rt: HostRuntime) {
     expect_equal(&rt, read, [1, 2, 3, 4]);
     expect_equal(&rt, heap.stat().number, 4);
 }
+
+#[test]
+fn texts_are_read_as_they_were_put(rt: HostRuntime) {
+    let mut heap = small_heap(&rt, rt.alloc(), SIZES);
+    expect_equal(&rt, heap.alloc(1, A, 3), Ok(Reply::Object(3)));
+    // Nine bytes take two fields, of which the second has two.
+    let text = [1, 2, 3, 4, 5, 6, 255, 8, 9];
+    expect_equal(&rt, heap.put_text(1, A, 1, &text), Ok(()));
+    expect_equal(&rt, heap.peek(1, A, 0), Ok(Reply::Nil));
+    expect_equal(&rt, heap.peek(1, A, 1), Ok(Reply::Int(0xff_0605_0403_0201)));
+    expect_equal(&rt, heap.peek(1, A, 2), Ok(Reply::Int(0x0908)));
+    let mut read = [7; 9];
+    expect_equal(&rt, heap.text(1, A, 1, &mut read), Ok(9));
+    expect_equal(&rt, read, text);
+    // A byte more than two fields take is refused, and changes nothing.
+    let long = heap.put_text(1, A, 1, &[0; 15]);
+    expect_equal(&rt, long, Err(Refusal::NoField));
+    expect_equal(&rt, heap.text(1, A, 1, &mut [0; 15]), Err(Refusal::NoField));
+    // Of a number its lowest 56 bits are read, up to the first field that holds none.
+    expect_equal(&rt, heap.store_all(1, A, 1, &[-2]), Ok(()));
+    expect_equal(&rt, heap.store(1, A, 2, Operand::Nil), Ok(Reply::Done));
+    expect_equal(&rt, heap.text(1, A, 1, &mut read), Ok(7));
+    expect_equal(&rt, read, [254, 255, 255, 255, 255, 255, 255, 8, 9]);
+    expect_equal(&rt, heap.text(1, A, 0, &mut read), Ok(0));
+}
