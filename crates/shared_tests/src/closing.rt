@@ -146,7 +146,14 @@ const CYCLE: &[Asked] = &[
     (false, 1, false, SAME, NOT_SAME),
 ];
 
-/// A call that a limit refuses, which is no part of a share, and one that is.
+/// A cycle begins and ends, since no root refers to anything.
+const BEGAN_AND_FLIPPED: Did = Did {
+    flipped: true,
+    ..BEGAN
+};
+
+/// A call that a limit refuses, which is no part of a share and brings no increment, and one that
+/// is, and does.
 const LIMITED: &[Asked] = &[
     (
         false,
@@ -198,9 +205,18 @@ const CASES: &[Case] = &[
         told: (None, FLIPPED, ((3, 2, false, 1), (0, 6, 1, 0), Some(1)), 0),
         ..QUIET
     },
+    // With all words free, each increment begins a cycle: that of the call that isn't refused, and
+    // one without a call.
     Case {
+        shared: SharedConfig { mark: 65, ..EAGER },
         calls: LIMITED,
-        told: (None, NOTHING, ((0, 1, false, 0), (0, 0, 0, 0), Some(1)), 0),
+        increments: &[BEGAN_AND_FLIPPED],
+        told: (
+            None,
+            BEGAN_AND_FLIPPED,
+            ((0, 3, false, 2), (0, 0, 0, 0), Some(1)),
+            0,
+        ),
         ..QUIET
     },
     Case {

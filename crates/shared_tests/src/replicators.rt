@@ -104,6 +104,8 @@ fn a_ring_has_eight_places_each_way(rt: HostRuntime) {
     for _ in 0..8u32 {
         expect_equal(&rt, replicator.step(), Stepped::Folded(1));
     }
+    // With no piece there, and then with one.
+    expect_equal(&rt, replicator.step(), Stepped::RingFull);
     assert!(rt; push(&mut link, piece_of(9, 1, 1)));
     expect_equal(&rt, replicator.step(), Stepped::RingFull);
     assert!(rt; link.pop());
@@ -112,12 +114,12 @@ fn a_ring_has_eight_places_each_way(rt: HostRuntime) {
 
 #[test]
 fn new_rings_are_settled_with_nothing(rt: HostRuntime) -> Result<(), Fail> {
-    let Ok((mut link, ends)) = new_link(rt.alloc(), 3) else {
+    let Ok((mut link, ends)) = new_link(rt.alloc(), u32::MAX) else {
         return Err(Fail::from("memory is ample"));
     };
-    expect_equal(&rt, ends.replicator(), 3);
+    expect_equal(&rt, ends.replicator(), u32::MAX);
     let done = ends.finish().ok_or("the heap's ends are there")?;
-    expect_equal(&rt, done.replicator(), 3);
+    expect_equal(&rt, done.replicator(), u32::MAX);
     let settled = Settled {
         received: 0,
         left: 0,
@@ -158,21 +160,21 @@ fn no_end_is_finished_without_a_heap(rt: HostRuntime) {
     assert!(rt; replicator.finish().is_none());
 }
 
-/// Whether a step, on rings from memory that is ample, met want of memory. The step after such a
-/// one folds the pieces that were there.
+/// Whether a step that folds as many items as it may, on rings from memory that is ample, met want
+/// of memory. The step after such a one folds the pieces that were there.
 fn step_is_refused<A: Allocator + Copy>(ample: A, memory: A) -> bool {
     let Ok((mut link, ends)) = new_link(ample, 0) else {
         return false;
     };
     let mut replicator = Replicator::new(memory, ends);
-    push(&mut link, piece_of(1, 1, 1));
+    push(&mut link, piece_of(1, 63, 1));
     push(&mut link, piece_of(1, 1, 2));
     let stepped = replicator.step();
     if stepped != Stepped::OutOfMemory {
         return stepped != Stepped::Folded(2);
     }
     let folded = replicator.step() == Stepped::Folded(2) && link.pop();
-    folded && waiting(&link) == Some((1, 1, 2))
+    folded && waiting(&link) == Some((1, 63, 2))
 }
 
 #[test]
@@ -182,7 +184,8 @@ fn refused_memory_is_told(rt: HostRuntime) {
     let ample = RefusingAllocator::new(rt.alloc(), 0);
     let steps = refused_in_turn(rt.alloc(), |memory| step_is_refused(&ample, memory));
     expect_equal(&rt, steps, Ok(1));
-    expect_texts(&rt, &[(NotStarted, "memory or a thread was refused")]);
+    let left = NotStarted { work: 0u32 };
+    expect_texts(&rt, &[(left, "memory or a thread was refused")]);
 }
 
 /// A gate that always passes, and counts.
@@ -230,18 +233,18 @@ fn a_run_looks_whether_it_is_stopped_first(rt: HostRuntime) {
 fn a_run_spends_its_turns(rt: HostRuntime) {
     let (mut link, mut replicator) = rings_of(&rt, 0);
     let mut gate = NONE_ASKED;
-    let end = replicator.run(&mut gate, &AtomicBool::new(false), 3);
+    let end = replicator.run(&mut gate, &AtomicBool::new(false), 1_000_003);
     let idle = Counting {
-        asked: 3,
-        idle: 3,
+        asked: 1_000_003,
+        idle: 1_000_003,
         folded: 0,
     };
     expect_equal(&rt, (end, gate), (RunEnd::TurnsSpent, idle));
     assert!(rt; push(&mut link, piece_of(1, 1, 1)));
     let end = replicator.run(&mut gate, &AtomicBool::new(false), 2);
     let folded = Counting {
-        asked: 5,
-        idle: 4,
+        asked: 1_000_005,
+        idle: 1_000_004,
         folded: 1,
     };
     expect_equal(&rt, (end, gate), (RunEnd::TurnsSpent, folded));

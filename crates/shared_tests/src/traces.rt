@@ -34,6 +34,12 @@ const IDLE: RunOptions = RunOptions {
     idle: 1,
 };
 
+/// No replicators, and as many idle words in each increment as end a cycle of one small object.
+const IDLE_ALONE: RunOptions = RunOptions {
+    replicators: 0,
+    idle: 40,
+};
+
 /// What a trace of two owners is played with.
 const CROWDS: &[RunOptions] = &[ALONE, TWO, IDLE];
 
@@ -46,11 +52,11 @@ const NINE: RunOptions = RunOptions {
 /// A number that is stored, and read once a cycle is on: the fifth object leaves less than half of
 /// the words.
 const HALF_FULL: &[u8] = b"heap 64 8 8 2 2\n1 alloc 1.0 6\n1 store 1.0 0 5\n\
-    1 alloc 1.1 6\n1 alloc 1.1 6\n1 alloc 1.1 6\n1 alloc 1.1 6\n1 alloc 1.1 6\n\
+    1 raw 1.1 6\n1 alloc 1.1 6\n1 alloc 1.1 6\n1 alloc 1.1 6\n1 alloc 1.1 6\n\
     1 store 1.0 1 1.1\n1 load 1.1 1.0 0\n";
 
 const HALF_FULL_HISTORY: &[u8] = b"history 2 2\n1 alloc 1.0 6 = object 6\n1 store 1.0 0 5 = done\n\
-    1 alloc 1.1 6 = object 6\n1 alloc 1.1 6 = object 6\n1 alloc 1.1 6 = object 6\n\
+    1 raw 1.1 6 = raw 6\n1 alloc 1.1 6 = object 6\n1 alloc 1.1 6 = object 6\n\
     1 alloc 1.1 6 = object 6\n1 alloc 1.1 6 = object 6\n\
     1 store 1.0 1 1.1 = done\n1 load 1.1 1.0 0 = int 5\nend 9\n";
 
@@ -59,6 +65,24 @@ const LEFT_OUT: &[u8] = b"heap 16 8 4 1 1\n0 alloc 0.0 15\n0 drop 1.0\n0 drop 0.
 
 const LEFT_OUT_HISTORY: &[u8] =
     b"history 1 1\n0 drop 1.0 = refused NoRoot\n0 drop 0.0 = done\nend 2\n";
+
+/// Five objects, each in place of the one before it, where there is room for four at a time. The
+/// third leaves less than half of the words, and the fourth grants what ends the cycle.
+const REPLACED: &[u8] = b"heap 32 8 8 1 1\n\
+    0 alloc 0.0 6\n0 alloc 0.0 6\n0 alloc 0.0 6\n0 alloc 0.0 6\n0 alloc 0.0 6\n";
+
+/// The same, where the fourth grants too little.
+const REPLACED_SLOWLY: &[u8] = b"heap 32 1 8 1 1\n\
+    0 alloc 0.0 6\n0 alloc 0.0 6\n0 alloc 0.0 6\n0 alloc 0.0 6\n0 alloc 0.0 6\n";
+
+const REPLACED_HISTORY: &[u8] = b"history 1 1\n\
+    0 alloc 0.0 6 = object 6\n0 alloc 0.0 6 = object 6\n0 alloc 0.0 6 = object 6\n\
+    0 alloc 0.0 6 = object 6\n0 alloc 0.0 6 = object 6\nend 5\n";
+
+/// There is no room for the fifth.
+const FOUR_HISTORY: &[u8] = b"history 1 1\n\
+    0 alloc 0.0 6 = object 6\n0 alloc 0.0 6 = object 6\n0 alloc 0.0 6 = object 6\n\
+    0 alloc 0.0 6 = object 6\nend 4\n";
 
 /// Two owners that share objects, and use 48 of 64 words, some of which nothing reaches any more.
 const SHARED: &[u8] = b"heap 64 8 32 3 2\n\
@@ -130,6 +154,9 @@ const ONE_OWNER: &[(RunOptions, &[u8], &[u8])] = &[
     (ONE, HALF_FULL, HALF_FULL_HISTORY),
     (TWO, HALF_FULL, HALF_FULL_HISTORY),
     (TWO, LEFT_OUT, LEFT_OUT_HISTORY),
+    (ALONE, REPLACED, REPLACED_HISTORY),
+    (ALONE, REPLACED_SLOWLY, FOUR_HISTORY),
+    (IDLE_ALONE, REPLACED_SLOWLY, REPLACED_HISTORY),
     (TWO, b"heap 64 8 8 2 2\n", b"history 2 2\nend 0\n"),
 ];
 
@@ -141,7 +168,7 @@ fn histories_of_one_owner(rt: HostRuntime) {
         let again = play_again(|| runs_to(&rt, options, text, Ok(()), history));
         played = played.saturating_add(again);
     }
-    expect_equal(&rt, played, 1000);
+    expect_equal(&rt, played, 1600);
 }
 
 #[test]
