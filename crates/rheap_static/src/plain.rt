@@ -32,7 +32,8 @@ pub extern "C" fn rheap_run(
     length: &mut usize,
 ) -> u8
     // A run of the trace ended so with this text written, and this is what is told of it. No read
-    // failed, so 3 says that memory was refused.
+    // failed, so 3 says that memory was refused, or that the write to the vector failed, which no
+    // contract excludes.
     ensures told { (outcome : Result SummaryOf RunFaultOf) × (text : List ℕ)
         × Ends (run_of trace.now) outcome (Some []) (Some text)
         × ¬ IsErrOf outcome RunFaultOf.Read

@@ -1,6 +1,7 @@
 //! A loop that makes one object after the other, and is never refused one. Each call says itself
-//! that it is served (`IsPacedCall`), so that no law of the heap is called here. What is shown is
-//! the program's own: what it keeps, on a heap that never moves its objects.
+//! that it is served (`IsPacedCall`), so that no law of collecting is called here. That no more than
+//! one object is reached, on a heap that never moves its objects, is a law of
+//! `rh_pace::laws::worked`.
 
 ghost use Rattle.std.specs.Prelude.{◌≢◌, IfErr, IsOk};
 ghost use Rattle.rh_layout.specs.declared.refusal.Refusal.{Refusal as RefusalState};
