@@ -35,7 +35,6 @@
 
 #include <stddef.h>
 #include <stdint.h>
-#include <string.h>
 
 #define RHEAP_VERSION_MAJOR 0
 #define RHEAP_VERSION_MINOR 1
@@ -278,7 +277,28 @@ uint8_t rheap_store_ints(rheap *heap, uint32_t owner, rheap_root_id object, uint
 uint8_t rheap_load_ints(rheap *heap, uint32_t owner, rheap_root_id object, uint32_t from,
                         int64_t *numbers, size_t length, uint32_t *count);
 
-/* For the bytes of a text there are rheap_store_text and rheap_load_text, below. */
+/* The fields take the bytes of a text, `length` of them: all or none. A field takes seven bytes as
+   a number, the first one as its lowest eight bits; the last field has zeros behind them. So they
+   are rheap_text_fields(length) numbers, stored as by rheap_store_ints: in a cycle at most
+   ratio + 5 units follow each of them; none follow outside. A text doesn't say how long it is: keep
+   its length, say in the field before it.
+
+   It is refused as rheap_store_ints is, but no number is out of range. A text of more bytes than an
+   object has fields for is NO_FIELD. After LOG_FULL rheap_insist_store_text collects.
+   DONE, NO_ROOT, NOT_YOURS, NOT_OBJECT, NO_FIELD, LOG_FULL, NUMBERS_SPENT, NOT_OPEN. */
+uint8_t rheap_store_text(rheap *heap, uint32_t owner, rheap_root_id object, uint32_t from,
+                         const void *text, size_t length);
+
+/* The bytes that the fields hold are read: `length` of them, or those of the fields before the
+   first that holds no number. `count` tells how many were read; what is behind them in `text`
+   stays. Of a number its lowest 56 bits are read. It reads the heap alone, and does no collector
+   work. Length 0 reads nothing, and is DONE.
+
+   Each of the fields that `length` bytes take must be there. After a refusal `text` is as it was,
+   and `count` is 0.
+   DONE, NO_ROOT, NOT_YOURS, NOT_OBJECT, NO_FIELD, NOT_OPEN. */
+uint8_t rheap_load_text(rheap *heap, uint32_t owner, rheap_root_id object, uint32_t from,
+                        void *text, size_t length, uint32_t *count);
 
 /* --- Roots --- */
 
@@ -311,6 +331,12 @@ uint8_t rheap_insist_store_root(rheap *heap, uint32_t owner, rheap_root_id objec
    DONE, NO_ROOT, NOT_YOURS, NOT_OBJECT, NO_FIELD, INT_RANGE, NUMBERS_SPENT, NOT_OPEN. */
 uint8_t rheap_insist_store_ints(rheap *heap, uint32_t owner, rheap_root_id object, uint32_t from,
                                 const int64_t *numbers, size_t length);
+
+/* As rheap_store_text. Where the log has too few places, it collects once, as rheap_collect, and
+   stores then. LOG_FULL never comes.
+   DONE, NO_ROOT, NOT_YOURS, NOT_OBJECT, NO_FIELD, NUMBERS_SPENT, NOT_OPEN. */
+uint8_t rheap_insist_store_text(rheap *heap, uint32_t owner, rheap_root_id object, uint32_t from,
+                                const void *text, size_t length);
 
 /* --- Reading --- */
 
@@ -451,22 +477,10 @@ static inline uint8_t rheap_pop_to(rheap_scope *scope, uint32_t mark) {
     return first;
 }
 
-/* --- The bytes of a text. This isn't proved either. --- */
-
-/* A field takes seven bytes as a number, the first one as its lowest bits; the last field has zeros
-   behind them. A text doesn't say how long it is: keep its length, say in the field before it. */
-
 #ifdef __cplusplus
 #define RHEAP_CAST(type, what) static_cast<type>(what)
 #else
 #define RHEAP_CAST(type, what) ((type)(what))
-#endif
-
-/* The calls on texts take 32 KiB of stack. They aren't inlined, so no frame of yours grows. */
-#ifdef __GNUC__
-#define RHEAP_APART static __attribute__((noinline, unused))
-#else
-#define RHEAP_APART static inline
 #endif
 
 /* How many fields a text of so many bytes takes. If that is more than an object has, it is
@@ -476,93 +490,6 @@ static inline uint32_t rheap_text_fields(size_t length) {
                                          : RHEAP_CAST(uint32_t, (length + 6) / 7);
 }
 
-/* The number of seven bytes, of which eight are there: the least significant one is the first in
-   memory. */
-static inline int64_t rheap_seven_bytes(const unsigned char *bytes) {
-    int64_t number;
-    memcpy(&number, bytes, 8);
-    return number & INT64_C(0xffffffffffffff);
-}
-
-/* Writes the numbers of a text to `numbers`, which has room for RHEAP_MAX_FIELDS + 1. How many there
-   are; one more than any object has, where the text is too long. */
-RHEAP_APART uint32_t rheap_pack_text(const void *text, size_t length, int64_t *numbers) {
-    const unsigned char *bytes = RHEAP_CAST(const unsigned char *, text);
-    const uint32_t fields = rheap_text_fields(length);
-    size_t left = length < 7 * RHEAP_CAST(size_t, fields) ? length : 7 * RHEAP_CAST(size_t, fields);
-    int64_t *next = numbers;
-    /* By fours, which takes about half the time. */
-    for (; left >= 29; left -= 28) {
-        next[0] = rheap_seven_bytes(bytes);
-        next[1] = rheap_seven_bytes(bytes + 7);
-        next[2] = rheap_seven_bytes(bytes + 14);
-        next[3] = rheap_seven_bytes(bytes + 21);
-        next += 4;
-        bytes += 28;
-    }
-    for (; left >= 8; left -= 7) {
-        *next++ = rheap_seven_bytes(bytes);
-        bytes += 7;
-    }
-    if (left > 0) {
-        *next = 0;
-        memcpy(next, bytes, left);
-    }
-    return fields;
-}
-
-/* The fields from `from` on take the bytes of a text, rheap_text_fields(length) of them: all or
-   none. It is one rheap_store_ints: it answers and does collector work as that. NO_FIELD is also the
-   answer where the text is too long for any object. */
-RHEAP_APART uint8_t rheap_store_text(rheap *heap, uint32_t owner, rheap_root_id object,
-                                     uint32_t from, const void *text, size_t length) {
-    int64_t numbers[RHEAP_MAX_FIELDS + 1];
-    const uint32_t fields = rheap_pack_text(text, length, numbers);
-    return rheap_store_ints(heap, owner, object, from, numbers, fields);
-}
-
-/* The same as one rheap_insist_store_ints: LOG_FULL never comes. */
-RHEAP_APART uint8_t rheap_insist_store_text(rheap *heap, uint32_t owner, rheap_root_id object,
-                                            uint32_t from, const void *text, size_t length) {
-    int64_t numbers[RHEAP_MAX_FIELDS + 1];
-    const uint32_t fields = rheap_pack_text(text, length, numbers);
-    return rheap_insist_store_ints(heap, owner, object, from, numbers, fields);
-}
-
-/* The bytes that the fields from `from` on hold are read: `length` of them, or those of the fields
-   before the first that holds no number. `count` tells how many were read; what is behind them in
-   `text` stays. Of a number, its lowest 56 bits are read. It is one rheap_load_ints of
-   rheap_text_fields(length), and answers as that. */
-RHEAP_APART uint8_t rheap_load_text(rheap *heap, uint32_t owner, rheap_root_id object,
-                                    uint32_t from, void *text, size_t length, uint32_t *count) {
-    int64_t numbers[RHEAP_MAX_FIELDS + 1];
-    unsigned char *bytes = RHEAP_CAST(unsigned char *, text);
-    const int64_t *next = numbers;
-    uint32_t read;
-    const uint8_t status =
-        rheap_load_ints(heap, owner, object, from, numbers, rheap_text_fields(length), &read);
-    size_t left = length < 7 * RHEAP_CAST(size_t, read) ? length : 7 * RHEAP_CAST(size_t, read);
-    *count = RHEAP_CAST(uint32_t, left);
-    /* Each eighth byte is then written over. */
-    for (; left >= 29; left -= 28) {
-        memcpy(bytes, next, 8);
-        memcpy(bytes + 7, next + 1, 8);
-        memcpy(bytes + 14, next + 2, 8);
-        memcpy(bytes + 21, next + 3, 8);
-        next += 4;
-        bytes += 28;
-    }
-    for (; left >= 8; left -= 7) {
-        memcpy(bytes, next++, 8);
-        bytes += 7;
-    }
-    if (left > 0) {
-        memcpy(bytes, next, left);
-    }
-    return status;
-}
-
-#undef RHEAP_APART
 #undef RHEAP_CAST
 
 #ifdef __cplusplus

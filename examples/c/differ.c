@@ -175,21 +175,38 @@ static int alloc(uint32_t owner, rheap_root_id dst, uint32_t fields, int raw) {
     return 1;
 }
 
-/* What rheap_load_ints tells of these fields, beside a peek at each. */
+/* Whether these are the lowest seven bytes of the number, the lowest one first. */
+static int seven_bytes(int64_t number, const unsigned char *bytes) {
+    uint64_t left = (uint64_t)number;
+    int at;
+    for (at = 0; at < 7; at++, left >>= 8) {
+        if (bytes[at] != (left & 0xff)) {
+            return 0;
+        }
+    }
+    return 1;
+}
+
+/* What rheap_load_ints and rheap_load_text tell of these fields, beside a peek at each. */
 static void read_in_a_row(uint32_t owner, rheap_root_id src, uint32_t from, uint32_t length) {
     int64_t numbers[ROW];
+    unsigned char text[7 * ROW];
+    uint32_t bytes;
     rheap_value value;
     uint32_t count;
     uint32_t due = 0;
     uint32_t at;
     int is_on = 1;
     uint8_t status = rheap_load_ints(&heap, owner, src, from, numbers, length, &count);
-    uint8_t first = RHEAP_DONE;
+    uint8_t first = rheap_load_text(&heap, owner, src, from, text, 7 * length, &bytes);
+    agree(first == status && bytes == 7 * count, "rheap_load_text");
+    first = RHEAP_DONE;
     for (at = 0; at < length && first == RHEAP_DONE; at++) {
         first = rheap_peek(&heap, owner, src, from + at, &value);
         is_on = is_on && value.kind == RHEAP_NUMBER;
         if (is_on) {
             agree(status != RHEAP_DONE || value.number == numbers[at], "rheap_load_ints");
+            agree(status != RHEAP_DONE || seven_bytes(value.number, text + 7 * at), "rheap_load_text");
             due++;
         }
     }

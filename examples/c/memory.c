@@ -7,6 +7,7 @@
 #include "rheap.h"
 #include <stddef.h>
 #include <stdio.h>
+#include <string.h>
 
 void *__real_malloc(size_t size);
 void *__real_realloc(void *block, size_t size);

@@ -87,6 +87,7 @@ static void without_a_heap(rheap *heap) {
     EQUALS(count, 0);
     EQUALS(numbers[0] * 10 + numbers[1], 56);
     IS(rheap_store_text(heap, 0, root, 0, text, 7), NOT_OPEN);
+    IS(rheap_insist_store_text(heap, 0, root, 0, text, 7), NOT_OPEN);
     count = 7;
     IS(rheap_load_text(heap, 0, root, 0, text, 7, &count), NOT_OPEN);
     EQUALS(count, 0);
@@ -458,10 +459,11 @@ static void in_a_row(rheap *heap) {
     EQUALS(count, 0);
 }
 
-/* The longest text, in an object of the most fields. */
+/* The longest text, in an object of the most fields; and one that is far too long for any. */
 static void longest_text(rheap *heap) {
     static char text[7 * RHEAP_MAX_FIELDS + 1];
     static char back[sizeof text];
+    static char huge[1 << 20];
     rheap_root_id raw = rheap_slot(1, 1);
     uint32_t count = 7;
     size_t at;
@@ -477,6 +479,12 @@ static void longest_text(rheap *heap) {
     EQUALS(count, 0);
     IS(rheap_load_text(heap, 1, raw, 0, back, sizeof text - 1, &count), DONE);
     EQUALS(count, sizeof text - 1);
+    EQUALS(memcmp(text, back, sizeof text - 1), 0);
+    IS(rheap_store_text(heap, 1, raw, 0, huge, sizeof huge), NO_FIELD);
+    IS(rheap_insist_store_text(heap, 1, raw, 0, huge, sizeof huge), NO_FIELD);
+    IS(rheap_load_text(heap, 1, raw, 0, huge, sizeof huge, &count), NO_FIELD);
+    EQUALS(count, 0);
+    IS(rheap_load_text(heap, 1, raw, 0, back, sizeof text - 1, &count), DONE);
     EQUALS(memcmp(text, back, sizeof text - 1), 0);
     IS(rheap_drop(heap, 1, raw), DONE);
 }

@@ -28,7 +28,7 @@ use Rattle.rh_pace.proofs.kept_up.Laws.{StepLaws}
 use Rattle.rheap_c.specs.Room.{AreCallsBounded, FindRoomIfFitToLimit, FindRoomToLimit, IsCallBounded, IsUnlimited}
 use Rattle.rheap_c.specs.Rows.{after_row, plain_refusal, plain_unless_refused, ready_for, row_refusal}
 use Rattle.rheap_c.specs.Runs.{Answer, AreMade, Call, IsMade, after_call, doing, is_limit_status, plain_unless_limited}
-use Rattle.rheap_c.specs.Runs.Call.{Does, Loads, Compares, InsistsOn, CollectsNow, IncrementsNow, Peeks, ReadsField, ReadsRoot, Counts, TellsNumbers, StoresInts, InsistsOnInts, LoadsInts}
+use Rattle.rheap_c.specs.Runs.Call.{Does, Loads, Compares, InsistsOn, CollectsNow, IncrementsNow, Peeks, ReadsField, ReadsRoot, Counts, TellsNumbers, StoresInts, InsistsOnInts, LoadsInts, LoadsText}
 use Rattle.rheap_c.specs.Several.{AreStored, AreStoredUnless}
 use Rattle.rheap_c.specs.Told.{status_of}
 use Rattle.rheap_c.proofs.InTime.{CallMakesAtMost-bounded, HasLog-kept, HasLogToInsist-log, HasRowPlaces-kept, IsFullStatus, KeepsTime, KeepsTime-after_call, KeepsTime-ready, RowFitsAt-all, RowsFit-doing, after_call-setting, insisted-same, ready-setting, spent-made}
@@ -135,6 +135,7 @@ module _ (laws : StepLaws) (told : ProgramLaws Global) (live biggest : ℕ) wher
         (AreStoredInsisting-stands s owner object from numbers new a.status p made.0 on.stands))
         owner object from numbers new a.status free bounded.1 (AreStoredInsisting-ready s owner object from numbers new a.status made.0)
     after_call-on (LoadsInts owner object from before) new a bounded made free = on
+    after_call-on (LoadsText owner object from before) new a bounded made free = on
 
   -- calls one after the other
   pub FindRoomIfFit-bounded : (calls : List Call) (s : PacedState) (p : PlainHeap) (new : Option PacedState) (answers : List Answer)

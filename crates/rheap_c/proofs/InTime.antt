@@ -17,6 +17,7 @@ use Rattle.rh_mutator.specs.declared.config.Config.{Config}
 use Rattle.rh_mutator.specs.LoadingAll.{field_loads, number_told}
 use Rattle.rh_mutator.specs.Mutator.{MutatorState, graph_of}
 use Rattle.rh_mutator.specs.StoringAll.{first_refusal, number_stores}
+use Rattle.rh_mutator.specs.Texts.{fields_of_bytes}
 use Rattle.rh_mutator.specs.lemmas.Limits.{IsNoLimit}
 use Rattle.rh_core.specs.Heap.{IsWellFormed}
 use Rattle.rh_core.specs.runs.Progress.{words_made}
@@ -41,10 +42,10 @@ use Rattle.rh_pace.proofs.in_time.Room.{full-paced_step, lag-in_time, room-paced
 use Rattle.rheap_c.specs.Collected.{collect_status}
 use Rattle.rheap_c.specs.Opened.{IsNew, IsOpened, Opens, opened}
 use Rattle.rheap_c.specs.Read.{count_in, count_of_reply, count_status, field_answer, graph_in, peek_answer, root_answer}
-use Rattle.rheap_c.specs.Rows.{after_row, after_unless, read_into, ready_for, row_refusal, row_status}
+use Rattle.rheap_c.specs.Rows.{after_row, after_unless, byte_in, read_into, ready_for, row_refusal, row_status}
 use Rattle.rheap_c.specs.Room.{AlwaysFindRoom, AlwaysFindSpace, FindRoomIfFit, RowFitsAt, CallStaysWithin, CallsStayWithin, CollectsWithin, InsistsOnNothing, IsCallBounded, RowFits, RowStaysWithin}
-use Rattle.rheap_c.specs.Runs.{Answer, AreMade, Call, IsMade, after_call, answer_to, answers_to, command_of, doing, is_limit_status, with_read}
-use Rattle.rheap_c.specs.Runs.Call.{Does, Loads, Compares, InsistsOn, CollectsNow, IncrementsNow, Peeks, ReadsField, ReadsRoot, Counts, TellsNumbers, StoresInts, InsistsOnInts, LoadsInts}
+use Rattle.rheap_c.specs.Runs.{Answer, AreMade, Call, IsMade, after_call, answer_to, answers_to, command_of, doing, is_limit_status, with_numbers, with_read, with_text}
+use Rattle.rheap_c.specs.Runs.Call.{Does, Loads, Compares, InsistsOn, CollectsNow, IncrementsNow, Peeks, ReadsField, ReadsRoot, Counts, TellsNumbers, StoresInts, InsistsOnInts, LoadsInts, LoadsText}
 use Rattle.rheap_c.specs.Told.{status_of}
 use Rattle.rheap_c.specs.declared.opening.OpenFault.{OpenFault}
 use Rattle.rheap_c.proofs.Readings.{field_answer-load, peek_answer-load, root_answer-copy}
@@ -139,17 +140,25 @@ row-spaced : (s : PacedState) (owner : ℕ) (object : RootId) (from : ℕ) (numb
 row-spaced s owner object from numbers status =
     let nine = ap row_status (row-full s owner object from numbers (inl (sym status))) in omega (arith, status, nine)
 
--- a row that is read has no such status
-read-unfull : (r : Option Refusal) (before : List ℤ) (read : List ℤ × ℕ) → IsNoLimit r → IsFullStatus (with_read r before read).status → ⊥
-read-unfull None before read none full = zero-unfull full
-read-unfull (Some why) before read none full = full_status-asked why none full
+-- a row or a text that is read has no such status
+read-unfull : {X : Type 0} (tell : ℕ → List X → ℕ → Answer) → ((status : ℕ) (xs : List X) (count : ℕ) → (tell status xs count).status ≡ status)
+    → (r : Option Refusal) (before : List X) (read : List X × ℕ) → IsNoLimit r → IsFullStatus (with_read tell r before read).status → ⊥
+read-unfull tell is None before read none full = zero-unfull (subst IsFullStatus (is 0 read.0 read.1) full)
+read-unfull tell is (Some why) before read none full = full_status-asked why none (subst IsFullStatus (is (rank_of why) before 0) full)
 
 loads-unfull : (s : PacedState) (owner : ℕ) (object : RootId) (from : ℕ) (before : List ℤ)
     → IsFullStatus (answer_to s (LoadsInts owner object from before)).status → ⊥
 loads-unfull s owner object from before =
-    read-unfull (first_refusal (graph_in s) (field_loads owner object from (length before))) before
+    read-unfull with_numbers (λ status xs count. refl) (first_refusal (graph_in s) (field_loads owner object from (length before))) before
     (read_into (λ f. number_told (paced_step s owner (Load object object f)).1) from before)
     (asked-no_limit (graph_in s) (field_loads owner object from (length before)))
+
+text-unfull : (s : PacedState) (owner : ℕ) (object : RootId) (from : ℕ) (before : List ℕ)
+    → IsFullStatus (answer_to s (LoadsText owner object from before)).status → ⊥
+text-unfull s owner object from before =
+    read-unfull with_text (λ status xs count. refl) (first_refusal (graph_in s) (field_loads owner object from (fields_of_bytes (length before)))) before
+    (read_into (byte_in (λ f. number_told (paced_step s owner (Load object object f)).1) from) 0 before)
+    (asked-no_limit (graph_in s) (field_loads owner object from (fields_of_bytes (length before))))
 
 -- What a heap keeps that collects in time, from call to call.
 pub record KeepsTime (live biggest : ℕ) (s : PacedState) : Type 0 where
@@ -216,6 +225,7 @@ HasLogToInsist-log biggest s TellsNumbers log = tt
 HasLogToInsist-log biggest s (StoresInts owner object from numbers) log = tt
 HasLogToInsist-log biggest s (InsistsOnInts owner object from numbers) log = tt
 HasLogToInsist-log biggest s (LoadsInts owner object from before) log = tt
+HasLogToInsist-log biggest s (LoadsText owner object from before) log = tt
 
 HasLogToInsist-nothing : (biggest : ℕ) (s : PacedState) (call : Call) → InsistsOnNothing call → HasLogToInsist biggest s call
 HasLogToInsist-nothing biggest s (Does owner command) nothing = tt
@@ -232,6 +242,7 @@ HasLogToInsist-nothing biggest s TellsNumbers nothing = tt
 HasLogToInsist-nothing biggest s (StoresInts owner object from numbers) nothing = tt
 HasLogToInsist-nothing biggest s (InsistsOnInts owner object from numbers) nothing = absurd nothing
 HasLogToInsist-nothing biggest s (LoadsInts owner object from before) nothing = tt
+HasLogToInsist-nothing biggest s (LoadsText owner object from before) nothing = tt
 
 -- A row that is insisted on has no such status.
 abbrev FitsRow : ℕ → PacedState → Call → Type 0
@@ -261,6 +272,7 @@ FitsRow-made biggest s new TellsNumbers a made row = row
 FitsRow-made biggest s new (StoresInts owner object from numbers) a made row = row
 FitsRow-made biggest s new (InsistsOnInts owner object from numbers) a made row = insisted_row-unfull s owner object from numbers new a made
 FitsRow-made biggest s new (LoadsInts owner object from before) a made row = row
+FitsRow-made biggest s new (LoadsText owner object from before) a made row = row
 
 -- A list of commands keeps the setting.
 paced_after-setting : (row : List (ℕ × Command)) (s : PacedState) → SameSetting s (paced_after s row)
@@ -297,6 +309,7 @@ CallMakesAtMost-within live biggest s TellsNumbers within = tt
 CallMakesAtMost-within live biggest s (StoresInts owner object from numbers) within = tt
 CallMakesAtMost-within live biggest s (InsistsOnInts owner object from numbers) within = tt
 CallMakesAtMost-within live biggest s (LoadsInts owner object from before) within = tt
+CallMakesAtMost-within live biggest s (LoadsText owner object from before) within = tt
 
 -- the same of what is bounded on a plain heap
 pub CallMakesAtMost-bounded : (live biggest : ℕ) (p : PlainHeap) (call : Call) → IsCallBounded live biggest p call → MakesAtMost biggest (command_of call)
@@ -314,6 +327,7 @@ CallMakesAtMost-bounded live biggest p TellsNumbers bounded = tt
 CallMakesAtMost-bounded live biggest p (StoresInts owner object from numbers) bounded = tt
 CallMakesAtMost-bounded live biggest p (InsistsOnInts owner object from numbers) bounded = tt
 CallMakesAtMost-bounded live biggest p (LoadsInts owner object from before) bounded = tt
+CallMakesAtMost-bounded live biggest p (LoadsText owner object from before) bounded = tt
 
 module _ (laws : StepLaws) (live biggest : ℕ) where
   module _ (s : PacedState) (keeps : KeepsTime live biggest s) where
@@ -413,6 +427,7 @@ module _ (laws : StepLaws) (live biggest : ℕ) where
     KeepsTime-after_call (InsistsOnInts owner object from numbers) within log =
         KeepsTime-after_row (ready_for s owner object from numbers) (KeepsTime-ready owner object from numbers) owner object from numbers within
     KeepsTime-after_call (LoadsInts owner object from before) within log = keeps
+    KeepsTime-after_call (LoadsText owner object from before) within log = keeps
 
     -- and the setting
     paced_step-setting : (owner : ℕ) (command : Command) → SameSetting s (paced_step s owner command).0
@@ -438,6 +453,7 @@ module _ (laws : StepLaws) (live biggest : ℕ) where
         let stored = after_row-setting (ready_for s owner object from numbers) owner object from numbers in
         (stored.0 ∙ ready.0, stored.1 ∙ ready.1)
     after_call-setting (LoadsInts owner object from before) fits log = (refl, refl)
+    after_call-setting (LoadsText owner object from before) fits log = (refl, refl)
 
     none-fits : 0 ≤ biggest
     none-fits = omega arith
@@ -478,6 +494,7 @@ module _ (laws : StepLaws) (live biggest : ℕ) where
           absurd (unfull-row owner object from numbers row (row-full s owner object from numbers full))
       spent-answer_to (InsistsOnInts owner object from numbers) fits row full = absurd (row full)
       spent-answer_to (LoadsInts owner object from before) fits row full = absurd (loads-unfull s owner object from before full)
+      spent-answer_to (LoadsText owner object from before) fits row full = absurd (text-unfull s owner object from before full)
 
       pub spent-made : (call : Call) (new : Option PacedState) (a : Answer) → IsMade (Some s) new call a → MakesAtMost biggest (command_of call)
           → HasRowPlaces biggest s call → IsFullStatus a.status → AreEpochsSpent s.heap
@@ -511,6 +528,7 @@ module _ (laws : StepLaws) (live biggest : ℕ) where
     no_space-answer_to (StoresInts owner object from numbers) within nothing status = absurd (row-spaced s owner object from numbers status)
     no_space-answer_to (InsistsOnInts owner object from numbers) within nothing status = absurd nothing
     no_space-answer_to (LoadsInts owner object from before) within nothing status = absurd (loads-unfull s owner object from before (inl (sym status)))
+    no_space-answer_to (LoadsText owner object from before) within nothing status = absurd (text-unfull s owner object from before (inl (sym status)))
 
   -- so do calls, one after the other
   FindRoomIfFit-made : (calls : List Call) (s : PacedState) (new : Option PacedState) (answers : List Answer) → KeepsTime live biggest s → HasLog biggest s

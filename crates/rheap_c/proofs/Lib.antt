@@ -9,3 +9,4 @@ pub mod Refused
 pub mod Tried
 pub mod Bounded
 pub mod Unless
+pub mod KeptTexts

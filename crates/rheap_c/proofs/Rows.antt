@@ -1,5 +1,5 @@
 -- What calls leave and tell that store or read whole numbers in fields in a row.
-use Rattle.std.proofs.Common.{◌≡◌, ◌⊎◌, inl, inr, ℕ, zero, suc, ◌+◌, ◌<◌, ℤ, pos, Bool, true, false, List, [], ◌∷◌, length, Option, Some, None, Result, Ok, Err, refl, sym, ap, subst, ◌∙◌, arith}
+use Rattle.std.proofs.Common.{◌≡◌, ◌⊎◌, inl, inr, ℕ, zero, suc, ◌+◌, ◌-◌, ◌/◌, ◌%◌, ◌<◌, ◌≤◌, ℤ, pos, Bool, true, false, List, [], ◌∷◌, drop, length, Option, Some, None, Result, Ok, Err, refl, sym, ap, subst, ◌∙◌, arith}
 use Rattle.std.specs.Prelude.{nat_lt, ◌&&◌, slice_index_or, if◌then◌else◌}
 use Rattle.rh_layout.specs.declared.command.Command.{Command}
 use Rattle.rh_layout.specs.declared.command.Command.TheVariants.{Load}
@@ -14,13 +14,14 @@ use Rattle.rh_mutator.specs.Commands.{is_limit_answer}
 use Rattle.rh_mutator.specs.LoadingAll.{AreLoaded, field_loads, number_told}
 use Rattle.rh_mutator.specs.Mutator.{MutatorState, StandsFor}
 use Rattle.rh_mutator.specs.StoringAll.{first_refusal, log_limit_for, number_stores}
+use Rattle.rh_mutator.specs.Texts.{IsTextRead, byte_told, fields_of_bytes}
 use Rattle.rh_mutator.specs.lemmas.Limits.{IsNoLimit, IsOnlyLimit}
 use Rattle.rh_pace.specs.Collecting.{collect_step}
 use Rattle.rh_pace.specs.Paced.{PacedState, paced_step}
 use Rattle.rheap_c.specs.Read.{graph_in, peek_answer}
-use Rattle.rheap_c.specs.Rows.{after_unless, emptied_for, plain_refusal, plain_unless_refused, read_into, read_on, ready_for, row_refusal, row_status}
-use Rattle.rheap_c.specs.Runs.{Answer, StoresAsPlain, answer_to, is_limit_status, plain_after_row, with_numbers, with_read, with_status}
-use Rattle.rheap_c.specs.Runs.Call.{LoadsInts}
+use Rattle.rheap_c.specs.Rows.{after_unless, byte_in, emptied_for, plain_refusal, plain_unless_refused, read_into, read_on, ready_for, row_refusal, row_status}
+use Rattle.rheap_c.specs.Runs.{Answer, StoresAsPlain, answer_to, is_limit_status, plain_after_row, with_numbers, with_read, with_status, with_text}
+use Rattle.rheap_c.specs.Runs.Call.{LoadsInts, LoadsText}
 use Rattle.rheap_c.specs.Several.{AreStored, AreStoredInsisting, AreStoredUnless}
 use Rattle.rheap_c.specs.Told.{status_of}
 use Rattle.rheap_c.proofs.Readings.{peek_answer-load}
@@ -169,23 +170,32 @@ module _ (row : List (ℕ × Command)) (old new : PacedState) (p : PlainHeap) (a
 
 -- Readings.
 
-module _ (number_at : ℕ → Option ℤ) where
-  AreLoaded-none : (from : ℕ) (before : List ℤ) → number_at from ≡ None
-      → AreLoaded number_at from before before 0
-  AreLoaded-none from before none = record {
+-- So many items were read into a list, where these are there from one on.
+record AreItemsRead (X : Type 0) (other : X) (item_at : ℕ → Option X) (from : ℕ)
+    (before after : List X) (count : ℕ) : Type 0 where
+  loaded : (i : ℕ) → i < count → item_at (from + i) ≡ Some (slice_index_or after i other)
+  next : count < length before → item_at (from + count) ≡ None
+  few : count ≤ length before
+  rest : drop count after ≡ drop count before
+  same_length : length after ≡ length before
+
+module _ (X : Type 0) (other : X) (item_at : ℕ → Option X) where
+  AreItemsRead-none : (from : ℕ) (before : List X) → item_at from ≡ None
+      → AreItemsRead X other item_at from before before 0
+  AreItemsRead-none from before none = record {
     loaded = λ i within. absurd (omega (arith, within));
-    next = λ within. subst (λ f. number_at f ≡ None) (omega arith) none;
+    next = λ within. subst (λ f. item_at f ≡ None) (omega arith) none;
     few = omega arith;
     rest = refl;
     same_length = refl;
   }
 
-  AreLoaded-some : (from : ℕ) (n m : ℤ) (rest more : List ℤ) (count : ℕ)
-      → number_at from ≡ Some m → AreLoaded number_at (from + 1) rest more count
-      → AreLoaded number_at from (n ∷ rest) (m ∷ more) (suc count)
-  AreLoaded-some from n m rest more count some further = record {
+  AreItemsRead-some : (from : ℕ) (x y : X) (rest more : List X) (count : ℕ)
+      → item_at from ≡ Some y → AreItemsRead X other item_at (from + 1) rest more count
+      → AreItemsRead X other item_at from (x ∷ rest) (y ∷ more) (suc count)
+  AreItemsRead-some from x y rest more count some further = record {
     loaded = by;
-    next = λ within. subst (λ f. number_at f ≡ None) (omega arith)
+    next = λ within. subst (λ f. item_at f ≡ None) (omega arith)
         (further.next (omega (arith, within)));
     few = let few = further.few in omega (arith, few);
     rest = further.rest;
@@ -193,98 +203,217 @@ module _ (number_at : ℕ → Option ℤ) where
   }
     where
       by : (i : ℕ) → i < suc count
-          → number_at (from + i) ≡ Some (slice_index_or (m ∷ more) i (pos 0))
-      by zero within = subst (λ f. number_at f ≡ Some m) (omega arith) some
+          → item_at (from + i) ≡ Some (slice_index_or (y ∷ more) i other)
+      by zero within = subst (λ f. item_at f ≡ Some y) (omega arith) some
       by (suc i) within =
-          subst (λ f. number_at f ≡ Some (slice_index_or more i (pos 0))) (omega arith)
+          subst (λ f. item_at f ≡ Some (slice_index_or more i other)) (omega arith)
           (further.loaded i (omega (arith, within)))
 
-  AreLoaded-read_on : (from : ℕ) (n : ℤ) (rest : List ℤ) (further : List ℤ × ℕ)
-      → AreLoaded number_at (from + 1) rest further.0 further.1 → (o : Option ℤ)
-      → number_at from ≡ o → AreLoaded number_at from (n ∷ rest)
-      (read_on o (n ∷ rest) further).0 (read_on o (n ∷ rest) further).1
-  AreLoaded-read_on from n rest further loaded None is = AreLoaded-none from (n ∷ rest) is
-  AreLoaded-read_on from n rest further loaded (Some m) is =
-      AreLoaded-some from n m rest further.0 further.1 is loaded
+  AreItemsRead-read_on : (from : ℕ) (x : X) (rest : List X) (further : List X × ℕ)
+      → AreItemsRead X other item_at (from + 1) rest further.0 further.1 → (o : Option X)
+      → item_at from ≡ o → AreItemsRead X other item_at from (x ∷ rest)
+      (read_on o (x ∷ rest) further).0 (read_on o (x ∷ rest) further).1
+  AreItemsRead-read_on from x rest further loaded None is = AreItemsRead-none from (x ∷ rest) is
+  AreItemsRead-read_on from x rest further loaded (Some y) is =
+      AreItemsRead-some from x y rest further.0 further.1 is loaded
 
-  -- what is read into a list was loaded
-  pub AreLoaded-read_into : (from : ℕ) (before : List ℤ) → AreLoaded number_at from before
-      (read_into number_at from before).0 (read_into number_at from before).1
-  AreLoaded-read_into from [] = record {
+  -- what is read into a list are these items
+  AreItemsRead-read_into : (from : ℕ) (before : List X) → AreItemsRead X other item_at from before
+      (read_into item_at from before).0 (read_into item_at from before).1
+  AreItemsRead-read_into from [] = record {
     loaded = λ i within. absurd (omega (arith, within));
     next = λ within. absurd (omega (arith, within));
     few = omega arith;
     rest = refl;
     same_length = refl;
   }
-  AreLoaded-read_into from (n ∷ rest) =
-      AreLoaded-read_on from n rest (read_into number_at (from + 1) rest)
-      (AreLoaded-read_into (from + 1) rest) (number_at from) refl
+  AreItemsRead-read_into from (x ∷ rest) =
+      AreItemsRead-read_on from x rest (read_into item_at (from + 1) rest)
+      (AreItemsRead-read_into (from + 1) rest) (item_at from) refl
 
-  -- and what was loaded is that
-  pub read_into-loaded : (from : ℕ) (before after : List ℤ) (count : ℕ)
-      → AreLoaded number_at from before after count
-      → read_into number_at from before ≡ (after, count)
-  read_into-loaded from [] [] zero loaded = refl
-  read_into-loaded from [] [] (suc count) loaded =
+  -- and what was read so is that
+  read_into-items : (from : ℕ) (before after : List X) (count : ℕ)
+      → AreItemsRead X other item_at from before after count
+      → read_into item_at from before ≡ (after, count)
+  read_into-items from [] [] zero loaded = refl
+  read_into-items from [] [] (suc count) loaded =
       absurd (let few = loaded.few in omega (arith, few))
-  read_into-loaded from [] (m ∷ more) count loaded =
+  read_into-items from [] (y ∷ more) count loaded =
       absurd (let same = loaded.same_length in omega (arith, same))
-  read_into-loaded from (n ∷ rest) [] count loaded =
+  read_into-items from (x ∷ rest) [] count loaded =
       absurd (let same = loaded.same_length in omega (arith, same))
-  read_into-loaded from (n ∷ rest) (m ∷ more) zero loaded =
-      ap (λ o. read_on o (n ∷ rest) (read_into number_at (from + 1) rest))
-      (subst (λ f. number_at f ≡ None) (omega arith) (loaded.next (omega arith)))
-      ∙ ap (λ numbers. (numbers, zero)) (sym loaded.rest)
-  read_into-loaded from (n ∷ rest) (m ∷ more) (suc count) loaded =
-      ap (λ o. read_on o (n ∷ rest) (read_into number_at (from + 1) rest))
-      (subst (λ f. number_at f ≡ Some m) (omega arith) (loaded.loaded 0 (omega arith)))
-      ∙ ap (λ (read : List ℤ × ℕ). (m ∷ read.0, suc read.1))
-      (read_into-loaded (from + 1) rest more count (record {
+  read_into-items from (x ∷ rest) (y ∷ more) zero loaded =
+      ap (λ o. read_on o (x ∷ rest) (read_into item_at (from + 1) rest))
+      (subst (λ f. item_at f ≡ None) (omega arith) (loaded.next (omega arith)))
+      ∙ ap (λ items. (items, zero)) (sym loaded.rest)
+  read_into-items from (x ∷ rest) (y ∷ more) (suc count) loaded =
+      ap (λ o. read_on o (x ∷ rest) (read_into item_at (from + 1) rest))
+      (subst (λ f. item_at f ≡ Some y) (omega arith) (loaded.loaded 0 (omega arith)))
+      ∙ ap (λ (read : List X × ℕ). (y ∷ read.0, suc read.1))
+      (read_into-items (from + 1) rest more count (record {
         loaded = λ i within.
-            subst (λ f. number_at f ≡ Some (slice_index_or more i (pos 0))) (omega arith)
+            subst (λ f. item_at f ≡ Some (slice_index_or more i other)) (omega arith)
             (loaded.loaded (suc i) (omega (arith, within)));
-        next = λ within. subst (λ f. number_at f ≡ None) (omega arith)
+        next = λ within. subst (λ f. item_at f ≡ None) (omega arith)
             (loaded.next (omega (arith, within)));
         few = let few = loaded.few in omega (arith, few);
         rest = loaded.rest;
         same_length = let same = loaded.same_length in omega (arith, same);
       }))
 
+-- Numbers are such items.
+module _ (number_at : ℕ → Option ℤ) (from : ℕ) where
+  pub AreLoaded-read_into : (before : List ℤ) → AreLoaded number_at from before
+      (read_into number_at from before).0 (read_into number_at from before).1
+  AreLoaded-read_into before =
+      let items = AreItemsRead-read_into ℤ (pos 0) number_at from before in record {
+        loaded = items.loaded;
+        next = items.next;
+        few = items.few;
+        rest = items.rest;
+        same_length = items.same_length;
+      }
+
+  pub read_into-loaded : (before after : List ℤ) (count : ℕ)
+      → AreLoaded number_at from before after count
+      → read_into number_at from before ≡ (after, count)
+  read_into-loaded before after count loaded =
+      read_into-items ℤ (pos 0) number_at from before after count (record {
+        loaded = loaded.loaded;
+        next = loaded.next;
+        few = loaded.few;
+        rest = loaded.rest;
+        same_length = loaded.same_length;
+      })
+
+none≢some : (b : ℕ) → None ≡ Some b → ⊥
+none≢some b is = absurd (cc)
+
+no_byte-no_number : (o : Option ℤ) (j : ℕ) → byte_told o j ≡ None → o ≡ None
+no_byte-no_number None j none = refl
+no_byte-no_number (Some n) j none = absurd (cc)
+
+-- So are bytes, of which there are none from the first field on that holds no number.
+module _ (number_at : ℕ → Option ℤ) (from : ℕ) where
+  whole-fields : (after : List ℕ) (count : ℕ)
+      → ((i : ℕ) → i < count → byte_in number_at from i ≡ Some (slice_index_or after i 0))
+      → number_at (from + count / 7) ≡ None → (m : ℕ) → count % 7 ≡ m → m ≡ 0
+  whole-fields after count read none zero is = refl
+  whole-fields after count read none (suc m) is =
+      let last : (count - 1) / 7 ≡ count / 7 = omega (arith, is) in
+      absurd (none≢some (slice_index_or after (count - 1) 0)
+      (sym (ap (λ f. byte_told (number_at (from + f)) ((count - 1) % 7)) last
+      ∙ ap (λ o. byte_told o ((count - 1) % 7)) none)
+      ∙ read (count - 1) (omega (arith, is))))
+
+  pub IsTextRead-read_into : (before : List ℕ) → IsTextRead number_at from before
+      (read_into (byte_in number_at from) 0 before).0 (read_into (byte_in number_at from) 0 before).1
+  IsTextRead-read_into before =
+      let read : List ℕ × ℕ = read_into (byte_in number_at from) 0 before in
+      let items = AreItemsRead-read_into ℕ 0 (byte_in number_at from) 0 before in
+      let told : (i : ℕ) → i < read.1
+      → byte_in number_at from i ≡ Some (slice_index_or read.0 i 0) = λ i within.
+      subst (λ k. byte_in number_at from k ≡ Some (slice_index_or read.0 i 0)) (omega arith)
+      (items.loaded i within) in record {
+        read = told;
+        next = λ within.
+            let none : number_at (from + read.1 / 7) ≡ None =
+            no_byte-no_number (number_at (from + read.1 / 7)) (read.1 % 7)
+            (subst (λ k. byte_in number_at from k ≡ None) (omega arith) (items.next within)) in
+            (whole-fields read.0 read.1 told none (read.1 % 7) refl, none);
+        few = items.few;
+        rest = items.rest;
+        same_length = items.same_length;
+      }
+
+  pub read_into-text : (before after : List ℕ) (count : ℕ)
+      → IsTextRead number_at from before after count
+      → read_into (byte_in number_at from) 0 before ≡ (after, count)
+  read_into-text before after count text =
+      read_into-items ℕ 0 (byte_in number_at from) 0 before after count (record {
+        loaded = λ i within.
+            subst (λ k. byte_in number_at from k ≡ Some (slice_index_or after i 0)) (omega arith)
+            (text.read i within);
+        next = λ within. subst (λ k. byte_in number_at from k ≡ None) (omega arith)
+            (ap (λ o. byte_told o (count % 7)) (text.next within).1);
+        few = text.few;
+        rest = text.rest;
+        same_length = text.same_length;
+      })
+
 -- the same, where fields hold the same
-pub AreLoaded-as : (a b : ℕ → Option ℤ) → ((f : ℕ) → a f ≡ b f) → (from : ℕ)
-    (before after : List ℤ) (count : ℕ) → AreLoaded a from before after count
-    → AreLoaded b from before after count
-AreLoaded-as a b same from before after count loaded = record {
-  loaded = λ i within. sym (same (from + i)) ∙ loaded.loaded i within;
-  next = λ within. sym (same (from + count)) ∙ loaded.next within;
-  few = loaded.few;
-  rest = loaded.rest;
-  same_length = loaded.same_length;
-}
+module _ (a b : ℕ → Option ℤ) (same : (f : ℕ) → a f ≡ b f) (from : ℕ) where
+  pub AreLoaded-as : (before after : List ℤ) (count : ℕ) → AreLoaded a from before after count
+      → AreLoaded b from before after count
+  AreLoaded-as before after count loaded = record {
+    loaded = λ i within. sym (same (from + i)) ∙ loaded.loaded i within;
+    next = λ within. sym (same (from + count)) ∙ loaded.next within;
+    few = loaded.few;
+    rest = loaded.rest;
+    same_length = loaded.same_length;
+  }
 
--- A row that is read is what peeks of its fields tell.
-module _ (s : PacedState) (owner : ℕ) (object : RootId) (from : ℕ) (before : List ℤ) where
-  abbrev asked : Option Refusal
-  asked = first_refusal (graph_in s) (field_loads owner object from (length before))
+  pub IsTextRead-as : (before after : List ℕ) (count : ℕ) → IsTextRead a from before after count
+      → IsTextRead b from before after count
+  IsTextRead-as before after count text = record {
+    read = λ i within. sym (ap (λ o. byte_told o (i % 7)) (same (from + i / 7))) ∙ text.read i within;
+    next = λ within.
+        let next = text.next within in (next.0, sym (same (from + count / 7)) ∙ next.1);
+    few = text.few;
+    rest = text.rest;
+    same_length = text.same_length;
+  }
 
-  abbrev read : List ℤ × ℕ
-  read = read_into (λ f. number_told (paced_step s owner (Load object object f)).1) from before
+-- A row or a text that is read is what peeks of its fields tell.
+module _ (s : PacedState) (owner : ℕ) (object : RootId) (from : ℕ) where
+  abbrev loaded_at : ℕ → Option ℤ
+  loaded_at f = number_told (paced_step s owner (Load object object f)).1
 
-  abbrev IsReadBy : Answer → Type 0
-  IsReadBy a = (a.status ≡ 0)
-      × AreLoaded (λ f. number_told (peek_answer s owner object f)) from before a.numbers a.count
+  abbrev peeked_at : ℕ → Option ℤ
+  peeked_at f = number_told (peek_answer s owner object f)
 
-  pub row-peeked : asked ≡ None → IsReadBy (answer_to s (LoadsInts owner object from before))
-  row-peeked none = subst (λ o. IsReadBy (with_read o before read)) (sym none) (
-    refl,
-    AreLoaded-as (λ f. number_told (paced_step s owner (Load object object f)).1)
-        (λ f. number_told (peek_answer s owner object f))
-        (λ f. ap number_told (sym (peek_answer-load s owner object f))) from before read.0 read.1
-        (AreLoaded-read_into (λ f. number_told (paced_step s owner (Load object object f)).1) from
-        before),
-  )
+  peeked : (f : ℕ) → loaded_at f ≡ peeked_at f
+  peeked f = ap number_told (sym (peek_answer-load s owner object f))
 
-  pub row-unread : (why : Refusal) → asked ≡ Some why
+  -- what asks so many loads
+  abbrev asked : ℕ → Option Refusal
+  asked count = first_refusal (graph_in s) (field_loads owner object from count)
+
+  pub row-peeked : (before : List ℤ) → asked (length before) ≡ None
+      → ((answer_to s (LoadsInts owner object from before)).status ≡ 0)
+      × AreLoaded peeked_at from before (answer_to s (LoadsInts owner object from before)).ints
+      (answer_to s (LoadsInts owner object from before)).count
+  row-peeked before none =
+      let read : List ℤ × ℕ = read_into loaded_at from before in
+      subst (λ o. ((with_read with_numbers o before read).status ≡ 0)
+      × AreLoaded peeked_at from before (with_read with_numbers o before read).ints
+      (with_read with_numbers o before read).count) (sym none) (
+        refl,
+        AreLoaded-as loaded_at peeked_at peeked from before read.0 read.1
+            (AreLoaded-read_into loaded_at from before),
+      )
+
+  pub row-unread : (before : List ℤ) (why : Refusal) → asked (length before) ≡ Some why
       → answer_to s (LoadsInts owner object from before) ≡ with_numbers (rank_of why) before 0
-  row-unread why some = ap (λ o. with_read o before read) some
+  row-unread before why some =
+      ap (λ o. with_read with_numbers o before (read_into loaded_at from before)) some
+
+  pub text-peeked : (before : List ℕ) → asked (fields_of_bytes (length before)) ≡ None
+      → ((answer_to s (LoadsText owner object from before)).status ≡ 0)
+      × IsTextRead peeked_at from before (answer_to s (LoadsText owner object from before)).text
+      (answer_to s (LoadsText owner object from before)).count
+  text-peeked before none =
+      let read : List ℕ × ℕ = read_into (byte_in loaded_at from) 0 before in
+      subst (λ o. ((with_read with_text o before read).status ≡ 0)
+      × IsTextRead peeked_at from before (with_read with_text o before read).text
+      (with_read with_text o before read).count) (sym none) (
+        refl,
+        IsTextRead-as loaded_at peeked_at peeked from before read.0 read.1
+            (IsTextRead-read_into loaded_at from before),
+      )
+
+  pub text-unread : (before : List ℕ) (why : Refusal)
+      → asked (fields_of_bytes (length before)) ≡ Some why
+      → answer_to s (LoadsText owner object from before) ≡ with_text (rank_of why) before 0
+  text-unread before why some =
+      ap (λ o. with_read with_text o before (read_into (byte_in loaded_at from) 0 before)) some

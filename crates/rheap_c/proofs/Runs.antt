@@ -1,18 +1,20 @@
 -- Calls that were made one after the other make one run, whose answers are a plain heap's.
 use Rattle.std.proofs.Common.{◌≡◌, ℕ, zero, suc, ℤ, drop, take, inl, inr, List, [], ◌∷◌, length, refl, sym, ap, ◌∙◌, subst}
-use Rattle.std.specs.Prelude.{All, map, Option, Some, None, Result, Err}
+use Rattle.std.specs.Prelude.{All, map, Option, Some, None, Result}
 use Rattle.std.proofs.lemmas.List.Elements.{All-nil, All-cons}
 use Rattle.rh_layout.specs.declared.command.Command.{Command}
 use Rattle.rh_layout.specs.declared.command.Command.TheVariants.{Copy, Load, Same}
 use Rattle.rh_layout.specs.declared.command.Reply.{Reply}
 use Rattle.rh_layout.specs.declared.refusal.Refusal.{Refusal}
 use Rattle.rh_layout.specs.declared.command.RootId.{RootId}
+use Rattle.rh_layout.specs.Refusal.{rank_of}
 use Rattle.rh_model.specs.Graph.{Graph}
 use Rattle.rh_model.specs.Plain.{PlainHeap, step}
 use Rattle.rh_mutator.specs.Commands.{AnswersAs, plain_unless}
-use Rattle.rh_mutator.specs.LoadingAll.{AreLoaded, field_loads, number_told}
+use Rattle.rh_mutator.specs.LoadingAll.{field_loads, number_told}
 use Rattle.rh_mutator.specs.Mutator.{MutatorState, StandsFor, graph_of}
 use Rattle.rh_mutator.specs.StoringAll.{first_refusal, log_limit_for, number_stores}
+use Rattle.rh_mutator.specs.Texts.{fields_of_bytes}
 use Rattle.rh_pace.specs.Calls.{IsTransparent}
 use Rattle.rh_pace.specs.InTime.{paced_after, paced_replies}
 use Rattle.rh_pace.specs.Paced.{PacedState, paced_step}
@@ -20,13 +22,13 @@ use Rattle.rh_pace.proofs.StoringAll.{first_refusal-met, first_refusal-plain}
 use Rattle.rheap_c.specs.declared.value.RheapValue.{RheapValue}
 use Rattle.rheap_c.specs.Collected.{collect_status}
 use Rattle.rheap_c.specs.Read.{field_answer, peek_answer, root_answer}
-use Rattle.rheap_c.specs.Rows.{after_row, read_into, ready_for, row_refusal, row_status}
-use Rattle.rheap_c.specs.Several.{AreReadUnless, AreStored}
-use Rattle.rheap_c.specs.Runs.{Answer, Call, IsMade, AreMade, after_call, answer_to, after_calls, answers_to, doing, is_limit_status, command_of, question_of, row_of, plain_after_call, plain_after_command, plain_after_row, plain_after_calls, tells, DoesAsPlain, StoresAsPlain, TellsAsPlain, TellAsPlain, with_count, with_numbers, with_read, with_same, with_status, with_value}
-use Rattle.rheap_c.specs.Runs.Call.{Does, Loads, Compares, InsistsOn, CollectsNow, IncrementsNow, Peeks, ReadsField, ReadsRoot, Counts, TellsNumbers, StoresInts, InsistsOnInts, LoadsInts}
+use Rattle.rheap_c.specs.Rows.{after_row, byte_in, read_into, ready_for, row_refusal, row_status}
+use Rattle.rheap_c.specs.Several.{AreBytesRead, AreRead, AreReadUnless, AreStored}
+use Rattle.rheap_c.specs.Runs.{Answer, Call, IsMade, AreMade, after_call, answer_to, after_calls, answers_to, doing, is_limit_status, command_of, question_of, row_of, plain_after_call, plain_after_command, plain_after_row, plain_after_calls, tells, DoesAsPlain, StoresAsPlain, TellsAsPlain, TellAsPlain, with_count, with_numbers, with_read, with_same, with_status, with_text, with_value}
+use Rattle.rheap_c.specs.Runs.Call.{Does, Loads, Compares, InsistsOn, CollectsNow, IncrementsNow, Peeks, ReadsField, ReadsRoot, Counts, TellsNumbers, StoresInts, InsistsOnInts, LoadsInts, LoadsText}
 use Rattle.rheap_c.specs.Told.{same_told, status_of, told_value}
 use Rattle.rheap_c.proofs.Readings.{field_answer-plain, peek_answer-plain, root_answer-plain}
-use Rattle.rheap_c.proofs.Rows.{AreStoredInsisting-ready, AreStoredInsisting-stands, AreStoredUnless-after, AreStoredUnless-plain, AreStoredUnless-status, is_limit_status-status_of, log_limit_for-IsOnlyLimit, read_into-loaded}
+use Rattle.rheap_c.proofs.Rows.{AreStoredInsisting-ready, AreStoredInsisting-stands, AreStoredUnless-after, AreStoredUnless-plain, AreStoredUnless-status, is_limit_status-status_of, log_limit_for-IsOnlyLimit, read_into-loaded, read_into-text}
 use Rattle.rheap_c.proofs.Unless.{asked-no_limit}
 
 -- One run.
@@ -41,9 +43,6 @@ both_same {m} {n} {x} {y} e f = ap (λ status. with_same status x) e ∙ ap (λ 
 both_count : {m n x y : ℕ} → m ≡ n → x ≡ y → with_count m x ≡ with_count n y
 both_count {m} {n} {x} {y} e f = ap (λ status. with_count status x) e ∙ ap (λ count. with_count n count) f
 
-both_numbers : {m n x y : ℕ} (numbers : List ℤ) → m ≡ n → x ≡ y → with_numbers m numbers x ≡ with_numbers n numbers y
-both_numbers {m} {n} {x} {y} numbers e f = ap (λ status. with_numbers status numbers x) e ∙ ap (with_numbers n numbers) f
-
 module _ (s : PacedState) (new : Option PacedState) (owner : ℕ) (object : RootId) (from : ℕ)
     (numbers : List ℤ) (status : ℕ) (stored : AreStored (Some s) new owner object from numbers status) where
   AreStored-after : new ≡ Some (after_row s owner object from numbers)
@@ -52,30 +51,16 @@ module _ (s : PacedState) (new : Option PacedState) (owner : ℕ) (object : Root
   AreStored-status : status ≡ row_status (row_refusal s owner object from numbers)
   AreStored-status = AreStoredUnless-status (row_refusal s owner object from numbers) s stored.0 (number_stores owner object from numbers) status stored.2
 
--- what is read is told, by the heap and by the plain heap
-module _ (s : PacedState) (owner : ℕ) (object : RootId) (from : ℕ) (before : List ℤ) (a : Answer)
-    (shape : a ≡ with_numbers a.status a.numbers a.count) where
-  told_read : (load : ℕ → Result Reply Refusal) → AreLoaded (λ f. number_told (load f)) from before a.numbers a.count → a.status ≡ 0
-      → a ≡ with_read None before (read_into (λ f. number_told (load f)) from before)
-  told_read load loaded zero_is =
-      shape ∙ both_numbers a.numbers zero_is refl
-      ∙ ap (λ (read : List ℤ × ℕ). with_read None before read) (sym (read_into-loaded (λ f. number_told (load f)) from before a.numbers a.count loaded))
-
-  told_unread : (why : Refusal) (read : List ℤ × ℕ) → a.numbers ≡ before → a.count ≡ 0 → a.status ≡ status_of (Err why) → a ≡ with_read (Some why) before read
-  told_unread why read same none rank = shape ∙ both_numbers a.numbers rank none ∙ ap (λ numbers. with_numbers (status_of (Err why)) numbers 0) same
-
-  AreReadUnless-told : (r : Option Refusal) → AreReadUnless r s owner object from before a.numbers a.count a.status
-      → a ≡ with_read r before (read_into (λ f. number_told (paced_step s owner (Load object object f)).1) from before)
-  AreReadUnless-told None (read, zero_is) = told_read (λ f. (paced_step s owner (Load object object f)).1) read.loaded zero_is
-  AreReadUnless-told (Some why) (same, none, rank) =
-      told_unread why (read_into (λ f. number_told (paced_step s owner (Load object object f)).1) from before) same none rank
-
-  AreReadUnless-plain : (p : PlainHeap) → StandsFor s.heap.mutators p → (r : Option Refusal)
-      → AreReadUnless r s owner object from before a.numbers a.count a.status
-      → a ≡ with_read r before (read_into (λ f. number_told (step p owner (Load object object f)).1) from before)
-  AreReadUnless-plain p stands None (read, zero_is) = told_read (λ f. (step p owner (Load object object f)).1) (read.plain p stands) zero_is
-  AreReadUnless-plain p stands (Some why) (same, none, rank) =
-      told_unread why (read_into (λ f. number_told (step p owner (Load object object f)).1) from before) same none rank
+-- what is read is told, or that it is refused
+told_read : {X : Type 0} (tell : ℕ → List X → ℕ → Answer) (before after : List X) (count : ℕ) (a : Answer) (read : List X × ℕ) (is : Type 0)
+    → a ≡ tell a.status after count → (is → read ≡ (after, count)) → (r : Option Refusal) → AreReadUnless r is before after count a.status
+    → a ≡ with_read tell r before read
+told_read {X} tell before after count a read is shape that None (done, zero_is) =
+    shape ∙ ap (λ status. tell status after count) zero_is
+    ∙ ap (λ (x : List X × ℕ). with_read tell None before x) (sym (that done))
+told_read {X} tell before after count a read is shape that (Some why) (same, none, rank) =
+    shape ∙ ap (λ status. tell status after count) rank ∙ ap (tell (rank_of why) after) none
+    ∙ ap (λ xs. tell (rank_of why) xs 0) same
 
 -- a call on a heap leaves what the heap is after it
 pub IsMade-after : (s : PacedState) (new : Option PacedState) (call : Call) (a : Answer)
@@ -97,6 +82,7 @@ IsMade-after s new (InsistsOnInts owner object from numbers) a (stored, shape) =
     AreStored-after (ready_for s owner object from numbers) new owner object from numbers a.status
     (AreStoredInsisting-ready s owner object from numbers new a.status stored)
 IsMade-after s new (LoadsInts owner object from before) a ((e, read), shape) = e
+IsMade-after s new (LoadsText owner object from before) a ((e, read), shape) = e
 
 -- and tells what it tells on that heap
 pub IsMade-answer : (s : PacedState) (new : Option PacedState) (call : Call) (a : Answer)
@@ -124,8 +110,15 @@ IsMade-answer s new (InsistsOnInts owner object from numbers) a (stored, shape) 
     (AreStored-status (ready_for s owner object from numbers) new owner object from numbers a.status
     (AreStoredInsisting-ready s owner object from numbers new a.status stored))
 IsMade-answer s new (LoadsInts owner object from before) a ((e, read), shape) =
-    AreReadUnless-told s owner object from before a shape
+    let loaded_at : ℕ → Option ℤ = λ f. number_told (paced_step s owner (Load object object f)).1 in
+    told_read with_numbers before a.ints a.count a (read_into loaded_at from before) (AreRead s owner object from before a.ints a.count) shape
+    (λ done. read_into-loaded loaded_at from before a.ints a.count done.loaded)
     (first_refusal (graph_of s.heap.mutators) (field_loads owner object from (length before))) read
+IsMade-answer s new (LoadsText owner object from before) a ((e, read), shape) =
+    let loaded_at : ℕ → Option ℤ = λ f. number_told (paced_step s owner (Load object object f)).1 in
+    told_read with_text before a.text a.count a (read_into (byte_in loaded_at from) 0 before) (AreBytesRead s owner object from before a.text a.count) shape
+    (λ done. read_into-text loaded_at from before a.text a.count done.read)
+    (first_refusal (graph_of s.heap.mutators) (field_loads owner object from (fields_of_bytes (length before)))) read
 
 -- so do calls one after the other
 pub AreMade-run : (s : PacedState) (new : Option PacedState) (calls : List Call) (more : List Answer)
@@ -193,6 +186,7 @@ IsMade-none new TellsNumbers a ((e, st), shape) = (e, st)
 IsMade-none new (StoresInts owner object from numbers) a ((e, st), shape) = (e, st)
 IsMade-none new (InsistsOnInts owner object from numbers) a ((e, st), shape) = (e, st)
 IsMade-none new (LoadsInts owner object from before) a ((e, st, same, none), shape) = (e, st)
+IsMade-none new (LoadsText owner object from before) a ((e, st, same, none), shape) = (e, st)
 
 abbrev IsUnopened : Answer → Type 0
 IsUnopened a = a.status ≡ 12
@@ -310,13 +304,31 @@ IsMade-plain s new (InsistsOnInts owner object from numbers) a p (stored, shape)
     ((tt, tt, both.0, tt), both.1)
 IsMade-plain s new (LoadsInts owner object from before) a p ((e, read), shape) stands =
     let g : Graph = graph_of s.heap.mutators in
-    let loads = field_loads owner object from (length before) in (
+    let loads = field_loads owner object from (length before) in
+    let loaded_at : ℕ → Option ℤ = λ f. number_told (step p owner (Load object object f)).1 in
+    let into : List ℤ × ℕ = read_into loaded_at from before in (
       (
         tt,
         tt,
         tt,
-        AreReadUnless-plain s owner object from before a shape p stands (first_refusal g loads) read
-            ∙ ap (λ r. with_read r before (read_into (λ f. number_told (step p owner (Load object object f)).1) from before)) (first_refusal-plain s.heap.mutators p stands loads),
+        told_read with_numbers before a.ints a.count a into (AreRead s owner object from before a.ints a.count) shape
+            (λ done. read_into-loaded loaded_at from before a.ints a.count (done.plain p stands)) (first_refusal g loads) read
+            ∙ ap (λ r. with_read with_numbers r before into) (first_refusal-plain s.heap.mutators p stands loads),
+      ),
+      stands,
+    )
+IsMade-plain s new (LoadsText owner object from before) a p ((e, read), shape) stands =
+    let g : Graph = graph_of s.heap.mutators in
+    let loads = field_loads owner object from (fields_of_bytes (length before)) in
+    let loaded_at : ℕ → Option ℤ = λ f. number_told (step p owner (Load object object f)).1 in
+    let into : List ℕ × ℕ = read_into (byte_in loaded_at from) 0 before in (
+      (
+        tt,
+        tt,
+        tt,
+        told_read with_text before a.text a.count a into (AreBytesRead s owner object from before a.text a.count) shape
+            (λ done. read_into-text loaded_at from before a.text a.count (done.plain p stands)) (first_refusal g loads) read
+            ∙ ap (λ r. with_read with_text r before into) (first_refusal-plain s.heap.mutators p stands loads),
       ),
       stands,
     )
@@ -352,3 +364,4 @@ row_of-only TellsNumbers row is = absurd (cc)
 row_of-only (StoresInts owner object from numbers) row is = (refl, refl)
 row_of-only (InsistsOnInts owner object from numbers) row is = (refl, refl)
 row_of-only (LoadsInts owner object from before) row is = absurd (cc)
+row_of-only (LoadsText owner object from before) row is = absurd (cc)

@@ -17,7 +17,7 @@ use Rattle.rh_pace.specs.declared.errors.EpochsSpent.{EpochsSpent}
 use Rattle.rh_pace.specs.Collecting.{collect_step}
 use Rattle.rh_pace.specs.Paced.{PacedState}
 use Rattle.rheap_c.specs.Collected.{IsCollection}
-use Rattle.rheap_c.specs.Several.{AreDone, AreRead, AreReadUnless, AreStoredUnless}
+use Rattle.rheap_c.specs.Several.{AreDone, AreReadUnless, AreStoredUnless}
 
 -- there is a store for each number
 pub length-number_stores : (owner : ℕ) (object : RootId) (from : ℕ) (numbers : List ℤ)
@@ -46,20 +46,17 @@ pub AreStoredUnless-err : (r : Option Refusal) (why : Refusal) (old new : PacedS
 AreStoredUnless-err r why old new given status is same rank =
     subst (λ (o : Option Refusal). AreStoredUnless o old new given status) (sym is) (same, rank)
 
-module _ (s : PacedState) (owner : ℕ) (object : RootId) (from : ℕ) (before after : List ℤ) where
-  pub AreReadUnless-ok : (r : Option Refusal) (count : ℕ) → r ≡ None
-      → AreRead s owner object from before after count
-      → AreReadUnless r s owner object from before after count 0
-  AreReadUnless-ok r count is read =
-      subst (λ (o : Option Refusal). AreReadUnless o s owner object from before after count 0)
-      (sym is) (read, refl)
+module _ {X : Type 0} (read : Type 0) (before after : List X) where
+  pub AreReadUnless-ok : (r : Option Refusal) (count : ℕ) → r ≡ None → read
+      → AreReadUnless r read before after count 0
+  AreReadUnless-ok r count is done =
+      subst (λ (o : Option Refusal). AreReadUnless o read before after count 0) (sym is) (done, refl)
 
   pub AreReadUnless-err : (r : Option Refusal) (why : Refusal) (status : ℕ) → r ≡ Some why
-      → after ≡ before → status ≡ rank_of why
-      → AreReadUnless r s owner object from before after 0 status
+      → after ≡ before → status ≡ rank_of why → AreReadUnless r read before after 0 status
   AreReadUnless-err r why status is same rank =
-      subst (λ (o : Option Refusal). AreReadUnless o s owner object from before after 0 status)
-      (sym is) (same, refl, rank)
+      subst (λ (o : Option Refusal). AreReadUnless o read before after 0 status) (sym is)
+      (same, refl, rank)
 
 -- what numbers ask is refused for no limit
 first-no_limit : (a b : Option Refusal) → IsNoLimit a → IsNoLimit b → IsNoLimit (first_of a b)

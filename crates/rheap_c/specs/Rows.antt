@@ -1,6 +1,7 @@
 -- What a call leaves and tells that stores or reads whole numbers in fields in a row, one after the
--- other from one on: by the heap, and by a heap that never moves its objects.
-use Rattle.std.specs.Prelude.{ℕ, suc, ◌+◌, ℤ, List, [], ◌∷◌, Option, Some, None}
+-- other from one on, or the bytes that they hold: by the heap, and by a heap that never moves its
+-- objects.
+use Rattle.std.specs.Prelude.{ℕ, suc, ◌+◌, ◌/◌, ◌%◌, ℤ, List, [], ◌∷◌, Option, Some, None}
 use Rattle.rh_layout.specs.declared.command.Command.{Command}
 use Rattle.rh_layout.specs.declared.command.RootId.{RootId}
 use Rattle.rh_layout.specs.declared.refusal.Refusal.{Refusal}
@@ -8,6 +9,7 @@ use Rattle.rh_layout.specs.declared.refusal.Refusal.TheVariants.{LogFull}
 use Rattle.rh_layout.specs.Refusal.{rank_of}
 use Rattle.rh_model.specs.Plain.{PlainHeap}
 use Rattle.rh_mutator.specs.StoringAll.{number_stores, numbers_refusal}
+use Rattle.rh_mutator.specs.Texts.{byte_told}
 use Rattle.rh_pace.specs.Collecting.{collect_step}
 use Rattle.rh_pace.specs.InTime.{paced_after}
 use Rattle.rh_pace.specs.Paced.{PacedState}
@@ -44,16 +46,20 @@ emptied_for other s = s
 abbrev pub ready_for : PacedState → ℕ → RootId → ℕ → List ℤ → PacedState
 ready_for s owner object from numbers = emptied_for (row_refusal s owner object from numbers) s
 
--- a list once the number of its first field is read, where that holds one, and how many were read
-abbrev pub read_on : Option ℤ → List ℤ → List ℤ × ℕ → List ℤ × ℕ
+-- a list once its first item is read, where there is one to read, and how many were read
+abbrev pub read_on : {X : Type 0} → Option X → List X → List X × ℕ → List X × ℕ
 read_on None before further = (before, 0)
-read_on (Some n) before further = (n ∷ further.0, suc further.1)
+read_on (Some x) before further = (x ∷ further.0, suc further.1)
 
--- a list once numbers are read into it, and how many: up to the first field that holds none
-abbrev pub read_into : (ℕ → Option ℤ) → ℕ → List ℤ → List ℤ × ℕ
-read_into number_at from [] = ([], 0)
-read_into number_at from (n ∷ rest) =
-    read_on (number_at from) (n ∷ rest) (read_into number_at (from + 1) rest)
+-- a list once items are read into it, from one on, and how many: up to the first that isn't there
+abbrev pub read_into : {X : Type 0} → (ℕ → Option X) → ℕ → List X → List X × ℕ
+read_into item_at from [] = ([], 0)
+read_into item_at from (x ∷ rest) =
+    read_on (item_at from) (x ∷ rest) (read_into item_at (from + 1) rest)
+
+-- the bytes that the fields from one on hold, counted from 0, seven of each field's number
+abbrev pub byte_in : (ℕ → Option ℤ) → ℕ → ℕ → Option ℕ
+byte_in number_at from k = byte_told (number_at (from + k / 7)) (k % 7)
 
 -- the first refusal that a plain heap meets in a list of commands
 abbrev pub plain_refusal : PlainHeap → List (ℕ × Command) → Option Refusal

@@ -11,6 +11,7 @@ use Rattle.rh_model.specs.Plain.{PlainHeap, graph_of, step}
 use Rattle.rh_mutator.specs.Commands.{plain_unless}
 use Rattle.rh_mutator.specs.LoadingAll.{field_loads, number_told}
 use Rattle.rh_mutator.specs.StoringAll.{first_refusal, number_stores}
+use Rattle.rh_mutator.specs.Texts.{fields_of_bytes}
 use Rattle.rh_pace.specs.Collecting.{collect_step, insist_step}
 use Rattle.rh_pace.specs.Paced.{PacedState, paced_step, with_increment}
 use Rattle.rheap_c.specs.declared.value.RheapValue.{RheapValue}
@@ -18,14 +19,15 @@ use Rattle.rheap_c.specs.Called.{IsCompared, IsDone, IsLoaded}
 use Rattle.rheap_c.specs.Collected.{Collects, Increments, collect_status}
 use Rattle.rheap_c.specs.Insisted.{IsInsisted}
 use Rattle.rheap_c.specs.Read.{IsAnswered, IsCounted, count_in, count_status, count_told, field_answer, graph_in, peek_answer, root_answer}
-use Rattle.rheap_c.specs.Rows.{after_row, plain_refusal, plain_unless_refused, read_into, ready_for, row_refusal, row_status}
-use Rattle.rheap_c.specs.Several.{AreStored, AreStoredInsisting, AreTold}
+use Rattle.rheap_c.specs.Rows.{after_row, byte_in, plain_refusal, plain_unless_refused, read_into, ready_for, row_refusal, row_status}
+use Rattle.rheap_c.specs.Several.{AreBytesTold, AreStored, AreStoredInsisting, AreTold}
 use Rattle.rheap_c.specs.Told.{no_value, same_told, status_of, told_value}
 
 -- A call: an owner's command, a load, a comparison, a command that insists on room, a collection,
 -- an increment; a reading of a field for an owner, of a field, of a root, or of how many fields
 -- there are; one that tells numbers of the heap; one that stores a row of numbers to the fields of
--- an object, from one on, or insists on it; or one that reads such a row into a list.
+-- an object, from one on, or insists on it, as a text is stored too: a row of its numbers; or one
+-- that reads such a row into a list, or the bytes that it holds.
 pub data Call : Type 0 where
   Does : ℕ → Command → Call
   Loads : ℕ → RootId → RootId → ℕ → Call
@@ -41,41 +43,49 @@ pub data Call : Type 0 where
   StoresInts : ℕ → RootId → ℕ → List ℤ → Call
   InsistsOnInts : ℕ → RootId → ℕ → List ℤ → Call
   LoadsInts : ℕ → RootId → ℕ → List ℤ → Call
+  LoadsText : ℕ → RootId → ℕ → List ℕ → Call
 
--- What a call tells: its status, the value, whether two are the same, how many fields there are or
--- numbers were read, and what its list holds then. Where it tells no value, that is nil; where it
--- compares or counts none, that is 0; where it has no list to read into, that is [].
+-- What a call tells: its status, the value, whether two are the same, how many fields there are, or
+-- numbers or bytes were read, and what its list of numbers or its text holds then. Where it tells
+-- no value, that is nil; where it compares or counts none, that is 0; where it has no such list or
+-- text to read into, that is [].
 pub record Answer : Type 0 where
   pub status : ℕ
   pub value : RheapValue
   pub same : ℕ
   pub count : ℕ
-  pub numbers : List ℤ
+  pub ints : List ℤ
+  pub text : List ℕ
 
 -- a status alone
 abbrev pub with_status : ℕ → Answer
 with_status status =
-    record { status = status; value = no_value; same = 0; count = 0; numbers = [] }
+    record { status = status; value = no_value; same = 0; count = 0; ints = []; text = [] }
 
 -- a status and a value
 abbrev pub with_value : ℕ → RheapValue → Answer
 with_value status value =
-    record { status = status; value = value; same = 0; count = 0; numbers = [] }
+    record { status = status; value = value; same = 0; count = 0; ints = []; text = [] }
 
 -- a status and whether two are the same
 abbrev pub with_same : ℕ → ℕ → Answer
 with_same status same =
-    record { status = status; value = no_value; same = same; count = 0; numbers = [] }
+    record { status = status; value = no_value; same = same; count = 0; ints = []; text = [] }
 
 -- a status and how many fields there are
 abbrev pub with_count : ℕ → ℕ → Answer
 with_count status count =
-    record { status = status; value = no_value; same = 0; count = count; numbers = [] }
+    record { status = status; value = no_value; same = 0; count = count; ints = []; text = [] }
 
 -- a status, what a list holds, and how many of these were read
 abbrev pub with_numbers : ℕ → List ℤ → ℕ → Answer
 with_numbers status numbers count =
-    record { status = status; value = no_value; same = 0; count = count; numbers = numbers }
+    record { status = status; value = no_value; same = 0; count = count; ints = numbers; text = [] }
+
+-- a status, what a text holds, and how many of its bytes were read
+abbrev pub with_text : ℕ → List ℕ → ℕ → Answer
+with_text status text count =
+    record { status = status; value = no_value; same = 0; count = count; ints = []; text = text }
 
 -- the call tells something of the heap, with status 0; where no heap is open it is 12
 abbrev pub IsTelling : Option PacedState → Option PacedState → ℕ → Type 0
@@ -112,8 +122,11 @@ IsMade old new (StoresInts owner object from numbers) a =
 IsMade old new (InsistsOnInts owner object from numbers) a =
     AreStoredInsisting old new owner object from numbers a.status × (a ≡ with_status a.status)
 IsMade old new (LoadsInts owner object from before) a =
-    AreTold old new owner object from before a.numbers a.count a.status
-    × (a ≡ with_numbers a.status a.numbers a.count)
+    AreTold old new owner object from before a.ints a.count a.status
+    × (a ≡ with_numbers a.status a.ints a.count)
+IsMade old new (LoadsText owner object from before) a =
+    AreBytesTold old new owner object from before a.text a.count a.status
+    × (a ≡ with_text a.status a.text a.count)
 
 -- these calls were made, each on what the one before it left
 abbrev pub AreMade : Option PacedState → Option PacedState → List Call → List Answer → Type 0
@@ -140,6 +153,7 @@ after_call s (StoresInts owner object from numbers) = after_row s owner object f
 after_call s (InsistsOnInts owner object from numbers) =
     after_row (ready_for s owner object from numbers) owner object from numbers
 after_call s (LoadsInts owner object from before) = s
+after_call s (LoadsText owner object from before) = s
 
 -- what a call tells that does a command, or asks for its answer, where this is the answer
 abbrev pub tells : Call → Result Reply Refusal → Answer
@@ -155,16 +169,24 @@ tells (ReadsRoot root) told = with_value (status_of told) (told_value told)
 tells (Counts root) told = with_count (count_status (count_in told)) (count_told (count_in told))
 tells call told = with_status (status_of told)
 
--- what was read, unless there is a reason why not: then the list is as it was
-abbrev pub with_read : Option Refusal → List ℤ → List ℤ × ℕ → Answer
-with_read None before read = with_numbers 0 read.0 read.1
-with_read (Some why) before read = with_numbers (rank_of why) before 0
+-- what was read, told so, unless there is a reason why not: then the list is as it was
+abbrev pub with_read : {X : Type 0} → (ℕ → List X → ℕ → Answer) → Option Refusal → List X
+    → List X × ℕ → Answer
+with_read tell None before read = tell 0 read.0 read.1
+with_read tell (Some why) before read = tell (rank_of why) before 0
 
 -- what a call tells that reads a row, by the graph, and by what a load of each field is answered
 abbrev pub row_answer : Graph → (ℕ → Result Reply Refusal) → ℕ → RootId → ℕ → List ℤ → Answer
 row_answer g load owner object from before =
-    with_read (first_refusal g (field_loads owner object from (length before))) before
+    with_read with_numbers (first_refusal g (field_loads owner object from (length before))) before
     (read_into (λ f. number_told (load f)) from before)
+
+-- and what one tells that reads a text
+abbrev pub text_answer : Graph → (ℕ → Result Reply Refusal) → ℕ → RootId → ℕ → List ℕ → Answer
+text_answer g load owner object from before =
+    with_read with_text
+    (first_refusal g (field_loads owner object from (fields_of_bytes (length before)))) before
+    (read_into (byte_in (λ f. number_told (load f)) from) 0 before)
 
 -- what a call tells on a heap
 abbrev pub answer_to : PacedState → Call → Answer
@@ -187,6 +209,9 @@ answer_to s (InsistsOnInts owner object from numbers) = with_status
     (row_status (row_refusal (ready_for s owner object from numbers) owner object from numbers))
 answer_to s (LoadsInts owner object from before) =
     row_answer (graph_in s) (λ f. (paced_step s owner (Load object object f)).1) owner object from
+    before
+answer_to s (LoadsText owner object from before) =
+    text_answer (graph_in s) (λ f. (paced_step s owner (Load object object f)).1) owner object from
     before
 
 -- what a heap is after a list of calls, and what they tell
@@ -274,10 +299,13 @@ StoresAsPlain (Some row) p a =
     ((is_limit_status a.status ≡ false) × (a ≡ with_status (row_status (plain_refusal p row))))
     ⊎ ((is_limit_status a.status ≡ true) × (plain_refusal p row ≡ None))
 
--- a call that reads a row tells what the plain heap's loads tell
+-- a call that reads a row or a text tells what the plain heap's loads tell
 abbrev pub ReadsAsPlain : PlainHeap → Call → Answer → Type 0
 ReadsAsPlain p (LoadsInts owner object from before) a =
     a ≡ row_answer (graph_of p) (λ f. (step p owner (Load object object f)).1) owner object from
+    before
+ReadsAsPlain p (LoadsText owner object from before) a =
+    a ≡ text_answer (graph_of p) (λ f. (step p owner (Load object object f)).1) owner object from
     before
 ReadsAsPlain p call a = Unit {0}
 

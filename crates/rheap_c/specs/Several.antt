@@ -11,6 +11,7 @@ use Rattle.rh_model.specs.Plain.{PlainHeap, step as plain_step}
 use Rattle.rh_mutator.specs.Mutator.{StandsFor, graph_of}
 use Rattle.rh_mutator.specs.LoadingAll.{AreLoaded, field_loads, number_told}
 use Rattle.rh_mutator.specs.StoringAll.{first_refusal, number_stores, numbers_refusal}
+use Rattle.rh_mutator.specs.Texts.{IsTextRead, fields_of_bytes}
 use Rattle.rh_core.specs.StoringAll.{done_replies}
 use Rattle.rh_pace.specs.Collecting.{collect_step}
 use Rattle.rh_pace.specs.InTime.{paced_after, paced_replies}
@@ -60,12 +61,20 @@ pub record AreRead
   pub plain : (p : PlainHeap) → StandsFor s.heap.mutators p → AreLoaded
       (λ f. number_told (plain_step p owner (Load object object f)).1) from before after count
 
--- they are read, or none is, and the status is that of the refusal
+-- So are the bytes of a text.
+pub record AreBytesRead
+    (s : PacedState) (owner : ℕ) (object : RootId) (from : ℕ) (before after : List ℕ) (count : ℕ)
+    : Type 0 where
+  pub read : IsTextRead
+      (λ f. number_told (paced_step s owner (Load object object f)).1) from before after count
+  pub plain : (p : PlainHeap) → StandsFor s.heap.mutators p → IsTextRead
+      (λ f. number_told (plain_step p owner (Load object object f)).1) from before after count
+
+-- they are read so, or none is, and the status is that of the refusal
 abbrev pub AreReadUnless
-    : Option Refusal → PacedState → ℕ → RootId → ℕ → List ℤ → List ℤ → ℕ → ℕ → Type 0
-AreReadUnless None s owner object from before after count status =
-    AreRead s owner object from before after count × (status ≡ 0)
-AreReadUnless (Some why) s owner object from before after count status =
+    : {X : Type 0} → Option Refusal → Type 0 → List X → List X → ℕ → ℕ → Type 0
+AreReadUnless None read before after count status = read × (status ≡ 0)
+AreReadUnless (Some why) read before after count status =
     (after ≡ before) × (count ≡ 0) × (status ≡ rank_of why)
 
 -- It reads the whole numbers of the fields from one on, up to the first that holds none, and changes
@@ -77,4 +86,17 @@ AreTold None new owner object from before after count status =
 AreTold (Some s) new owner object from before after count status =
     (new ≡ Some s)
     × AreReadUnless (first_refusal (graph_of s.heap.mutators)
-    (field_loads owner object from (length before))) s owner object from before after count status
+    (field_loads owner object from (length before)))
+    (AreRead s owner object from before after count) before after count status
+
+-- It reads the bytes that the fields from one on hold, up to the first that holds no number, and
+-- changes nothing. It is refused as loads of as many fields as so many bytes take.
+abbrev pub AreBytesTold
+    : Option PacedState → Option PacedState → ℕ → RootId → ℕ → List ℕ → List ℕ → ℕ → ℕ → Type 0
+AreBytesTold None new owner object from before after count status =
+    (new ≡ None) × (status ≡ 12) × (after ≡ before) × (count ≡ 0)
+AreBytesTold (Some s) new owner object from before after count status =
+    (new ≡ Some s)
+    × AreReadUnless (first_refusal (graph_of s.heap.mutators)
+    (field_loads owner object from (fields_of_bytes (length before))))
+    (AreBytesRead s owner object from before after count) before after count status

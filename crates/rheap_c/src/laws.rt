@@ -8,7 +8,8 @@ pub mod runs;
 
 pub use numbers::{calls_that_tell_numbers_change_nothing, numbers_cross_under_their_names};
 pub use readings::{
-    a_row_is_read_as_its_fields_are, counts_are_those_of_the_objects, readings_answer_as_commands,
+    a_row_is_read_as_its_fields_are, a_text_is_read_as_it_was_stored,
+    a_text_is_read_as_its_fields_are, counts_are_those_of_the_objects, readings_answer_as_commands,
 };
 pub use room::{
     a_refusal_for_room_has_the_numbers_of_rheap_room, calls_bounded_on_a_plain_heap_find_room,

@@ -18,6 +18,7 @@ mod parted;
 mod reading;
 mod several;
 mod status;
+mod texts;
 mod value;
 
 pub use collecting::{rheap_collect, rheap_increment};
@@ -35,4 +36,5 @@ pub use objects::{rheap_alloc, rheap_alloc_raw, rheap_copy, rheap_drop, rheap_sa
 pub use opening::{rheap_close, rheap_open, rheap_open_sized};
 pub use reading::{rheap_field, rheap_fields, rheap_peek, rheap_root};
 pub use several::{rheap_insist_store_ints, rheap_load_ints, rheap_store_ints};
+pub use texts::{rheap_insist_store_text, rheap_load_text, rheap_store_text};
 pub use value::{RheapRoot, RheapValue};

@@ -7,7 +7,7 @@ ghost use Rattle.rh_mutator.specs.LoadingAll.{field_loads};
 ghost use Rattle.rh_mutator.specs.StoringAll.{first_refusal, number_stores, numbers_refusal};
 ghost use Rattle.rh_pace.specs.Collecting.{collect_step};
 ghost use Rattle.rheap_c.specs.Collected.{IsCollection};
-ghost use Rattle.rheap_c.specs.Several.{AreReadUnless, AreStored, AreStoredInsisting, AreStoredUnless, AreTold};
+ghost use Rattle.rheap_c.specs.Several.{AreRead, AreReadUnless, AreStored, AreStoredInsisting, AreStoredUnless, AreTold};
 ghost use Rattle.rheap_c.specs.Told.{root_of};
 
 use crate::collecting::collected;
@@ -15,6 +15,7 @@ use crate::handle::Rheap;
 use crate::status::{DONE, NOT_OPEN};
 use crate::value::RheapRoot;
 use rh_layout::RootId;
+use rh_mutator::FieldItem;
 use rh_pace::PacedHeap;
 use std::alloc::Global;
 
@@ -97,48 +98,49 @@ pub extern "C" fn rheap_load_ints(
     }
 }
 
-/// What `PacedHeap::store_all` promises, as one fact, with the status of its answer.
-fn stored(
+/// What `PacedHeap::store_items` promises, as one fact, with the status of its answer.
+pub(crate) fn stored<T: FieldItem>(
     heap: &mut PacedHeap<Global>,
     owner: u32,
     object: RootId,
     from: u32,
-    numbers: &[i64],
+    items: &[T],
 ) -> u8
     ensures { AreStoredUnless
-        (numbers_refusal heap.old.heap.mutators owner object from numbers.now)
-        heap.old heap.new (number_stores owner object from numbers.now) result }
+        (numbers_refusal heap.old.heap.mutators owner object from (T.numbers items.now))
+        heap.old heap.new (number_stores owner object from (T.numbers items.now)) result }
 {
-    match heap.store_all(owner, object, from, numbers) {
+    match heap.store_items(owner, object, from, items) {
         Ok(()) => DONE,
         Err(refusal) => refusal.number(),
     }
 }
 
-/// Stores the numbers, after a collection where the log has too few places: it is empty then.
-fn stored_insisting(
+/// Stores what items are, after a collection where the log has too few places: it is empty then.
+pub(crate) fn stored_insisting<T: FieldItem>(
     heap: &mut PacedHeap<Global>,
     owner: u32,
     object: RootId,
     from: u32,
-    numbers: &[i64],
+    items: &[T],
 ) -> u8
     ensures not_full { result ≢ 9 }
     ensures stored { AreStoredUnless
-        (numbers_refusal heap.old.heap.mutators owner object from numbers.now)
-        heap.old heap.new (number_stores owner object from numbers.now) result
-        ⊎ ((numbers_refusal heap.old.heap.mutators owner object from numbers.now ≡ Some LogFull)
+        (numbers_refusal heap.old.heap.mutators owner object from (T.numbers items.now))
+        heap.old heap.new (number_stores owner object from (T.numbers items.now)) result
+        ⊎ ((numbers_refusal heap.old.heap.mutators owner object from (T.numbers items.now)
+        ≡ Some LogFull)
         × IsCollection heap.old (collect_step heap.old).0 (collect_step heap.old).1
         × AreStoredUnless (numbers_refusal (collect_step heap.old).0.heap.mutators owner object from
-        numbers.now) (collect_step heap.old).0 heap.new
-        (number_stores owner object from numbers.now) result) }
+        (T.numbers items.now)) (collect_step heap.old).0 heap.new
+        (number_stores owner object from (T.numbers items.now)) result) }
 {
-    let status = stored(heap, owner, object, from, numbers);
+    let status = stored(heap, owner, object, from, items);
     if status != LOG_FULL {
         return status;
     }
     let _ = collected(heap);
-    stored(heap, owner, object, from, numbers)
+    stored(heap, owner, object, from, items)
 }
 
 /// What `PacedHeap::load_all` promises, as one fact, with the status of its answer.
@@ -152,7 +154,8 @@ fn told(
 ) -> u8
     ensures { AreReadUnless (first_refusal (graph_of heap.now.heap.mutators)
         (field_loads owner object from (length numbers.old)))
-        heap.now owner object from numbers.old numbers.new count.new result }
+        (AreRead heap.now owner object from numbers.old numbers.new count.new) numbers.old
+        numbers.new count.new result }
 {
     match heap.load_all(owner, object, from, numbers) {
         Ok(read) => {

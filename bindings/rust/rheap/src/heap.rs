@@ -2,7 +2,6 @@ use crate::error::{Error, Result};
 use crate::numbers::{Did, Pacing, Room, Sizes, Stats};
 use crate::raw;
 use crate::root::{Owner, Root};
-use crate::text;
 use crate::value::{Operand, Value};
 use std::cell::UnsafeCell;
 use std::fmt;
@@ -631,7 +630,8 @@ impl Heap {
     /// bytes each: [`text_fields`](crate::text_fields) says how many fields. All take theirs, or
     /// none. The first byte is the lowest of its number, and the last number has zeros above.
     ///
-    /// A text doesn't say how long it is: keep its length too. The bytes pass through 32 KiB of stack.
+    /// It is [`Heap::store_ints`] of these numbers. A text doesn't say how long it is: keep its length
+    /// too.
     ///
     /// ```
     /// # fn main() -> Result<(), rheap::Error> {
@@ -653,13 +653,25 @@ impl Heap {
     ///
     /// # Errors
     ///
-    /// As [`Heap::store_ints`]. [`Error::NoField`] also if the text is too long for any object.
-    #[inline(never)]
+    /// As [`Heap::store_ints`], but never [`Error::IntRange`]. [`Error::NoField`] also if the text is
+    /// too long for any object.
+    #[inline]
     pub fn store_text(&mut self, object: Root, from: u32, text: &[u8]) -> Result<()> {
-        let mut room = text::Numbers::new();
-        let numbers = room.zeros(text.len());
-        text::pack(text, numbers);
-        self.store_ints(object, from, numbers)
+        // SAFETY: open, alone and apart, as at `Heap`.
+        let status = unsafe {
+            raw::rheap_store_text(
+                self.at(),
+                object.owner(),
+                object.id(),
+                from,
+                text.as_ptr().cast(),
+                text.len(),
+            )
+        };
+        match status {
+            raw::DONE => Ok(()),
+            status => Err(self.refused_in_a_row(status, object, from, &[])),
+        }
     }
 
     /// As [`Heap::store_text`], after a collection if the log has too few places for the text.
@@ -667,12 +679,23 @@ impl Heap {
     /// # Errors
     ///
     /// As [`Heap::store_text`], but never [`Error::LogFull`].
-    #[inline(never)]
+    #[inline]
     pub fn insist_store_text(&mut self, object: Root, from: u32, text: &[u8]) -> Result<()> {
-        let mut room = text::Numbers::new();
-        let numbers = room.zeros(text.len());
-        text::pack(text, numbers);
-        self.insist_store_ints(object, from, numbers)
+        // SAFETY: open, alone and apart, as at `Heap`.
+        let status = unsafe {
+            raw::rheap_insist_store_text(
+                self.at(),
+                object.owner(),
+                object.id(),
+                from,
+                text.as_ptr().cast(),
+                text.len(),
+            )
+        };
+        match status {
+            raw::DONE => Ok(()),
+            status => Err(self.refused_in_a_row(status, object, from, &[])),
+        }
     }
 
     /// Reads bytes of the fields from `from` on of the object that `object` names, seven of each: as
@@ -682,12 +705,25 @@ impl Heap {
     /// # Errors
     ///
     /// As [`Heap::load_ints`], if one of the fields isn't there that a text as long as `text` takes.
-    #[inline(never)]
+    #[inline]
     pub fn load_text(&self, object: Root, from: u32, text: &mut [u8]) -> Result<usize> {
-        let mut room = text::Numbers::new();
-        let numbers = room.zeros(text.len());
-        let read = self.load_ints(object, from, numbers)?;
-        Ok(text::unpack(&numbers[..read], text))
+        let mut count = 0;
+        // SAFETY: open, alone and apart, as at `Heap`.
+        let status = unsafe {
+            raw::rheap_load_text(
+                self.at(),
+                object.owner(),
+                object.id(),
+                from,
+                text.as_mut_ptr().cast(),
+                text.len(),
+                &mut count,
+            )
+        };
+        match status {
+            raw::DONE => Ok(count as usize),
+            status => Err(self.refused_in_a_row(status, object, from, &[])),
+        }
     }
 }
 

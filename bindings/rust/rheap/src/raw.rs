@@ -176,6 +176,31 @@ extern "C" {
         length: usize,
         count: *mut u32,
     ) -> u8;
+    pub fn rheap_store_text(
+        heap: *mut Rheap,
+        owner: u32,
+        object: RheapRootId,
+        from: u32,
+        text: *const c_void,
+        length: usize,
+    ) -> u8;
+    pub fn rheap_insist_store_text(
+        heap: *mut Rheap,
+        owner: u32,
+        object: RheapRootId,
+        from: u32,
+        text: *const c_void,
+        length: usize,
+    ) -> u8;
+    pub fn rheap_load_text(
+        heap: *mut Rheap,
+        owner: u32,
+        object: RheapRootId,
+        from: u32,
+        text: *mut c_void,
+        length: usize,
+        count: *mut u32,
+    ) -> u8;
 
     pub fn rheap_copy(heap: *mut Rheap, owner: u32, dst: RheapRootId, src: RheapRootId) -> u8;
     pub fn rheap_drop(heap: *mut Rheap, owner: u32, root: RheapRootId) -> u8;

@@ -351,6 +351,7 @@ fn fields_in_a_row() {
         assert_eq!(heap.store_text(object, from, &[0; 15]), Err(due));
         assert_eq!(heap.load_text(object, from, &mut [0; 15]), Err(due));
         assert_eq!(heap.store_text(object, from, &long), Err(due));
+        assert_eq!(heap.insist_store_text(object, from, &long), Err(due));
         assert_eq!(heap.load_text(object, from, &mut long.clone()), Err(due));
     }
     assert_eq!(numbers, [5; 3]);

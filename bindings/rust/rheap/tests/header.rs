@@ -183,7 +183,7 @@ fn the_declarations_are_those_of_the_header() {
         items.iter().filter(|item| item.starts_with(kind)).count()
     };
     // What was looked for was found.
-    assert!(of(&header, "fn ") >= 29, "{header:#?}");
+    assert!(of(&header, "fn ") >= 32, "{header:#?}");
     assert!(of(&header, "struct ") >= 7, "{header:#?}");
     assert!(of(&header, "const ") >= 27, "{header:#?}");
     let missing: Vec<_> = header.difference(&rust).collect();

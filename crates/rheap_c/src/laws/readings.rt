@@ -1,6 +1,6 @@
 //! Laws of readings.
 
-ghost use Rattle.std.specs.Prelude.{◌≡◌, ℕ, ℤ, true, false, List, length, None, Some};
+ghost use Rattle.std.specs.Prelude.{◌≡◌, ◌⊎◌, ℕ, suc, ℤ, true, false, List, length, Option, None, Some, slice_get};
 ghost use Rattle.rh_layout.specs.declared.command.Command.TheVariants.{Copy, Load};
 ghost use Rattle.rh_layout.specs.declared.command.RootId.{RootId};
 ghost use Rattle.rh_layout.specs.declared.refusal.Refusal.{Refusal};
@@ -9,12 +9,19 @@ ghost use Rattle.rh_layout.specs.declared.value.Value.{Value};
 ghost use Rattle.rh_layout.specs.declared.value.Value.TheVariants.{Nil, Int, Ref};
 ghost use Rattle.rh_layout.specs.Root.{has_root, may_use};
 ghost use Rattle.rh_model.specs.Graph.{root_value};
+ghost use Rattle.rh_model.specs.Plain.{PlainHeap};
+ghost use Rattle.rh_mutator.specs.Mutator.{StandsFor};
 ghost use Rattle.rh_mutator.specs.LoadingAll.{AreLoaded, field_loads, number_told};
 ghost use Rattle.rh_mutator.specs.StoringAll.{first_refusal};
+ghost use Rattle.rh_mutator.specs.Texts.{AreBytes, IsTextRead, fields_of_bytes, text_numbers};
 ghost use Rattle.rh_pace.specs.Paced.{PacedState, paced_step};
 ghost use Rattle.rheap_c.specs.Read.{field_answer, graph_in, peek_answer, root_answer};
-ghost use Rattle.rheap_c.specs.Runs.{answer_to, with_count, with_numbers};
-ghost use Rattle.rheap_c.specs.Runs.Call.{Counts, LoadsInts};
+ghost use Rattle.rheap_c.specs.Runs.{Answer, AreMade, Call, answer_to, with_count, with_numbers, with_text};
+ghost use Rattle.rheap_c.specs.Runs.Call.{Counts, InsistsOnInts, LoadsInts, LoadsText, StoresInts};
+ghost use Rattle.rheap_c.specs.Several.{AreBytesTold, AreStored, AreStoredInsisting};
+
+use rh_pace::laws::texts::a_text_is_read_as_it_was_put;
+use std::alloc::Global;
 
 /// A reading is answered as a command, which it doesn't do.
 ///
@@ -45,7 +52,7 @@ pub fn a_row_is_read_as_its_fields_are()
         → first_refusal (graph_in s) (field_loads owner object from (length before)) ≡ None
         → ((answer_to s (LoadsInts owner object from before)).status ≡ 0)
         × AreLoaded (λ f. number_told (peek_answer s owner object f)) from before
-        (answer_to s (LoadsInts owner object from before)).numbers
+        (answer_to s (LoadsInts owner object from before)).ints
         (answer_to s (LoadsInts owner object from before)).count }
     ensures refused { (s : PacedState) (owner : ℕ) (object : RootId) (from : ℕ)
         (before : List ℤ) (why : Refusal)
@@ -53,6 +60,65 @@ pub fn a_row_is_read_as_its_fields_are()
         → answer_to s (LoadsInts owner object from before)
         ≡ with_numbers (rank_of why) before 0 }
 {}
+
+/// A text is read as its fields are.
+///
+/// - `read`: where no load of the fields that so many bytes take is refused, `rheap_load_text` has
+///   status 0. What it reads are the lowest seven bytes of each number that `rheap_peek` tells of
+///   these fields, up to the first that holds none.
+/// - `refused`: else its status is that of the first load that is refused, and nothing is read.
+pub fn a_text_is_read_as_its_fields_are()
+    ensures read { (s : PacedState) (owner : ℕ) (object : RootId) (from : ℕ) (before : List ℕ)
+        → first_refusal (graph_in s)
+        (field_loads owner object from (fields_of_bytes (length before))) ≡ None
+        → ((answer_to s (LoadsText owner object from before)).status ≡ 0)
+        × IsTextRead (λ f. number_told (peek_answer s owner object f)) from before
+        (answer_to s (LoadsText owner object from before)).text
+        (answer_to s (LoadsText owner object from before)).count }
+    ensures refused { (s : PacedState) (owner : ℕ) (object : RootId) (from : ℕ)
+        (before : List ℕ) (why : Refusal)
+        → first_refusal (graph_in s)
+        (field_loads owner object from (fields_of_bytes (length before))) ≡ Some why
+        → answer_to s (LoadsText owner object from before) ≡ with_text (rank_of why) before 0 }
+{}
+
+/// A text that was stored is read as it was. Where `rheap_store_text` had status 0, and nothing
+/// comes between, `rheap_load_text` of as many bytes from the same field on has status 0, and reads
+/// all of them. So it is in a cycle too, whatever increments the stores paid for. The heap is one
+/// that stands for a plain heap, as it does from an open on.
+///
+/// - `stored`: after `rheap_store_text`.
+/// - `insisted`: after `rheap_insist_store_text`.
+/// - `run`: wherever such two calls stand, one after the other, in a list of calls.
+pub fn a_text_is_read_as_it_was_stored()
+    ensures stored { (s : PacedState) (p : PlainHeap) → StandsFor s.heap.mutators p
+        → (between new : Option PacedState) (owner : ℕ) (object : RootId) (from : ℕ)
+        (text : List ℕ) → AreBytes text
+        → AreStored (Some s) between owner object from (text_numbers text) 0
+        → (before after : List ℕ) (count status : ℕ) → length before ≡ length text
+        → AreBytesTold between new owner object from before after count status
+        → (status ≡ 0) × (count ≡ length text) × (after ≡ text) }
+    ensures insisted { (s : PacedState) (p : PlainHeap) → StandsFor s.heap.mutators p
+        → (between new : Option PacedState) (owner : ℕ) (object : RootId) (from : ℕ)
+        (text : List ℕ) → AreBytes text
+        → AreStoredInsisting (Some s) between owner object from (text_numbers text) 0
+        → (before after : List ℕ) (count status : ℕ) → length before ≡ length text
+        → AreBytesTold between new owner object from before after count status
+        → (status ≡ 0) × (count ≡ length text) × (after ≡ text) }
+    ensures run { (s : PacedState) (p : PlainHeap) → StandsFor s.heap.mutators p
+        → (new : Option PacedState) (calls : List Call) (answers : List Answer)
+        → AreMade (Some s) new calls answers → (i owner : ℕ) (object : RootId) (from : ℕ)
+        (text before : List ℕ) (store : Call) (stored read : Answer)
+        → AreBytes text → length before ≡ length text
+        → (store ≡ StoresInts owner object from (text_numbers text))
+        ⊎ (store ≡ InsistsOnInts owner object from (text_numbers text))
+        → slice_get calls i ≡ Some store → slice_get answers i ≡ Some stored
+        → stored.status ≡ 0
+        → slice_get calls (suc i) ≡ Some (LoadsText owner object from before)
+        → slice_get answers (suc i) ≡ Some read → read ≡ with_text 0 text (length text) }
+{
+    a_text_is_read_as_it_was_put::<Global>();
+}
 
 /// `rheap_fields` counts the fields of the object that a root names.
 ///

@@ -38,7 +38,8 @@ use std::alloc::Global;
 /// The bounds are these. No object has more words than the biggest, its fields and 2. Wherever a
 /// cycle begins, also one of a collection, no more words are reached than may live. The log keeps
 /// more entries than the lag of the pace. Only a call that stores more numbers in a row than the
-/// log keeps entries beyond the lag may have status 9. One that insists never has.
+/// log keeps entries beyond the lag may have status 9; a text is a row of its numbers. One that
+/// insists never has.
 ///
 /// - `open`: on a heap of `rheap_open`, where `live` words may live.
 /// - `open_sized`: on a heap of `rheap_open_sized`, where as many may live as its pace leaves.

@@ -15,8 +15,8 @@ ghost use Rattle.rheap_c.specs.Collected.{Collects, Increments};
 ghost use Rattle.rheap_c.specs.Insisted.{IsInsisted};
 ghost use Rattle.rheap_c.specs.Read.{IsAnswered, IsCounted, count_in, field_answer, peek_answer, root_answer};
 ghost use Rattle.rheap_c.specs.Runs.{Answer, Call, AreMade, IsMade, IsTelling, TellAsPlain, after_calls, answers_to, command_of, doing, plain_after_calls, question_of, row_of};
-ghost use Rattle.rheap_c.specs.Runs.Call.{Does, Loads, Compares, InsistsOn, CollectsNow, IncrementsNow, Peeks, ReadsField, ReadsRoot, Counts, TellsNumbers, StoresInts, InsistsOnInts, LoadsInts};
-ghost use Rattle.rheap_c.specs.Several.{AreStored, AreStoredInsisting, AreTold};
+ghost use Rattle.rheap_c.specs.Runs.Call.{Does, Loads, Compares, InsistsOn, CollectsNow, IncrementsNow, Peeks, ReadsField, ReadsRoot, Counts, TellsNumbers, StoresInts, InsistsOnInts, LoadsInts, LoadsText};
+ghost use Rattle.rheap_c.specs.Several.{AreBytesTold, AreStored, AreStoredInsisting, AreTold};
 ghost use Rattle.rheap_c.specs.Told.{no_value, status_of};
 
 /// The calls of a program on one handle make one run, where each was made on what the one before it
@@ -55,63 +55,98 @@ pub fn calls_make_one_run()
 /// - `does`, `loads`, `compares`, `insists`: those that do a command.
 /// - `collects`, `increments`, `tells`: those that collect, and those that tell numbers.
 /// - `peeks`, `field`, `root`, `counts`: those that read.
-/// - `stores_ints`, `insists_on_ints`, `loads_ints`: those for fields in a row.
+/// - `stores_ints`, `insists_on_ints`, `loads_ints`: those for fields in a row. The first two are
+///   also those that store a text: the row is its numbers.
+/// - `loads_text`: the one that reads a text.
 pub fn each_call_stands_in_lists()
     ensures does { (old new : Option PacedState) (owner : ℕ) (command : Command) (status : ℕ)
         → IsDone old new owner command status → IsMade old new (Does owner command)
-        (record { status = status; value = no_value; same = 0; count = 0; numbers = [] }) }
+        (record { status = status; value = no_value; same = 0; count = 0; ints = []; text = [] }) }
     ensures loads { (old new : Option PacedState) (owner : ℕ) (dst src : RootId)
         (field status : ℕ) (value : RheapValue)
         → IsLoaded old new owner dst src field status value
         → IsMade old new (Loads owner dst src field)
-        (record { status = status; value = value; same = 0; count = 0; numbers = [] }) }
+        (record { status = status; value = value; same = 0; count = 0; ints = []; text = [] }) }
     ensures compares { (old new : Option PacedState) (owner : ℕ) (a b : RootId) (status same : ℕ)
         → IsCompared old new owner a b status same → IsMade old new (Compares owner a b)
-        (record { status = status; value = no_value; same = same; count = 0; numbers = [] }) }
+        (record {
+          status = status;
+          value = no_value;
+          same = same;
+          count = 0;
+          ints = [];
+          text = [];
+        }) }
     ensures insists { (old new : Option PacedState) (owner : ℕ) (command : Command) (status : ℕ)
         → IsInsisted old new owner command status → IsMade old new (InsistsOn owner command)
-        (record { status = status; value = no_value; same = 0; count = 0; numbers = [] }) }
+        (record { status = status; value = no_value; same = 0; count = 0; ints = []; text = [] }) }
     ensures collects { (old new : Option PacedState) (status : ℕ) → Collects old new status
         → IsMade old new CollectsNow
-        (record { status = status; value = no_value; same = 0; count = 0; numbers = [] }) }
+        (record { status = status; value = no_value; same = 0; count = 0; ints = []; text = [] }) }
     ensures increments { (old new : Option PacedState) (status : ℕ) → Increments old new status
         → IsMade old new IncrementsNow
-        (record { status = status; value = no_value; same = 0; count = 0; numbers = [] }) }
+        (record { status = status; value = no_value; same = 0; count = 0; ints = []; text = [] }) }
     ensures tells { (old new : Option PacedState) (status : ℕ) → IsTelling old new status
         → IsMade old new TellsNumbers
-        (record { status = status; value = no_value; same = 0; count = 0; numbers = [] }) }
+        (record { status = status; value = no_value; same = 0; count = 0; ints = []; text = [] }) }
     ensures peeks { (old new : Option PacedState) (owner : ℕ) (src : RootId) (field status : ℕ)
         (value : RheapValue)
         → IsAnswered (λ s. peek_answer s owner src field) old new status value
         → IsMade old new (Peeks owner src field)
-        (record { status = status; value = value; same = 0; count = 0; numbers = [] }) }
+        (record { status = status; value = value; same = 0; count = 0; ints = []; text = [] }) }
     ensures field { (old new : Option PacedState) (root : RootId) (field status : ℕ)
         (value : RheapValue)
         → IsAnswered (λ s. field_answer s root field) old new status value
         → IsMade old new (ReadsField root field)
-        (record { status = status; value = value; same = 0; count = 0; numbers = [] }) }
+        (record { status = status; value = value; same = 0; count = 0; ints = []; text = [] }) }
     ensures root { (old new : Option PacedState) (root : RootId) (status : ℕ) (value : RheapValue)
         → IsAnswered (λ s. root_answer s root) old new status value
         → IsMade old new (ReadsRoot root)
-        (record { status = status; value = value; same = 0; count = 0; numbers = [] }) }
+        (record { status = status; value = value; same = 0; count = 0; ints = []; text = [] }) }
     ensures counts { (old new : Option PacedState) (root : RootId) (status count : ℕ)
         → IsCounted (λ s. count_in (root_answer s root)) old new status count
         → IsMade old new (Counts root)
-        (record { status = status; value = no_value; same = 0; count = count; numbers = [] }) }
+        (record {
+          status = status;
+          value = no_value;
+          same = 0;
+          count = count;
+          ints = [];
+          text = [];
+        }) }
     ensures stores_ints { (old new : Option PacedState) (owner : ℕ) (object : RootId) (from : ℕ)
         (numbers : List ℤ) (status : ℕ) → AreStored old new owner object from numbers status
         → IsMade old new (StoresInts owner object from numbers)
-        (record { status = status; value = no_value; same = 0; count = 0; numbers = [] }) }
+        (record { status = status; value = no_value; same = 0; count = 0; ints = []; text = [] }) }
     ensures insists_on_ints { (old new : Option PacedState) (owner : ℕ) (object : RootId)
         (from : ℕ) (numbers : List ℤ) (status : ℕ)
         → AreStoredInsisting old new owner object from numbers status
         → IsMade old new (InsistsOnInts owner object from numbers)
-        (record { status = status; value = no_value; same = 0; count = 0; numbers = [] }) }
+        (record { status = status; value = no_value; same = 0; count = 0; ints = []; text = [] }) }
     ensures loads_ints { (old new : Option PacedState) (owner : ℕ) (object : RootId) (from : ℕ)
         (before after : List ℤ) (count status : ℕ)
         → AreTold old new owner object from before after count status
         → IsMade old new (LoadsInts owner object from before)
-        (record { status = status; value = no_value; same = 0; count = count; numbers = after }) }
+        (record {
+          status = status;
+          value = no_value;
+          same = 0;
+          count = count;
+          ints = after;
+          text = [];
+        }) }
+    ensures loads_text { (old new : Option PacedState) (owner : ℕ) (object : RootId) (from : ℕ)
+        (before after : List ℕ) (count status : ℕ)
+        → AreBytesTold old new owner object from before after count status
+        → IsMade old new (LoadsText owner object from before)
+        (record {
+          status = status;
+          value = no_value;
+          same = 0;
+          count = count;
+          ints = [];
+          text = after;
+        }) }
 {}
 
 /// The command that each call does, and the one whose answer it tells without doing it.
@@ -119,8 +154,8 @@ pub fn each_call_stands_in_lists()
 /// - `does`: a load, a comparison, and what is insisted on are done as commands.
 /// - `asks`: a reading of a field tells the answer to a load, a reading of a root or of a count the
 ///   answer to a copy of the root to itself.
-/// - `neither`, `neither_in_a_row`: collecting, telling numbers and calls for fields in a row do no
-///   command and ask for no answer.
+/// - `neither`, `neither_in_a_row`, `neither_of_a_text`: collecting, telling numbers, calls for
+///   fields in a row, and reading a text do no command and ask for no answer.
 /// - `rows`: a call that stores numbers to fields in a row does the stores of these numbers, all of
 ///   them or none.
 /// - `only_rows`: a call that does such a list does no other command, and asks for no answer.
@@ -155,6 +190,10 @@ pub fn calls_are_these_commands()
         × (question_of (InsistsOnInts owner object from numbers) ≡ None)
         × (command_of (LoadsInts owner object from numbers) ≡ None)
         × (question_of (LoadsInts owner object from numbers) ≡ None) }
+    ensures neither_of_a_text { (owner : ℕ) (object : RootId) (from : ℕ) (before : List ℕ)
+        → (command_of (LoadsText owner object from before) ≡ None)
+        × (question_of (LoadsText owner object from before) ≡ None)
+        × (row_of (LoadsText owner object from before) ≡ None) }
     ensures rows { (owner : ℕ) (object : RootId) (from : ℕ) (numbers : List ℤ)
         → (row_of (StoresInts owner object from numbers)
         ≡ Some (number_stores owner object from numbers))
@@ -175,11 +214,12 @@ pub fn calls_are_these_commands()
 /// A call that does a command tells what the plain heap answers, unless a limit refuses what the
 /// plain heap accepts; the plain heap skips that then. A call that reads a root, a field or how
 /// many fields there are tells what the plain heap answers, and the plain heap stays as it is. So
-/// does one that reads a row, field by field.
+/// does one that reads a row or a text, field by field.
 ///
-/// Numbers in a row are stored on the plain heap too, one after the other, where it refuses none of
-/// these stores. Else the call tells the first that it refuses, and both stay as they are. A limit
-/// may refuse a row that the plain heap accepts; the plain heap skips it then.
+/// Numbers in a row, which a text is too, are stored on the plain heap as well, one after the other,
+/// where it refuses none of these stores. Else the call tells the first that it refuses, and both
+/// stay as they are. A limit may refuse a row that the plain heap accepts; the plain heap skips it
+/// then.
 ///
 /// The law says nothing of what `rheap_stat`, `rheap_last_did`, `rheap_pace` and `rheap_room` tell,
 /// nor of the statuses of `rheap_collect` and `rheap_increment`.

@@ -4,15 +4,15 @@ use Rattle.rheap_c.proofs.Unless.{AreStoredUnless-err, AreStoredUnless-ok, lengt
 use Rattle.rheap_c.proofs.several.stored.Goals as goal
 
 pub returns-in-Ok : goal.returns-in-Ok
-returns-in-Ok c =
-    AreStoredUnless-ok _ _ _ _ (none-refused _ _ _ c.in-Ok.is c.store_all.ensures.refused) (record {
+returns-in-Ok g c =
+    AreStoredUnless-ok _ _ _ _ (none-refused _ _ _ c.in-Ok.is c.store_items.ensures.refused) (record {
       state = c.in-Ok.ensures.state;
       answers = c.in-Ok.ensures.done
-          ∙ sym (ap done_replies (length-number_stores _ _ _ c.args.numbers.now));
+          ∙ sym (ap done_replies (length-number_stores _ _ _ _));
       stands = λ p stands. c.in-Ok.ensures.plain p stands;
     })
 
 pub returns-in-Err : goal.returns-in-Err
-returns-in-Err c =
-    AreStoredUnless-err _ _ _ _ _ _ ((c.store_all.ensures.refused c.in-Err.refusal).0 c.in-Err.is)
+returns-in-Err g c =
+    AreStoredUnless-err _ _ _ _ _ _ ((c.store_items.ensures.refused c.in-Err.refusal).0 c.in-Err.is)
     c.in-Err.ensures.unchanged c.number.ensures

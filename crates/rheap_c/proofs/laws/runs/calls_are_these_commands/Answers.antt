@@ -10,6 +10,7 @@ returns c = record {
   only_asks = λ owner src root field. (refl, refl, refl, refl);
   neither = (refl, refl, refl, refl, refl, refl);
   neither_in_a_row = λ owner object from numbers. (refl, refl, refl, refl, refl, refl);
+  neither_of_a_text = λ owner object from before. (refl, refl, refl);
   rows = λ owner object from numbers. (refl, refl, refl);
   only_rows = row_of-only;
 }

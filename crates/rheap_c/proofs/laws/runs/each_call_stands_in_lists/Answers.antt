@@ -17,4 +17,5 @@ returns c = record {
   stores_ints = λ old new owner object from numbers status done. (done, refl);
   insists_on_ints = λ old new owner object from numbers status done. (done, refl);
   loads_ints = λ old new owner object from before after count status done. (done, refl);
+  loads_text = λ old new owner object from before after count status done. (done, refl);
 }
