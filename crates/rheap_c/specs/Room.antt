@@ -1,5 +1,5 @@
 -- The bounds of a pace, told of the calls of a program in C, and what there is room for by them.
-use Rattle.std.specs.Prelude.{◌≡◌, ◌⊎◌, ◌<◌, ◌≤◌, ◌+◌, ℕ, zero, suc, ℤ, false, All, List, [], ◌∷◌, length, Option, Some, None, Result, Err, slice_get, take}
+use Rattle.std.specs.Prelude.{◌≡◌, ◌↔◌, ◌⊎◌, ◌<◌, ◌≤◌, ◌+◌, ℕ, zero, suc, ℤ, false, All, List, [], ◌∷◌, length, Option, Some, None, Result, Err, slice_get, take}
 use Rattle.rh_layout.specs.declared.command.Command.{Command}
 use Rattle.rh_layout.specs.declared.command.RootId.{RootId}
 use Rattle.rh_layout.specs.declared.command.Reply.{Reply}
@@ -89,6 +89,14 @@ AreCallsBounded live biggest p [] = Unit {0}
 AreCallsBounded live biggest p (call ∷ calls) =
     IsCallBounded live biggest p call
     × AreCallsBounded live biggest (plain_unless_limited false p call) calls
+
+-- a call has the bounds of one command, on a heap and on a plain heap
+abbrev pub IsBoundAs : ℕ → ℕ → Call → ℕ → Command → Type 0
+IsBoundAs live biggest call owner command =
+    ((s : PacedState) → CallsStayWithin live biggest s (call ∷ [])
+    ↔ StaysWithin live biggest s owner command)
+    × ((p : PlainHeap) → AreCallsBounded live biggest p (call ∷ [])
+    ↔ IsBounded live biggest p owner command)
 
 -- where an answer says that there is no room, in the space or in the log, the epochs were spent
 -- before its call

@@ -13,7 +13,7 @@ pub use readings::{
 };
 pub use room::{
     a_refusal_for_room_has_the_numbers_of_rheap_room, calls_bounded_on_a_plain_heap_find_room,
-    calls_within_bounds_find_room,
+    calls_stay_within_as_their_commands, calls_within_bounds_find_room,
 };
 pub use runs::{
     calls_are_these_commands, calls_make_one_run, each_call_stands_in_lists,

@@ -1,25 +1,29 @@
 //! Laws of the room that calls find.
 
-ghost use Rattle.std.specs.Prelude.{◌≡◌, ◌↔◌, ◌+◌, ◌<◌, ℕ, All, List, map, Option, Some, None};
+ghost use Rattle.std.specs.Prelude.{◌≡◌, ◌↔◌, ◌+◌, ◌<◌, ℕ, ℤ, false, All, List, [], ◌∷◌, map, Option, Some, None};
 ghost use Rattle.rh_layout.specs.declared.command.Command.{Command};
-ghost use Rattle.rh_layout.specs.declared.command.Command.TheVariants.{Alloc, Raw};
+ghost use Rattle.rh_layout.specs.declared.command.Command.TheVariants.{Alloc, Load, Raw, Same};
 ghost use Rattle.rh_layout.specs.declared.command.RootId.{RootId};
 ghost use Rattle.rh_model.specs.Graph.{refusal_of};
-ghost use Rattle.rh_model.specs.Plain.{empty_plain};
+ghost use Rattle.rh_model.specs.Plain.{PlainHeap, empty_plain, graph_of};
 ghost use Rattle.rh_pace.specs.Collecting.{insist_step};
 ghost use Rattle.rh_pace.specs.InTime.{StayWithin};
 ghost use Rattle.rh_pace.specs.Pace.{CanKeepUp, KeepsUp, lag_of, words_left};
 ghost use Rattle.rh_pace.specs.Paced.{PacedState, paced_step};
 ghost use Rattle.rh_pace.specs.PlainBounds.{AreBounded};
+ghost use Rattle.rh_pace.specs.Reachable.{ReachesAtMost};
 ghost use Rattle.rh_mutator.specs.declared.config.Config.{Config};
+ghost use Rattle.rh_mutator.specs.StoringAll.{number_stores};
 ghost use Rattle.rh_pace.specs.declared.pace.Pace.{Pace};
 ghost use Rattle.rheap_c.specs.Called.{IsDone};
 ghost use Rattle.rheap_c.specs.Insisted.{IsInsisted};
 ghost use Rattle.rheap_c.specs.Numbers.{room_in};
 ghost use Rattle.rheap_c.specs.Opened.{IsFillingPace, IsNew, IsOpened, IsPaceFor, Opens, config_at};
 ghost use Rattle.rheap_c.specs.Read.{graph_in};
-ghost use Rattle.rheap_c.specs.Room.{AlwaysFindRoom, AlwaysFindSpace, AreCallsBounded, CallsStayWithin, FindRoomIfFit, FindRoomIfFitToLimit, FindRoomToLimit, InsistsOnNothing, IsRefusedFor, RowFits};
+ghost use Rattle.rheap_c.specs.Room.{AlwaysFindRoom, AlwaysFindSpace, AreCallsBounded, CallsStayWithin, FindRoomIfFit, FindRoomIfFitToLimit, FindRoomToLimit, InsistsOnNothing, IsBoundAs, IsRefusedFor, RowFits};
+ghost use Rattle.rheap_c.specs.Rows.{plain_refusal, ready_for, row_refusal};
 ghost use Rattle.rheap_c.specs.Runs.{Answer, Call, AreMade, doing};
+ghost use Rattle.rheap_c.specs.Runs.Call.{Loads, Compares, InsistsOn, CollectsNow, IncrementsNow, Peeks, ReadsField, ReadsRoot, Counts, TellsNumbers, StoresInts, InsistsOnInts, LoadsInts};
 
 use rh_core::laws::cycles::a_flip_is_refused_exactly_where_its_cycle_is_not_closed;
 use rh_core::laws::gives::classes_are_told_apart;
@@ -135,6 +139,63 @@ pub fn calls_bounded_on_a_plain_heap_find_room()
     classes_are_told_apart();
     a_flip_is_refused_exactly_where_its_cycle_is_not_closed();
 }
+
+/// The bounds of calls are those of what they do, on a heap and on a plain heap.
+///
+/// - `commands`, `bounded`: calls that do a list of commands, and tell a status alone, have the
+///   bounds of the list.
+/// - `load`, `compare`, `insist`: one call has those of its command.
+/// - `row`, `row_bounded`: a row has those of its stores, unless it is refused.
+/// - `insisted_row`, `insisted_row_bounded`: one that is insisted on has those of the row, on the
+///   heap that is ready for it, and on the same plain heap.
+/// - `collect`: a collection is bounded by what is reached, on a heap only where no cycle is on.
+/// - `others`, `others_bounded`: all further calls are within any bounds.
+pub fn calls_stay_within_as_their_commands()
+    ensures commands { (live biggest : ℕ) (s : PacedState) (given : List (ℕ × Command))
+        → CallsStayWithin live biggest s (map doing given) ↔ StayWithin live biggest s given }
+    ensures bounded { (live biggest : ℕ) (p : PlainHeap) (given : List (ℕ × Command))
+        → AreCallsBounded live biggest p (map doing given) ↔ AreBounded live biggest p given }
+    ensures load { (live biggest owner : ℕ) (dst src : RootId) (field : ℕ)
+        → IsBoundAs live biggest (Loads owner dst src field) owner (Load dst src field) }
+    ensures compare { (live biggest owner : ℕ) (r q : RootId)
+        → IsBoundAs live biggest (Compares owner r q) owner (Same r q) }
+    ensures insist { (live biggest owner : ℕ) (command : Command)
+        → IsBoundAs live biggest (InsistsOn owner command) owner command }
+    ensures row { (live biggest : ℕ) (s : PacedState)
+        → (owner : ℕ) (object : RootId) (from : ℕ) (numbers : List ℤ)
+        → CallsStayWithin live biggest s (StoresInts owner object from numbers ∷ [])
+        ↔ (row_refusal s owner object from numbers ≡ None
+        → StayWithin live biggest s (number_stores owner object from numbers)) }
+    ensures insisted_row { (live biggest : ℕ) (s : PacedState)
+        → (owner : ℕ) (object : RootId) (from : ℕ) (numbers : List ℤ)
+        → CallsStayWithin live biggest s (InsistsOnInts owner object from numbers ∷ [])
+        ↔ CallsStayWithin live biggest (ready_for s owner object from numbers)
+        (StoresInts owner object from numbers ∷ []) }
+    ensures row_bounded { (live biggest : ℕ) (p : PlainHeap)
+        → (owner : ℕ) (object : RootId) (from : ℕ) (numbers : List ℤ)
+        → AreCallsBounded live biggest p (StoresInts owner object from numbers ∷ [])
+        ↔ (plain_refusal p (number_stores owner object from numbers) ≡ None
+        → AreBounded live biggest p (number_stores owner object from numbers)) }
+    ensures insisted_row_bounded { (live biggest : ℕ) (p : PlainHeap)
+        → (owner : ℕ) (object : RootId) (from : ℕ) (numbers : List ℤ)
+        → AreCallsBounded live biggest p (InsistsOnInts owner object from numbers ∷ [])
+        ↔ AreCallsBounded live biggest p (StoresInts owner object from numbers ∷ []) }
+    ensures collect { (live biggest : ℕ) (s : PacedState)
+        → CallsStayWithin live biggest s (CollectsNow ∷ [])
+        ↔ (s.heap.mutators.cycle ≡ false → ReachesAtMost (graph_in s) live) }
+    ensures collect_bounded { (live biggest : ℕ) (p : PlainHeap)
+        → AreCallsBounded live biggest p (CollectsNow ∷ []) ↔ ReachesAtMost (graph_of p) live }
+    ensures others { (live biggest : ℕ) (s : PacedState)
+        → (owner : ℕ) (root : RootId) (field : ℕ) (numbers : List ℤ)
+        → CallsStayWithin live biggest s (IncrementsNow ∷ Peeks owner root field
+        ∷ ReadsField root field ∷ ReadsRoot root ∷ Counts root ∷ TellsNumbers
+        ∷ LoadsInts owner root field numbers ∷ []) }
+    ensures others_bounded { (live biggest : ℕ) (p : PlainHeap)
+        → (owner : ℕ) (root : RootId) (field : ℕ) (numbers : List ℤ)
+        → AreCallsBounded live biggest p (IncrementsNow ∷ Peeks owner root field
+        ∷ ReadsField root field ∷ ReadsRoot root ∷ Counts root ∷ TellsNumbers
+        ∷ LoadsInts owner root field numbers ∷ []) }
+{}
 
 /// Status 8 is the refusal `SpaceFull` with the numbers that `rheap_room` tells next, of which more
 /// is needed than is free.
