@@ -40,8 +40,8 @@ fn main() {
         eprintln!("    set RHEAP_LIB_DIR to the absolute path of its folder, or");
         eprintln!("    have `pkg-config --variable=libdir rheap` print that folder: set");
         eprintln!("    PKG_CONFIG_PATH to the folder of rheap.pc.");
-        eprintln!("  To make it: `./rheap --install PREFIX`, in a clone of rheap, leaves both");
-        eprintln!("  files below PREFIX/lib.");
+        eprintln!("  To make it: `./rheap --install PREFIX`, in a clone of rheap, leaves");
+        eprintln!("  librheap.a and pkgconfig/rheap.pc below PREFIX/lib.");
         exit(1);
     }
 }
@@ -119,7 +119,21 @@ fn folder() -> Result<PathBuf, String> {
                 .unwrap_or_default()
         ));
     }
-    Ok(PathBuf::from(folder))
+    Ok(PathBuf::from(unescaped(&folder)))
+}
+
+/// The folder that pkg-config prints for a shell: pkgconf puts a backslash before a blank and the
+/// like, and each stands for the character behind it.
+fn unescaped(printed: &str) -> String {
+    let mut folder = String::new();
+    let mut rest = printed.chars();
+    while let Some(each) = rest.next() {
+        folder.push(match each {
+            '\\' => rest.next().unwrap_or(each),
+            _ => each,
+        });
+    }
+    folder
 }
 
 /// Whether the index of the archive lists the symbol. The index of an `ar` archive is its first
