@@ -3,9 +3,10 @@
  * in ten minutes.
  *
  * A heap has a space of words, of 16 bytes in each of two halves. An object takes 2 words and one
- * for each field. A field holds nil, a whole number from -2^61 to 2^61 - 1, or a reference to an object. A program names objects
- * by roots: numbered slots of owners, both counted from 0. Owner 0's slots are shared by all
- * owners. No call gives an address out, so no pointer of yours changes when objects move.
+ * for each field. A field holds nil, a whole number from -2^61 to 2^61 - 1, or a reference to an
+ * object. A program names objects by roots: numbered slots of owners, both counted from 0. Owner
+ * 0's slots are shared by all owners. No call gives an address out, so no pointer of yours changes
+ * when objects move.
  *
  * Each call answers a status: 0 is done. A refused call changes nothing; the rheap_insist_ calls
  * alone may have collected before. Where a call tells something by a pointer, it writes there
@@ -394,9 +395,9 @@ uint8_t rheap_pace(rheap *heap, rheap_pacing *pacing);
    nothing of it. It needs no handle, and several threads may make such calls at once.
 
    `trace` has as many bytes as `trace_length` says, and `answers` has room for `answers_length`. A
-   call takes memory for the heap, 32 bytes for each of its words, for the lines of the trace, and
-   for the text; it frees all of it. It returns after the last line, however long that takes: a
-   trace has at most 1,048,576 lines. */
+   call takes memory for the heap, 32 bytes for each of its words and for each entry of its log that
+   is used, for the lines of the trace, and for the text; it frees all of it. It returns after the
+   last line, however long that takes: a trace has at most 1,048,576 lines. */
 
 /* The statuses of these two calls. They aren't those above, and rheap_name doesn't name them. */
 enum {
