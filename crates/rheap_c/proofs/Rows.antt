@@ -19,10 +19,11 @@ use Rattle.rh_mutator.specs.lemmas.Limits.{IsNoLimit, IsOnlyLimit}
 use Rattle.rh_pace.specs.Collecting.{collect_step}
 use Rattle.rh_pace.specs.Paced.{PacedState, paced_step}
 use Rattle.rheap_c.specs.Read.{graph_in, peek_answer}
-use Rattle.rheap_c.specs.Rows.{after_unless, byte_in, emptied_for, plain_refusal, plain_unless_refused, read_into, read_on, ready_for, row_refusal, row_status}
+use Rattle.rheap_c.specs.Rows.{after_row, after_unless, byte_in, emptied_for, plain_refusal, plain_unless_refused, read_into, read_on, ready_for, row_refusal, row_status}
 use Rattle.rheap_c.specs.Runs.{Answer, StoresAsPlain, answer_to, is_limit_status, plain_after_row, with_numbers, with_read, with_status, with_text}
 use Rattle.rheap_c.specs.Runs.Call.{LoadsInts, LoadsText}
 use Rattle.rheap_c.specs.Several.{AreStored, AreStoredInsisting, AreStoredUnless}
+use Rattle.std.proofs.lemmas.Option.{same_Some}
 use Rattle.rheap_c.specs.Told.{status_of}
 use Rattle.rheap_c.proofs.Readings.{peek_answer-load}
 
@@ -132,6 +133,15 @@ module _ (old : PacedState) (owner : ℕ) (object : RootId) (from : ℕ) (number
   AreStoredInsisting-stands new status p (not_full, inr (full, collected, stored)) stands =
       subst (λ (s : PacedState). StandsFor s.heap.mutators p) (sym (ready-full full))
       (collected.stands p stands)
+
+module _ (old : PacedState) (owner : ℕ) (object : RootId) (from : ℕ) (numbers : List ℤ) (why : Refusal) (is : row_refusal old owner object from numbers ≡ Some why) where
+  pub refused-store : after_row old owner object from numbers ≡ old
+  refused-store = ap (λ r. after_unless r old (number_stores owner object from numbers)) is
+
+  pub refused-same : (why ≡ LogFull → ⊥) → after_row (ready_for old owner object from numbers) owner object from numbers ≡ old
+  refused-same other =
+      ap (λ (s : PacedState). after_row s owner object from numbers) (ready-other old owner object from numbers (λ full. other (same_Some why LogFull (sym is ∙ full))))
+      ∙ refused-store
 
 -- As a plain heap.
 module _ (row : List (ℕ × Command)) (old new : PacedState) (p : PlainHeap) (a : Answer)

@@ -16,6 +16,6 @@ pub use room::{
     calls_stay_within_as_their_commands, calls_within_bounds_find_room,
 };
 pub use runs::{
-    calls_are_these_commands, calls_make_one_run, each_call_stands_in_lists,
-    no_program_in_c_sees_that_the_heap_collects,
+    a_refused_row_changes_nothing, calls_are_these_commands, calls_make_one_run,
+    each_call_stands_in_lists, no_program_in_c_sees_that_the_heap_collects,
 };

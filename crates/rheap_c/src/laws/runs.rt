@@ -1,12 +1,14 @@
 //! Laws of lists of calls.
 
-ghost use Rattle.std.specs.Prelude.{◌≡◌, ℕ, ℤ, All, List, [], drop, map, take, Option, Some, None};
+ghost use Rattle.std.specs.Prelude.{◌≡◌, ◌≢◌, ℕ, ℤ, All, List, [], drop, map, take, Option, Some, None};
 ghost use Rattle.rh_layout.specs.declared.command.Command.{Command};
 ghost use Rattle.rh_layout.specs.declared.command.Command.TheVariants.{Copy, Load, Same};
 ghost use Rattle.rh_layout.specs.declared.command.RootId.{RootId};
 ghost use Rattle.rh_model.specs.Plain.{PlainHeap};
 ghost use Rattle.rh_mutator.specs.Mutator.{StandsFor};
-ghost use Rattle.rh_mutator.specs.StoringAll.{number_stores};
+ghost use Rattle.rh_mutator.specs.StoringAll.{number_stores, numbers_refusal};
+ghost use Rattle.rh_layout.specs.declared.refusal.Refusal.{Refusal};
+ghost use Rattle.rh_layout.specs.declared.refusal.Refusal.TheVariants.{LogFull};
 ghost use Rattle.rh_pace.specs.InTime.{paced_after, paced_replies};
 ghost use Rattle.rh_pace.specs.Paced.{PacedState};
 ghost use Rattle.rheap_c.specs.declared.value.RheapValue.{RheapValue};
@@ -14,7 +16,7 @@ ghost use Rattle.rheap_c.specs.Called.{IsCompared, IsDone, IsLoaded};
 ghost use Rattle.rheap_c.specs.Collected.{Collects, Increments};
 ghost use Rattle.rheap_c.specs.Insisted.{IsInsisted};
 ghost use Rattle.rheap_c.specs.Read.{IsAnswered, IsCounted, count_in, field_answer, peek_answer, root_answer};
-ghost use Rattle.rheap_c.specs.Runs.{Answer, Call, AreMade, IsMade, IsTelling, TellAsPlain, after_calls, answers_to, command_of, doing, plain_after_calls, question_of, row_of};
+ghost use Rattle.rheap_c.specs.Runs.{Answer, Call, AreMade, IsMade, IsTelling, TellAsPlain, after_call, after_calls, answers_to, command_of, doing, plain_after_calls, question_of, row_of};
 ghost use Rattle.rheap_c.specs.Runs.Call.{Does, Loads, Compares, InsistsOn, CollectsNow, IncrementsNow, Peeks, ReadsField, ReadsRoot, Counts, TellsNumbers, StoresInts, InsistsOnInts, LoadsInts, LoadsText};
 ghost use Rattle.rheap_c.specs.Several.{AreBytesTold, AreStored, AreStoredInsisting, AreTold};
 ghost use Rattle.rheap_c.specs.Told.{no_value, status_of};
@@ -147,6 +149,16 @@ pub fn each_call_stands_in_lists()
           ints = [];
           text = after;
         }) }
+{}
+
+/// A row that is refused for anything but a full log leaves the heap as it was, also one that is
+/// insisted on.
+pub fn a_refused_row_changes_nothing()
+    ensures { (s : PacedState) (owner : ℕ) (object : RootId) (from : ℕ) (numbers : List ℤ)
+        (why : Refusal) → numbers_refusal s.heap.mutators owner object from numbers ≡ Some why
+        → why ≢ LogFull
+        → (after_call s (StoresInts owner object from numbers) ≡ s)
+        × (after_call s (InsistsOnInts owner object from numbers) ≡ s) }
 {}
 
 /// The command that each call does, and the one whose answer it tells without doing it.
