@@ -9,6 +9,7 @@ mod problem;
 mod queue;
 mod recorded;
 mod renewal;
+mod rows;
 mod threads;
 
 use problem::Problem;
@@ -32,6 +33,8 @@ fn run(rt: &(impl Print + AllocGlobal + Threads + Wait + Sync)) -> Result<(), Pr
     println!(rt; "queue cycles {cycles}")?;
     let cycles = renewal::run(alloc, 10_000)?;
     println!(rt; "renewal cycles over 400 {}", cycles > 400)?;
+    let read = rows::run(alloc)?;
+    println!(rt; "row read {read}")?;
     let (calls, objects) = recorded::run(alloc, &mut io::writer(rt))?;
     println!(rt; "recorded calls {calls} objects {objects}")?;
     Ok(())
