@@ -446,6 +446,19 @@ static void in_a_row(rheap *heap) {
         EQUALS(length < sizeof back && back[length] != 0x5a, 0);
     }
 
+    /* A text goes to the fields from the one that is named, and the others stay. */
+    IS(rheap_store_int(heap, 1, raw, 0, 11), DONE);
+    IS(rheap_insist_store_text(heap, 1, raw, 1, "abcdefg", 7), DONE);
+    IS(rheap_store_text(heap, 1, raw, 2, "h", 1), DONE);
+    IS(rheap_peek(heap, 1, raw, 0, &value), DONE);
+    EQUALS(value.number, 11);
+    IS(rheap_peek(heap, 1, raw, 1, &value), DONE);
+    EQUALS(value.number, 0x67666564636261);
+    IS(rheap_load_text(heap, 1, raw, 1, back, 8, &count), DONE);
+    EQUALS(count, 8);
+    EQUALS(memcmp(back, "abcdefgh", 8), 0);
+    IS(rheap_store_text(heap, 1, raw, 0, bytes, sizeof bytes), DONE);
+
     /* A field without a number ends what is read, and a number of no text tells its lowest bits. */
     IS(rheap_store_nil(heap, 1, raw, 2), DONE);
     IS(rheap_store_int(heap, 1, raw, 0, -1), DONE);
