@@ -4,3 +4,4 @@ pub mod TellingCommands
 pub mod OneOwner
 pub mod LeftOut
 pub mod WhatStands
+pub mod Takes

@@ -1,18 +1,23 @@
 //! Laws of the definitions alone. Each function does nothing: its contract is the law.
 
-ghost use Rattle.std.specs.Prelude.{◌≡◌, ◌≢◌, ℕ, ◌+◌, ◌<◌, ◌≤◌, true, false, [], filter, length};
+ghost use Rattle.std.specs.Prelude.{◌≡◌, ◌≢◌, ◌↔◌, ℕ, ◌+◌, ◌<◌, ◌≤◌, true, false, List, [], ◌∷◌, ◌++◌, filter, length, None};
 ghost use Rattle.rh_layout.specs.declared.command.Command.{Command as CommandOf};
 ghost use Rattle.rh_layout.specs.declared.refusal.Refusal.{Refusal as RefusalOf};
-ghost use Rattle.rh_mutator.specs.Commands.{LimitHolds};
+ghost use Rattle.rh_layout.specs.declared.refusal.Refusal.TheVariants.{SpaceFull};
+ghost use Rattle.rh_layout.specs.Command.{made_by};
+ghost use Rattle.rh_mutator.specs.Commands.{IsStoring, LimitHolds};
 ghost use Rattle.rh_mutator.specs.Mutator.{IsMutator, MutatorState};
 ghost use Rattle.rh_syntax.specs.declared.line.Header.{Header as HeaderOf};
+ghost use Rattle.rh_syntax.specs.declared.request.Request.{Request as RequestOf};
+ghost use Rattle.rh_syntax.specs.declared.request.Request.TheVariants as requests;
 ghost use Rattle.rh_syntax.specs.Spelling.{Script};
 ghost use Rattle.rh_replay.specs.History.{HistoryState};
 ghost use Rattle.rh_shared.specs.Shares.{calls_of};
 ghost use Rattle.rh_shared_trace.specs.declared.options.RunOptions.{RunOptions as RunOptionsOf};
+ghost use Rattle.rh_shared_trace.specs.declared.trace_limits.Limit.{Limit as LimitOf};
 ghost use Rattle.rh_shared_trace.specs.declared.trace_limits.Limit.TheVariants.{Space, Log};
 ghost use Rattle.rh_shared_trace.specs.declared.trace_limits.TraceLimits.{TraceLimits as TraceLimitsOf};
-ghost use Rattle.rh_shared_trace.specs.Limiting.{taken_by_all};
+ghost use Rattle.rh_shared_trace.specs.Limiting.{taken_by, taken_by_all};
 ghost use Rattle.rh_shared_trace.specs.Matching.{allocates, commands_of, lines_of, stores, takes_nothing, MayLeaveOut};
 ghost use Rattle.rh_shared_trace.specs.Options.{shared_config_of};
 ghost use Rattle.rh_shared_trace.specs.Run.{IsHistoryOf};
@@ -37,6 +42,33 @@ pub fn what_a_limit_may_refuse_may_be_left_out()
     ensures wherever { (command : CommandOf) (m : MutatorState) (limit : RefusalOf)
         → LimitHolds m command limit
         → MayLeaveOut (record { space = true; log = true }) false command }
+{}
+
+/// What lines take of what is limited.
+///
+/// - `space`: a command whose object needs more words than are free takes these words, up to 4,097.
+/// - `none`: a command that makes no object takes none.
+/// - `log`: a store takes one entry of the log, and no other command takes one.
+/// - `others`: a line that is no command takes none of either.
+/// - `most`: no line takes more than one entry of the log.
+/// - `one`: one line alone takes what it takes.
+/// - `sum`: lines after others take as much more as they take alone.
+pub fn what_a_line_takes_is_what_a_heap_needs()
+    ensures space { (m : MutatorState) (owner need free : ℕ) (command : CommandOf)
+        → LimitHolds m command (SpaceFull need free) → need ≤ 4097
+        → taken_by Space (requests.Command owner command) ≡ need }
+    ensures none { (owner : ℕ) (command : CommandOf) → made_by command ≡ None
+        → taken_by Space (requests.Command owner command) ≡ 0 }
+    ensures log { (owner : ℕ) (command : CommandOf)
+        → (taken_by Log (requests.Command owner command) ≡ 1) ↔ IsStoring command }
+    ensures others { (limit : LimitOf) (request : RequestOf)
+        → ((owner : ℕ) (command : CommandOf) → request ≢ requests.Command owner command)
+        → taken_by limit request ≡ 0 }
+    ensures most { (request : RequestOf) → taken_by Log request ≤ 1 }
+    ensures one { (limit : LimitOf) (request : RequestOf)
+        → taken_by_all limit (request ∷ []) ≡ taken_by limit request }
+    ensures sum { (limit : LimitOf) (xs ys : List RequestOf)
+        → taken_by_all limit (xs ++ ys) ≡ taken_by_all limit xs + taken_by_all limit ys }
 {}
 
 /// What stands in a history of fewer than 65,536 calls of what each owner's lines ask, in order and
