@@ -1,12 +1,12 @@
--- A line may be left out exactly where a limit may refuse its command.
-use Rattle.std.proofs.Common.{◌≡◌, ◌⊎◌, ℕ, zero, suc, ◌+◌, true, false, [], ◌∷◌, slice_index_or, refl, sym, subst, arith, inl, inr}
+-- A line may be left out where a limit may refuse its command, and only there.
+use Rattle.std.proofs.Common.{◌≡◌, ◌⊎◌, ℕ, zero, suc, ◌+◌, Bool, true, false, [], ◌∷◌, slice_index_or, refl, sym, subst, arith, inl, inr}
 use Rattle.std.proofs.lemmas.Bool.{true≢false}
 use Rattle.rh_layout.specs.declared.command.RootId.{RootId}
 use Rattle.rh_layout.specs.declared.value.Value.TheVariants.{Nil}
 use Rattle.rh_layout.specs.declared.command.Command.{Command}
 use Rattle.rh_layout.specs.declared.command.Command.TheVariants.{Alloc, Raw, Load, Store, Copy, Same, Drop}
 use Rattle.rh_layout.specs.declared.refusal.Refusal.{Refusal}
-use Rattle.rh_layout.specs.declared.refusal.Refusal.TheVariants.{NoRoot, NotYours, NotObject, NoField, RawField, IntRange, FieldsRange, SpaceFull, LogFull, NumbersSpent}
+use Rattle.rh_layout.specs.declared.refusal.Refusal.TheVariants.{SpaceFull, NumbersSpent}
 use Rattle.rh_mutator.specs.declared.config.Config.{Config}
 use Rattle.rh_mutator.specs.Mutator.{MutatorState, IsMutator, IsStorable, new_mutators}
 use Rattle.rh_mutator.specs.Commands.{LimitHolds, IsStoring, with_new_object}
@@ -76,30 +76,17 @@ left_out_is_limited limits (Copy dst src) out = nothing out
 left_out_is_limited limits (Same a b) out = nothing out
 left_out_is_limited limits (Drop root) out = nothing out
 
--- a trace that may come to both limits
-abbrev both_limits : TraceLimits
-both_limits = record { space = true; log = true }
+-- a trace whose objects may have more words than the space, whatever its stores
+pub made_is_left_out : (command : Command) (m : MutatorState) (need free : ℕ) (log : Bool) → LimitHolds m command (SpaceFull need free)
+    → MayLeaveOut (record { space = true; log = log }) false command
+made_is_left_out (Alloc dst fields) m need free log holds = inr refl
+made_is_left_out (Raw dst fields) m need free log holds = inr refl
+made_is_left_out (Store obj field operand) m need free log holds = absurd cc
+made_is_left_out (Load dst src field) m need free log holds = absurd cc
+made_is_left_out (Copy dst src) m need free log holds = absurd cc
+made_is_left_out (Same a b) m need free log holds = absurd cc
+made_is_left_out (Drop root) m need free log holds = absurd cc
 
-stored : (command : Command) → IsStoring command → MayLeaveOut both_limits false command
-stored command is = subst (MayLeaveOut both_limits false) (sym is.3) (inr refl)
-
-made : (m : MutatorState) (command : Command) (need free : ℕ) → LimitHolds m command (SpaceFull need free) → MayLeaveOut both_limits false command
-made m (Alloc dst fields) need free holds = inr refl
-made m (Raw dst fields) need free holds = inr refl
-made m (Store obj field operand) need free holds = inr refl
-made m (Load dst src field) need free holds = absurd cc
-made m (Copy dst src) need free holds = absurd cc
-made m (Same a b) need free holds = absurd cc
-made m (Drop root) need free holds = absurd cc
-
-pub limited_is_left_out : (m : MutatorState) (command : Command) (limit : Refusal) → LimitHolds m command limit → MayLeaveOut both_limits false command
-limited_is_left_out m command NoRoot holds = absurd holds
-limited_is_left_out m command NotYours holds = absurd holds
-limited_is_left_out m command NotObject holds = absurd holds
-limited_is_left_out m command NoField holds = absurd holds
-limited_is_left_out m command RawField holds = absurd holds
-limited_is_left_out m command IntRange holds = absurd holds
-limited_is_left_out m command FieldsRange holds = absurd holds
-limited_is_left_out m command (SpaceFull need free) holds = made m command need free holds
-limited_is_left_out m command LogFull holds = stored command holds.0
-limited_is_left_out m command NumbersSpent holds = stored command holds.0
+-- a trace that may store more often than the log has entries, whatever its objects
+pub stored_is_left_out : (command : Command) (space : Bool) → IsStoring command → MayLeaveOut (record { space = space; log = true }) false command
+stored_is_left_out command space is = subst (MayLeaveOut (record { space = space; log = true }) false) (sym is.3) (inr refl)

@@ -1,6 +1,6 @@
 //! Laws of the definitions alone. Each function does nothing: its contract is the law.
 
-ghost use Rattle.std.specs.Prelude.{◌≡◌, ◌≢◌, ◌↔◌, ℕ, ◌+◌, ◌<◌, ◌≤◌, true, false, List, [], ◌∷◌, ◌++◌, filter, length, None};
+ghost use Rattle.std.specs.Prelude.{◌≡◌, ◌≢◌, ◌↔◌, ℕ, ◌+◌, ◌<◌, ◌≤◌, Bool, true, false, List, [], ◌∷◌, ◌++◌, filter, length, None};
 ghost use Rattle.rh_layout.specs.declared.command.Command.{Command as CommandOf};
 ghost use Rattle.rh_layout.specs.declared.refusal.Refusal.{Refusal as RefusalOf};
 ghost use Rattle.rh_layout.specs.declared.refusal.Refusal.TheVariants.{SpaceFull};
@@ -33,15 +33,21 @@ pub fn a_trace_of_one_owner_has_one_whole_history()
 {}
 
 /// A line may be left out of a history that isn't full only where its command meets a limit of some
-/// heap, whatever else is wrong with it; and wherever it does, if the trace may come to both
-/// limits, that of the space and that of the log.
+/// heap, whatever else is wrong with it. It may be wherever the trace may come to a limit that its
+/// command meets.
+///
+/// - `space`: to that of the space, if the command asks for more words than are free.
+/// - `stored`: to that of the log, if a store meets a limit.
 pub fn what_a_limit_may_refuse_may_be_left_out()
     ensures only { (limits : TraceLimitsOf) (command : CommandOf)
         → MayLeaveOut limits false command → (m : MutatorState) × IsMutator m
         × (limit : RefusalOf) × LimitHolds m command limit }
-    ensures wherever { (command : CommandOf) (m : MutatorState) (limit : RefusalOf)
-        → LimitHolds m command limit
-        → MayLeaveOut (record { space = true; log = true }) false command }
+    ensures space { (command : CommandOf) (m : MutatorState) (need free : ℕ) (log : Bool)
+        → LimitHolds m command (SpaceFull need free)
+        → MayLeaveOut (record { space = true; log = log }) false command }
+    ensures stored { (command : CommandOf) (m : MutatorState) (limit : RefusalOf) (space : Bool)
+        → IsStoring command → LimitHolds m command limit
+        → MayLeaveOut (record { space = space; log = true }) false command }
 {}
 
 /// What lines take of what is limited.
