@@ -84,6 +84,17 @@ const FOUR_HISTORY: &[u8] = b"history 1 1\n\
     0 alloc 0.0 6 = object 6\n0 alloc 0.0 6 = object 6\n0 alloc 0.0 6 = object 6\n\
     0 alloc 0.0 6 = object 6\nend 4\n";
 
+/// Three stores in the cycle that the third object begins, where the log has one entry. Nothing is
+/// granted after that, so the cycle doesn't end.
+const LOG_FULL: &[u8] = b"heap 32 1 1 1 1\n\
+    0 alloc 0.0 6\n0 alloc 0.0 6\n0 alloc 0.0 6\n\
+    0 store 0.0 0 1\n0 store 0.0 1 2\n0 store 0.0 0 3\n0 load 0.0 0.0 1\n";
+
+/// The stores after the first are left out.
+const LOG_FULL_HISTORY: &[u8] = b"history 1 1\n\
+    0 alloc 0.0 6 = object 6\n0 alloc 0.0 6 = object 6\n0 alloc 0.0 6 = object 6\n\
+    0 store 0.0 0 1 = done\n0 load 0.0 0.0 1 = nil\nend 5\n";
+
 /// Two owners that share objects, and use 48 of 64 words, some of which nothing reaches any more.
 const SHARED: &[u8] = b"heap 64 8 32 3 2\n\
     1 alloc 1.0 6\n2 alloc 2.0 6\n1 store 1.0 0 1\n2 store 2.0 0 2\n\
@@ -157,6 +168,7 @@ const ONE_OWNER: &[(RunOptions, &[u8], &[u8])] = &[
     (ALONE, REPLACED, REPLACED_HISTORY),
     (ALONE, REPLACED_SLOWLY, FOUR_HISTORY),
     (IDLE_ALONE, REPLACED_SLOWLY, REPLACED_HISTORY),
+    (TWO, LOG_FULL, LOG_FULL_HISTORY),
     (TWO, b"heap 64 8 8 2 2\n", b"history 2 2\nend 0\n"),
 ];
 
@@ -168,7 +180,7 @@ fn histories_of_one_owner(rt: HostRuntime) {
         let again = play_again(|| runs_to(&rt, options, text, Ok(()), history));
         played = played.saturating_add(again);
     }
-    expect_equal(&rt, played, 1600);
+    expect_equal(&rt, played, 1800);
 }
 
 #[test]
