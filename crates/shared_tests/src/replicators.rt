@@ -76,6 +76,16 @@ fn pieces_of_one_place_are_folded_together(rt: HostRuntime) {
     expect_equal(&rt, waiting(&link), None);
     assert!(rt; link.pop());
     expect_equal(&rt, waiting(&link), Some((7, 1, 5)));
+    // Each pop looks anew, however many went before.
+    for turn in 0..70_000u32 {
+        let row = turn as usize;
+        let rt = Row { rt: &rt, row };
+        link.forget();
+        assert!(rt; push(&mut link, piece_of(7, 1, turn.into())));
+        expect_equal(&rt, replicator.step(), Stepped::Folded(1));
+        assert!(rt; link.pop());
+        expect_equal(&rt, waiting(&link), Some((7, 1, turn.into())));
+    }
 }
 
 #[test]
