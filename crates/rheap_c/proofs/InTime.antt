@@ -38,7 +38,8 @@ use Rattle.rh_pace.proofs.in_time.Calls.{IsInTime-paced_heap, IsInTime-paced_ste
 use Rattle.rh_pace.proofs.in_time.Collected.{IsInTime-collect_step, IsInTime-with_increment, insisted-in_time}
 use Rattle.rh_pace.proofs.in_time.Epochs.{config-paced_step, pace-paced_step}
 use Rattle.rh_pace.proofs.in_time.Lists.{config-after_increment}
-use Rattle.rh_pace.proofs.in_time.Room.{full-paced_step, lag-in_time, room-paced_step}
+use Rattle.rh_pace.proofs.in_time.Room.{full-paced_step, room-paced_step}
+use Rattle.rh_pace.proofs.StoredInTime.{asked-no_limit, full-places, unfull-in_time}
 use Rattle.rheap_c.specs.Collected.{collect_status}
 use Rattle.rheap_c.specs.Opened.{IsNew, IsOpened, Opens, opened}
 use Rattle.rheap_c.specs.Read.{count_in, count_of_reply, count_status, field_answer, graph_in, peek_answer, root_answer}
@@ -52,7 +53,6 @@ use Rattle.rheap_c.proofs.Readings.{field_answer-load, peek_answer-load, root_an
 use Rattle.rheap_c.proofs.Refused.{full_told}
 use Rattle.rheap_c.proofs.Rows.{is_limit_status-status_of, ready-either}
 use Rattle.rheap_c.proofs.Runs.{AreMade-run, IsMade-after, IsMade-answer}
-use Rattle.rheap_c.proofs.Unless.{asked-no_limit, full-places}
 
 -- A status that says that there is no room.
 abbrev pub IsFullStatus : ℕ → Type 0
@@ -385,11 +385,7 @@ module _ (laws : StepLaws) (live biggest : ℕ) where
     -- a row that fits beside the lag isn't refused for a full log
     unfull-row : (owner : ℕ) (object : RootId) (from : ℕ) (numbers : List ℤ) → HasRowPlaces biggest s (StoresInts owner object from numbers)
         → row_refusal s owner object from numbers ≡ Some LogFull → ⊥
-    unfull-row owner object from numbers places is =
-        let full = full-places s.heap.mutators owner object from numbers is in
-        let lag = lag-in_time live biggest s keeps.well keeps.paced keeps.in_time full.0 in
-        let limit = keeps.well.heap.mutators.limit in
-        let more = full.1 in omega (arith, lag, limit, more, places)
+    unfull-row owner object from numbers places is = unfull-in_time live biggest s keeps.well keeps.paced keeps.in_time owner object from numbers places is
 
     -- the heap that is ready for a row keeps time: it collects in a cycle alone
     pub KeepsTime-ready : (owner : ℕ) (object : RootId) (from : ℕ) (numbers : List ℤ) → KeepsTime live biggest (ready_for s owner object from numbers)

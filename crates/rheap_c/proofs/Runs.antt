@@ -29,7 +29,7 @@ use Rattle.rheap_c.specs.Runs.Call.{Does, Loads, Compares, InsistsOn, CollectsNo
 use Rattle.rheap_c.specs.Told.{same_told, status_of, told_value}
 use Rattle.rheap_c.proofs.Readings.{field_answer-plain, peek_answer-plain, root_answer-plain}
 use Rattle.rheap_c.proofs.Rows.{AreStoredInsisting-ready, AreStoredInsisting-stands, AreStoredUnless-after, AreStoredUnless-plain, AreStoredUnless-status, is_limit_status-status_of, log_limit_for-IsOnlyLimit, read_into-loaded, read_into-text}
-use Rattle.rheap_c.proofs.Unless.{asked-no_limit}
+use Rattle.rh_pace.proofs.StoredInTime.{asked-no_limit}
 
 -- One run.
 

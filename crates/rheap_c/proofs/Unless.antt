@@ -1,30 +1,20 @@
 -- What calls for several fields promise, by cases of what refuses them.
-use Rattle.std.proofs.Common.{◌≡◌, ◌≢◌, inl, ℕ, suc, ◌+◌, ℤ, Bool, true, false, List, [], ◌∷◌, length, Option, Some, None, Result, Ok, Err, refl, sym, ap, subst, ◌∙◌, arith}
-use Rattle.std.specs.Prelude.{◌↔◌, ◌<◌, nat_lt, ◌&&◌, if◌then◌else◌}
-use Rattle.std.proofs.lemmas.Bool.{false≢true, ltb-true}
+use Rattle.std.proofs.Common.{◌≡◌, ◌≢◌, inl, ℕ, ℤ, List, Option, Some, None, Result, Ok, Err, refl, sym, ap, subst, ◌∙◌, arith}
+use Rattle.std.specs.Prelude.{◌↔◌}
+use Rattle.std.proofs.lemmas.Bool.{false≢true}
 use Rattle.rh_layout.specs.declared.command.Command.{Command}
 use Rattle.rh_layout.specs.declared.command.RootId.{RootId}
 use Rattle.rh_layout.specs.declared.refusal.Refusal.{Refusal}
 use Rattle.rh_layout.specs.declared.refusal.Refusal.TheVariants.{NoRoot, NotYours, NotObject, NoField, RawField, IntRange, FieldsRange, SpaceFull, LogFull, NumbersSpent}
-use Rattle.rh_layout.specs.Refusal.{is_limit, rank_of}
-use Rattle.rh_layout.specs.Refusing.{first_of}
-use Rattle.rh_model.specs.Graph.{Graph, refusal_of}
-use Rattle.rh_mutator.specs.Mutator.{MutatorState, graph_of}
-use Rattle.rh_mutator.specs.StoringAll.{first_refusal, number_stores, numbers_refusal}
-use Rattle.rh_mutator.specs.lemmas.Limits.{IsNoLimit, refusal_of-IsNoLimit}
+use Rattle.rh_layout.specs.Refusal.{rank_of}
+use Rattle.rh_mutator.specs.StoringAll.{number_stores, numbers_refusal}
 use Rattle.rh_core.specs.declared.outcomes.Flipped.{Flipped}
 use Rattle.rh_pace.specs.declared.errors.EpochsSpent.{EpochsSpent}
 use Rattle.rh_pace.specs.Collecting.{collect_step}
 use Rattle.rh_pace.specs.Paced.{PacedState}
+use Rattle.rh_pace.proofs.StoredInTime.{full-places}
 use Rattle.rheap_c.specs.Collected.{IsCollection}
 use Rattle.rheap_c.specs.Several.{AreDone, AreReadUnless, AreStoredUnless}
-
--- there is a store for each number
-pub length-number_stores : (owner : ℕ) (object : RootId) (from : ℕ) (numbers : List ℤ)
-    → length (number_stores owner object from numbers) ≡ length numbers
-length-number_stores owner object from [] = refl
-length-number_stores owner object from (n ∷ rest) =
-    ap suc (length-number_stores owner object (from + 1) rest)
 
 ok≢err : {X : Type 0} (x : X) (why : Refusal) → Ok x ≡ Err why → ⊥
 ok≢err x why is = absurd (cc)
@@ -57,51 +47,6 @@ module _ {X : Type 0} (read : Type 0) (before after : List X) where
   AreReadUnless-err r why status is same rank =
       subst (λ (o : Option Refusal). AreReadUnless o read before after 0 status) (sym is)
       (same, refl, rank)
-
--- what numbers ask is refused for no limit
-first-no_limit : (a b : Option Refusal) → IsNoLimit a → IsNoLimit b → IsNoLimit (first_of a b)
-first-no_limit None b x y = y
-first-no_limit (Some r) b x y = x
-
-pub asked-no_limit : (g : Graph) (calls : List (ℕ × Command)) → IsNoLimit (first_refusal g calls)
-asked-no_limit g [] = tt
-asked-no_limit g (call ∷ rest) =
-    first-no_limit (refusal_of g call.0 call.1) (first_refusal g rest)
-    (refusal_of-IsNoLimit g call.0 call.1) (asked-no_limit g rest)
-
-limit_in : Option Refusal → Bool
-limit_in None = false
-limit_in (Some r) = is_limit r
-
-full-later : (asked later : Option Refusal) → IsNoLimit asked → first_of asked later ≡ Some LogFull
-    → later ≡ Some LogFull
-unfolding limit_in
-full-later None later none is = is
-full-later (Some r) later none is = absurd (false≢true (sym none ∙ ap limit_in is))
-
-spent-not_full : (b : Bool) → (if b then Some NumbersSpent else None) ≡ Some LogFull → ⊥
-spent-not_full true is = absurd (cc)
-spent-not_full false is = absurd (cc)
-
--- the log is too full for numbers in a cycle alone, where it has fewer places left
-pub full-places : (m : MutatorState) (owner : ℕ) (object : RootId) (from : ℕ) (numbers : List ℤ)
-    → numbers_refusal m owner object from numbers ≡ Some LogFull
-    → (m.cycle ≡ true) × (m.log.limit < length m.log.entries + length numbers)
-full-places m owner object from numbers is =
-    by m.cycle (nat_lt m.log.limit (length m.log.entries + length numbers)) refl
-    (full-later (first_refusal (graph_of m) (number_stores owner object from numbers)) _
-    (asked-no_limit (graph_of m) (number_stores owner object from numbers)) is)
-  where
-    spent : Bool
-    spent = nat_lt m.log.last_number (m.log.number + length numbers)
-
-    by : (cycle full : Bool) → nat_lt m.log.limit (length m.log.entries + length numbers) ≡ full
-        → (if cycle && full then Some LogFull else if spent then Some NumbersSpent else None)
-        ≡ Some LogFull
-        → (cycle ≡ true) × (m.log.limit < length m.log.entries + length numbers)
-    by true true full_is is = (refl, ltb-true m.log.limit (length m.log.entries + length numbers) full_is)
-    by true false full_is is = absurd (spent-not_full spent is)
-    by false full full_is is = absurd (spent-not_full spent is)
 
 rank-full : (why : Refusal) → rank_of why ≡ 9 → why ≡ LogFull
 rank-full NoRoot is = absurd (omega (arith, is))

@@ -1,6 +1,7 @@
 use Rattle.std.proofs.Common.{sym, ap, ◌∙◌}
 use Rattle.rh_core.specs.StoringAll.{done_replies}
-use Rattle.rheap_c.proofs.Unless.{AreStoredUnless-err, AreStoredUnless-ok, length-number_stores, none-refused}
+use Rattle.rh_pace.proofs.StoredInTime.{length-number_stores}
+use Rattle.rheap_c.proofs.Unless.{AreStoredUnless-err, AreStoredUnless-ok, none-refused}
 use Rattle.rheap_c.proofs.several.stored.Goals as goal
 
 pub returns-in-Ok : goal.returns-in-Ok
