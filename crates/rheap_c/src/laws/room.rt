@@ -23,7 +23,7 @@ ghost use Rattle.rheap_c.specs.Read.{graph_in};
 ghost use Rattle.rheap_c.specs.Room.{AlwaysFindRoom, AlwaysFindSpace, AreCallsBounded, CallsStayWithin, FindRoomIfFit, FindRoomIfFitToLimit, FindRoomToLimit, InsistsOnNothing, IsBoundAs, IsRefusedFor, RowFits};
 ghost use Rattle.rheap_c.specs.Rows.{plain_refusal, ready_for, row_refusal};
 ghost use Rattle.rheap_c.specs.Runs.{Answer, Call, AreMade, doing};
-ghost use Rattle.rheap_c.specs.Runs.Call.{Loads, Compares, InsistsOn, CollectsNow, IncrementsNow, Peeks, ReadsField, ReadsRoot, Counts, TellsNumbers, StoresInts, InsistsOnInts, LoadsInts};
+ghost use Rattle.rheap_c.specs.Runs.Call.{Loads, Compares, InsistsOn, CollectsNow, IncrementsNow, Peeks, ReadsField, ReadsRoot, Counts, TellsNumbers, StoresInts, InsistsOnInts, LoadsInts, LoadsText};
 
 use rh_core::laws::cycles::a_flip_is_refused_exactly_where_its_cycle_is_not_closed;
 use rh_core::laws::gives::classes_are_told_apart;
@@ -186,15 +186,15 @@ pub fn calls_stay_within_as_their_commands()
     ensures collect_bounded { (live biggest : ℕ) (p : PlainHeap)
         → AreCallsBounded live biggest p (CollectsNow ∷ []) ↔ ReachesAtMost (graph_of p) live }
     ensures others { (live biggest : ℕ) (s : PacedState)
-        → (owner : ℕ) (root : RootId) (field : ℕ) (numbers : List ℤ)
+        → (owner : ℕ) (root : RootId) (field : ℕ) (numbers : List ℤ) (text : List ℕ)
         → CallsStayWithin live biggest s (IncrementsNow ∷ Peeks owner root field
         ∷ ReadsField root field ∷ ReadsRoot root ∷ Counts root ∷ TellsNumbers
-        ∷ LoadsInts owner root field numbers ∷ []) }
+        ∷ LoadsInts owner root field numbers ∷ LoadsText owner root field text ∷ []) }
     ensures others_bounded { (live biggest : ℕ) (p : PlainHeap)
-        → (owner : ℕ) (root : RootId) (field : ℕ) (numbers : List ℤ)
+        → (owner : ℕ) (root : RootId) (field : ℕ) (numbers : List ℤ) (text : List ℕ)
         → AreCallsBounded live biggest p (IncrementsNow ∷ Peeks owner root field
         ∷ ReadsField root field ∷ ReadsRoot root ∷ Counts root ∷ TellsNumbers
-        ∷ LoadsInts owner root field numbers ∷ []) }
+        ∷ LoadsInts owner root field numbers ∷ LoadsText owner root field text ∷ []) }
 {}
 
 /// Status 8 is the refusal `SpaceFull` with the numbers that `rheap_room` tells next, of which more

@@ -53,7 +53,7 @@ pub returns-clause-collect_bounded : goal.returns-clause-collect_bounded
 returns-clause-collect_bounded c = λ live biggest p. (λ bounded. bounded.0, λ bounded. (bounded, tt))
 
 pub returns-clause-others : goal.returns-clause-others
-returns-clause-others c = λ live biggest s owner root field numbers. (tt, (tt, (tt, (tt, (tt, (tt, (tt, tt)))))))
+returns-clause-others c = λ live biggest s owner root field numbers text. (tt, (tt, (tt, (tt, (tt, (tt, (tt, (tt, tt))))))))
 
 pub returns-clause-others_bounded : goal.returns-clause-others_bounded
-returns-clause-others_bounded c = λ live biggest p owner root field numbers. ((tt, tt), ((tt, tt), ((tt, tt), ((tt, tt), ((tt, tt), ((tt, tt), ((tt, tt), tt)))))))
+returns-clause-others_bounded c = λ live biggest p owner root field numbers text. ((tt, tt), ((tt, tt), ((tt, tt), ((tt, tt), ((tt, tt), ((tt, tt), ((tt, tt), ((tt, tt), tt))))))))
