@@ -4,5 +4,6 @@ mod cycle;
 mod giving;
 mod heap;
 mod raw_objects;
+mod resizing;
 mod runs;
 mod schedules;
