@@ -76,11 +76,11 @@ config_at pace = record queue_config { log_limit = pace.log_limit }
 pace-queue : (pace : Pace) → KeepsUp 2218 1000 4 8 pace → IsLowest 2218 1000 4 8 pace → AsksForLog 4 pace → KeepsUp 2218 1000 4 8 (paced_by 601 4 8) → pace ≡ paced_by 601 4 8
 pace-queue pace up lowest asks own =
     let most : pace.mark ≤ 609 = lowest (paced_by 601 4 8) own in
-    let enough = up.enough in
-    let room = up.room in
+    let enough = up.paces.enough in
+    let room = up.paces.room in
     let mark : pace.mark ≡ 609 = omega (arith, most, enough, room) in
     let log : pace.log_limit ≡ 603 = asks.log_limit ∙ ap (λ (m : ℕ). min (m - 8 + 2) 1048576) mark in
-    λ k. record { mark = mark k; store_units = up.store_units k; log_limit = log k }
+    λ k. record { mark = mark k; store_units = up.paces.store_units k; log_limit = log k }
 
 -- So a heap that is made so is the queue's, whatever pace that is, and is led to where its calls lead.
 module _ (own : KeepsUp 2218 1000 4 8 (paced_by 601 4 8)) (rounds : ℕ) where
