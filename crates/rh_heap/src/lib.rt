@@ -35,6 +35,6 @@ pub use rh_layout::{
     Reply, RootId, Value,
 };
 pub use rh_pace::{
-    DEFAULT_PACE_RATIO, Did, EpochsSpent, MIN_PACE_RATIO, Pace, PaceError, PacedHeap, Sizes,
+    DEFAULT_PACE_RATIO, Did, EpochsSpent, MIN_PACE_RATIO, Pace, PaceError, PacedHeap, Seen, Sizes,
     SizesError, laws,
 };

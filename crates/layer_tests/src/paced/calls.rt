@@ -4,7 +4,7 @@ use crate::commands::{drop_root, root, store};
 use crate::expectations::{Row, expect_equal};
 use rh_core::{Config, Flipped};
 use rh_layout::{Command, Operand, Refusal, Reply, RootId, Value};
-use rh_pace::{Did, Pace, PacedHeap};
+use rh_pace::{Did, Pace, PacedHeap, Seen};
 use std::alloc::Allocator;
 use std::process::Abort;
 
@@ -166,6 +166,11 @@ fn each_call_and_what_it_did(rt: HostRuntime) {
     let stat = heap.stat();
     expect_equal(&rt, (stat.used, stat.free, stat.flips), (30, 2, 1));
     expect_equal(&rt, heap.heap().epoch(), 2);
+    let seen = Seen {
+        biggest: 13,
+        reached: 17,
+    };
+    expect_equal(&rt, heap.seen(), seen);
 }
 
 /// The words of the object that the root names, by each reader.
