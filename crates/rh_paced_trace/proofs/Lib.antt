@@ -5,3 +5,4 @@ pub mod Fillings
 pub mod TraceLines
 pub mod Epochs
 pub mod Programs
+pub mod WithinBounds

@@ -1,3 +1,4 @@
 pub mod Lines
 pub mod Pacing
 pub mod Run
+pub mod Worked

@@ -1,10 +1,12 @@
 //! Laws of the definitions alone. Each function does nothing: its contract is the law.
 
-ghost use Rattle.std.specs.Prelude.{◌≡◌, ◌↔◌, ◌⊎◌, ◌+◌, ◌≤◌, ℕ, List, [], length, map, min, take, count_by, slice_get, false, Some, None, Ok, Err};
+ghost use Rattle.std.specs.Prelude.{◌≡◌, ◌↔◌, ◌⊎◌, ◌+◌, ◌*◌, ◌^◌, ◌<◌, ◌≤◌, ◌++◌, ℕ, Option, List, [], length, map, min, take, count_by, slice_get, false, Some, None, Ok, Err};
+ghost use Rattle.std.specs.List.{flat_map};
 ghost use Rattle.rh_layout.specs.declared.command.Command.{Command as CommandOf};
 ghost use Rattle.rh_layout.specs.declared.command.RootId.{RootId};
 ghost use Rattle.rh_layout.specs.declared.shape.Shape.{Shape};
 ghost use Rattle.rh_layout.specs.Command.{made_by};
+ghost use Rattle.rh_model.specs.Plain.{empty_plain};
 ghost use Rattle.rh_mutator.specs.Config.{fault_of};
 ghost use Rattle.rh_core.specs.runs.Programs.{AreUnlimited};
 ghost use Rattle.rh_syntax.specs.declared.fault.Kind.TheVariants.{Word};
@@ -13,15 +15,20 @@ ghost use Rattle.rh_syntax.specs.declared.request.Request.{Request as RequestOf}
 ghost use Rattle.rh_syntax.specs.Reading.{fault_at};
 ghost use Rattle.rh_syntax.specs.Spelling.{Script};
 ghost use Rattle.rh_trace.specs.Events.{is_command};
+ghost use Rattle.rh_trace.specs.Answers.{answer_line, total_line};
 ghost use Rattle.rh_trace.specs.Run.{config_of};
 ghost use Rattle.rh_pace.specs.declared.errors.PaceError.{PaceError as PaceErrorOf};
 ghost use Rattle.rh_pace.specs.declared.pace.Pace.{Pace as PaceOf};
+ghost use Rattle.rh_pace.specs.Pace.{KeepsUp, lag_of, words_left};
 ghost use Rattle.rh_pace.specs.InTime.{paced_after, paced_replies};
 ghost use Rattle.rh_pace.specs.Paced.{PacedState};
+ghost use Rattle.rh_pace.specs.PlainBounds.{AreBounded};
+ghost use Rattle.rh_pace.specs.PlainReplies.{plain_replies};
 ghost use Rattle.rh_pace.specs.Programs.{paced_answers};
 ghost use Rattle.rh_paced_trace.specs.Lines.{AreCommands, Commands, IsFirstOther, biggest_of, commands_in, other_fault};
-ghost use Rattle.rh_paced_trace.specs.Pacing.{IsPaceOf};
-ghost use Rattle.rh_paced_trace.specs.Run.{new_run, sum_of, summary_to};
+ghost use Rattle.rh_paced_trace.specs.Pacing.{IsPaceOf, pace_at};
+ghost use Rattle.rh_paced_trace.specs.Run.{IsRun, new_run, sum_of, summary_to, text_of};
+ghost use Rattle.rh_paced_trace.specs.Worked.{queue_script};
 
 use rh_core::laws::cycles::{
     a_cycle_begins_with_nothing_placed, a_flip_ends_the_cycle,
@@ -36,6 +43,9 @@ use rh_core::laws::runs::{
     every_event_keeps_a_heap_well_formed,
 };
 use rh_core::laws::{a_command_leaves_the_cycle, heaps_answer_as_plain_heaps};
+use rh_pace::laws::no_limits::within_its_bounds_a_program_meets_no_limit;
+use rh_pace::laws::worked::a_queue_in_45_percent_of_the_space_has_room;
+use rh_syntax::laws::what_is_spelled_is_read;
 use std::alloc::Global;
 
 /// The commands of a trace are those of its lines that are commands, in order: each stands after as
@@ -141,4 +151,58 @@ pub fn the_pace_is_seen_in_refusals_by_a_limit_alone()
     an_event_answers_as_the_plain_heap::<Global>();
     every_event_keeps_a_heap_well_formed::<Global>();
     what_collectors_do_adds_up::<Global>();
+}
+
+/// Within its bounds a trace meets no limit: no line is refused for room, and what is printed is
+/// what a heap answers that never moves its objects and never fills.
+///
+/// The bounds are told of the plain heap, which begins empty. No line makes an object of more than
+/// the biggest words there, and after none are more words reached from the roots than may live. The
+/// pace keeps up with these words, and the first line's log keeps more entries than the lag.
+///
+/// - `run`: of each run of an input, at a mark or by its sizes. An input has few enough lines.
+/// - `by_sizes`: of a run without a mark, whose pace keeps up with the words that twice its mark
+///   leaves. Its biggest object is the largest that a line allocates.
+/// - `commands`: of a trace as it stands, with fewer commands than there are epochs.
+/// - `worked`: a queue that fills 45 in 100 words of its space, at mark 609.
+pub fn within_its_bounds_a_trace_meets_no_limit()
+    ensures commands { (script : Script) → fault_of (config_of script.header) ≡ None
+        → (live biggest : ℕ) (pace : PaceOf)
+        → KeepsUp script.header.words live biggest script.header.ratio pace
+        → lag_of pace biggest < script.header.log
+        → AreBounded live biggest (empty_plain script.header.owners script.header.slots)
+        (commands_in script.requests)
+        → length (commands_in script.requests) < 2 ^ 62
+        → AreUnlimited (paced_replies (new_run script pace) (commands_in script.requests))
+        × (text_of script pace ≡ flat_map answer_line (plain_replies
+        (empty_plain script.header.owners script.header.slots) (commands_in script.requests))
+        ++ total_line (sum_of script pace)) }
+    ensures run { (mark : Option ℕ) (input : List ℕ) (script : Script) (pace : PaceOf)
+        → IsRun mark input script pace
+        → (live biggest : ℕ) → KeepsUp script.header.words live biggest script.header.ratio pace
+        → lag_of pace biggest < script.header.log
+        → AreBounded live biggest (empty_plain script.header.owners script.header.slots)
+        (commands_in script.requests)
+        → AreUnlimited (paced_replies (new_run script pace) (commands_in script.requests))
+        × (text_of script pace ≡ flat_map answer_line (plain_replies
+        (empty_plain script.header.owners script.header.slots) (commands_in script.requests))
+        ++ total_line (sum_of script pace)) }
+    ensures by_sizes { (input : List ℕ) (script : Script) (pace : PaceOf)
+        → IsRun None input script pace
+        → lag_of pace (biggest_of (commands_in script.requests)) < script.header.log
+        → AreBounded (words_left script.header.words pace)
+        (biggest_of (commands_in script.requests))
+        (empty_plain script.header.owners script.header.slots) (commands_in script.requests)
+        → AreUnlimited (paced_replies (new_run script pace) (commands_in script.requests))
+        × (text_of script pace ≡ flat_map answer_line (plain_replies
+        (empty_plain script.header.owners script.header.slots) (commands_in script.requests))
+        ++ total_line (sum_of script pace)) }
+    ensures worked { (rounds : ℕ) → rounds < 2 ^ 59
+        → AreUnlimited (paced_replies
+        (new_run (queue_script rounds) (pace_at 609 (queue_script rounds).header))
+        (commands_in (queue_script rounds).requests)) }
+{
+    within_its_bounds_a_program_meets_no_limit::<Global>();
+    a_queue_in_45_percent_of_the_space_has_room::<Global>();
+    what_is_spelled_is_read();
 }
