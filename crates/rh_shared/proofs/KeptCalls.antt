@@ -1,7 +1,7 @@
 -- Calls of what lies under the lock: what they make of it, and that the history stays legal.
 use Rattle.std.proofs.Common.{◌≡◌, ℕ, ◌<◌, ◌≤◌, ◌↔◌, Bool, true, false, Some, None, Result, Ok, Err, is_ok, length, inl, inr, refl, sym, ap, subst, ◌∙◌, arith}
 use Rattle.std.proofs.lemmas.Bool.{le-ltb, lt-ltb, ltb-true, ltb-false}
-use Rattle.std.specs.Prelude.{IsTrue, nat_lt}
+use Rattle.std.specs.Prelude.{IsTrue, nat_lt, if◌then◌else◌}
 use Rattle.rh_layout.specs.Refusal.{is_limit}
 use Rattle.rh_layout.specs.declared.command.Command.{Command}
 use Rattle.rh_layout.specs.declared.command.Reply.{Reply}
@@ -28,7 +28,7 @@ pub record HistoryLaws : Type 0 where
   pub replayed : (h : HistoryState) (call : Call) → replay (with_call h call) ≡ (step (replay h) call.owner call.command).0
 
 -- an answer that isn't a limit's is the plain heap's
-same_answer : (answer plain : Result Reply Refusal) → AnswersAs answer plain → is_limit_answer answer ≡ false → answer ≡ plain
+pub same_answer : (answer plain : Result Reply Refusal) → AnswersAs answer plain → is_limit_answer answer ≡ false → answer ≡ plain
 same_answer answer plain (inl same) kept = same.1
 same_answer answer plain (inr limited) kept = cc (limited.0, kept)
 
@@ -95,20 +95,28 @@ full_refusal-full k full = rw (le-ltb (length k.recorder.history.calls) k.record
 pub full_refusal-room : {A : Type 0} (k : KeptState A) → length k.recorder.history.calls < k.recorder.limit → full_refusal k ≡ None
 full_refusal-room k room = rw (lt-ltb (length k.recorder.history.calls) k.recorder.limit room) refl
 
+-- no call is refused before it comes to the heap but for a history that is full
+pub full_refusal-kind : {A : Type 0} (k : KeptState A) (e : CallError) → full_refusal k ≡ Some e → e ≡ call_errors.TraceFull
+full_refusal-kind k e is = by_test (nat_lt (length k.recorder.history.calls) k.recorder.limit) is
+  where
+    by_test : (b : Bool) → (if b then None else Some call_errors.TraceFull) ≡ Some e → e ≡ call_errors.TraceFull
+    by_test true is = cc is
+    by_test false is = cc is
+
 -- The four ends of a call.
 
-kept_call-full : {A : Type 0} (met : Met) (k : KeptState A) (owner : ℕ) (command : Command) → full_refusal k ≡ Some call_errors.TraceFull
+pub kept_call-full : {A : Type 0} (met : Met) (k : KeptState A) (owner : ℕ) (command : Command) → full_refusal k ≡ Some call_errors.TraceFull
     → kept_call met k owner command ≡ (k, Err call_errors.TraceFull)
 unfolding kept_call
 kept_call-full met k owner command full = rw full refl
 
-kept_call-accepted : {A : Type 0} (met : Met) (k : KeptState A) (owner : ℕ) (command : Command) (reply : Reply) → full_refusal k ≡ None
+pub kept_call-accepted : {A : Type 0} (met : Met) (k : KeptState A) (owner : ℕ) (command : Command) (reply : Reply) → full_refusal k ≡ None
     → (heap_step k.collector.heap owner command).1 ≡ Ok reply
     → kept_call met k owner command ≡ (with_noted (kept_increment met (with_command k owner command)).0 owner command (Ok reply), Ok reply)
 unfolding kept_call
 kept_call-accepted met k owner command reply room answer = rw (room, answer) refl
 
-kept_call-refused : {A : Type 0} (met : Met) (k : KeptState A) (owner : ℕ) (command : Command) (refusal : Refusal) → full_refusal k ≡ None
+pub kept_call-refused : {A : Type 0} (met : Met) (k : KeptState A) (owner : ℕ) (command : Command) (refusal : Refusal) → full_refusal k ≡ None
     → (heap_step k.collector.heap owner command).1 ≡ Err refusal
     → kept_call met k owner command ≡ (refused_where (is_limit refusal) (with_command k owner command) owner command refusal, Err (call_errors.Heap refusal))
 unfolding kept_call

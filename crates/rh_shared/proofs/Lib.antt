@@ -8,3 +8,4 @@ pub mod CallPairs
 pub mod OneReason
 pub mod Partings
 pub mod NewKept
+pub mod ComingAnswers

@@ -1,3 +1,4 @@
 pub mod Start
 pub mod Kept
 pub mod Shares
+pub mod Answers

@@ -1,22 +1,32 @@
 //! Laws of calls, of new mutators and of closing. Each function does nothing: its contract is the
 //! law.
 
-ghost use Rattle.std.specs.Prelude.{◌≡◌, ℕ, ◌<◌, ◌++◌, true, false, List, length, Ok, Err};
+ghost use Rattle.std.specs.Prelude.{◌≡◌, ℕ, ◌+◌, ◌<◌, ◌++◌, true, false, List, length, Some, Result, Ok, Err};
+ghost use Rattle.rh_layout.specs.Command.{made_by};
 ghost use Rattle.rh_layout.specs.Refusal.{is_limit};
 ghost use Rattle.rh_layout.specs.declared.command.Command.{Command};
 ghost use Rattle.rh_layout.specs.declared.command.Reply.{Reply};
+ghost use Rattle.rh_layout.specs.declared.command.RootId.{RootId};
 ghost use Rattle.rh_layout.specs.declared.refusal.Refusal.{Refusal};
+ghost use Rattle.rh_layout.specs.declared.refusal.Refusal.TheVariants.{LogFull, NumbersSpent, SpaceFull};
+ghost use Rattle.rh_layout.specs.declared.shape.Shape.{Shape};
+ghost use Rattle.rh_mutator.specs.Commands.{IsStoring};
 ghost use Rattle.rh_core.specs.Commands.{heap_step};
 ghost use Rattle.rh_replay.specs.declared.call.Call.{Call};
 ghost use Rattle.rh_shared.specs.declared.closing.CloseError.{CloseError as CloseErrorOf};
 ghost use Rattle.rh_shared.specs.declared.closing.CloseError.TheVariants as close_errors;
+ghost use Rattle.rh_shared.specs.declared.kept.CallError.{CallError as CallErrorOf};
 ghost use Rattle.rh_shared.specs.declared.kept.CallError.TheVariants as call_errors;
+ghost use Rattle.rh_shared.specs.Answers.{AnswersUnderLock, ComesAfterHistory};
 ghost use Rattle.rh_shared.specs.Kept.{CallMeets, KeptState, kept_call, with_noted};
 ghost use Rattle.rh_shared.specs.Shares.{HasShares, IsOneEach, MutatorState, PartAt, WhyNotClosed, calls_of, first_mutators, share_of, with_answer};
 ghost use Rattle.rh_increment.specs.Collector.{with_heap};
 ghost use Rattle.rh_increment.specs.Increment.{increment, Meets, Met};
 
-use rh_core::laws::refused_commands_change_nothing;
+use rh_core::laws::{
+    heaps_answer_as_plain_heaps, limits_refuse_exactly_where_they_are_met,
+    refused_commands_change_nothing,
+};
 use std::alloc::Allocator;
 
 /// A call of a full history changes nothing. Else a call that the heap accepts is followed by one
@@ -57,6 +67,32 @@ pub fn a_call_is_noted_unless_a_limit_refused_it<A: Allocator + Copy>()
 {
     refused_commands_change_nothing();
 }
+
+/// An answer that comes from something that may lie under a lock comes after a legal history.
+pub fn an_answer_comes_after_a_legal_history<A: Allocator + Copy>()
+    ensures { (owner : ℕ) (command : Command) (answer : Result Reply CallErrorOf)
+        → AnswersUnderLock A owner command answer → ComesAfterHistory owner command answer }
+{
+    heaps_answer_as_plain_heaps();
+    limits_refuse_exactly_where_they_are_met();
+}
+
+/// What the answers of a shared heap say of the commands alone, before the heap is closed.
+///
+/// - `space`: only a command that makes an object is refused for space. It is told the words that
+///   the object needs, and fewer that are free.
+/// - `log`: only a store is refused for the log, or for numbers (`numbers`).
+pub fn limits_refuse_only_what_they_can()
+    ensures space { (owner need free : ℕ) (command : Command)
+        → ComesAfterHistory owner command (Err (call_errors.Heap (SpaceFull need free)))
+        → (dst : RootId) × (shape : Shape) × (made_by command ≡ Some (dst, shape))
+        × (need ≡ 2 + shape.fields) × (free < need) }
+    ensures log { (owner : ℕ) (command : Command)
+        → ComesAfterHistory owner command (Err (call_errors.Heap LogFull)) → IsStoring command }
+    ensures numbers { (owner : ℕ) (command : Command)
+        → ComesAfterHistory owner command (Err (call_errors.Heap NumbersSpent))
+        → IsStoring command }
+{}
 
 /// A mutator's share grows as the history does: by each call of its owner that is noted, with the
 /// answer that is noted, and by no other.

@@ -3,6 +3,7 @@
 ghost use Rattle.std.specs.Prelude.{◌≡◌, ◌<◌, ◌≤◌, IfOk, length, Err};
 ghost use Rattle.rh_shared.specs.Start.{HasRoots};
 ghost use Rattle.rh_shared.specs.Shares.{first_mutators, with_answer};
+ghost use Rattle.rh_shared.specs.Answers.{AnswersUnderLock, ComesAfterHistory};
 
 use crate::kept::{CallError, is_full, note};
 use crate::shared_heap::SharedHeap;
@@ -49,6 +50,11 @@ impl<A: Allocator + Copy> Mutator<A> {
     /// a reply or by a refusal that isn't for a limit, is added to its share. Takes no memory. It
     /// may wait for the lock.
     ///
+    /// Unless its share is full, the answer is that of `Kept::call` in something that may lie under
+    /// the lock. So it comes after some legal history: it is what the heap that never moves answers
+    /// there; or that heap accepts the command, and a heap that stands for it is at the limit that
+    /// refuses it.
+    ///
     /// # Errors
     ///
     /// `TraceFull` where its share has as many calls as the history may have, and the lock isn't
@@ -62,6 +68,10 @@ impl<A: Allocator + Copy> Mutator<A> {
         ensures share { self.new ≡ with_answer self.old command result }
         ensures full { length self.old.share.history.calls ≡ self.old.share.limit
             → result ≡ Err CallError.TraceFull }
+        ensures lock { length self.old.share.history.calls < self.old.share.limit
+            → AnswersUnderLock A self.old.owner command result }
+        ensures history { length self.old.share.history.calls < self.old.share.limit
+            → ComesAfterHistory self.old.owner command result }
     {
         if is_full(&self.share) {
             return Err(CallError::TraceFull);
