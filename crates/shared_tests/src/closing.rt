@@ -219,6 +219,11 @@ const CASES: &[Case] = &[
         ),
         ..QUIET
     },
+    // With as many words free as the mark, none does.
+    Case {
+        increments: &[NOTHING, NOTHING],
+        ..QUIET
+    },
     Case {
         shared: SharedConfig {
             history: 2,
@@ -344,5 +349,5 @@ fn heaps_are_closed(rt: HostRuntime) {
         expect_equal(&rt, play(&rt, case), case.told);
         played = played.saturating_add(1);
     }
-    expect_equal(&rt, played, 10);
+    expect_equal(&rt, played, 11);
 }

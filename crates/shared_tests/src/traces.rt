@@ -9,6 +9,7 @@ use rh_shared_trace::{RunOptions, SharedRunFault, run_shared};
 use rh_syntax::{Kind, TraceFault};
 use std::process::Abort;
 use std::sync::Wait;
+use std::test::Fail;
 use std::thread::Threads;
 
 /// No replicators, and no idle words.
@@ -34,9 +35,15 @@ const IDLE: RunOptions = RunOptions {
     idle: 1,
 };
 
-/// No replicators, and as many idle words in each increment as end a cycle of one small object.
+/// No replicators, and as many idle words in each increment as end a cycle of one small object; and
+/// the same with one replicator.
 const IDLE_ALONE: RunOptions = RunOptions {
     replicators: 0,
+    idle: 40,
+};
+
+const IDLE_ONE: RunOptions = RunOptions {
+    replicators: 1,
     idle: 40,
 };
 
@@ -225,6 +232,56 @@ fn histories_of_two_owners(rt: HostRuntime) {
         played = played.saturating_add(again);
     }
     expect_equal(&rt, played, 600);
+}
+
+/// How many objects a trace of one owner makes, each in place of the one before it, and how many
+/// comparisons follow each. Its space has room for eight of them, so they fill it twice over. There
+/// are fewer lines than it takes to end patience.
+const OBJECTS: u32 = 20;
+
+const COMPARISONS: u32 = 45;
+
+/// That trace.
+fn replaced_often<R: AllocGlobal>(rt: &R) -> Result<Vec<u8>, Fail> {
+    let mut text = Vec::new(rt.alloc());
+    text.extend_from_slice(b"heap 64 8 8 1 1\n")?;
+    for _ in 0..OBJECTS {
+        text.extend_from_slice(b"0 alloc 0.0 6\n")?;
+        for _ in 0..COMPARISONS {
+            text.extend_from_slice(b"0 same 0.0 0.0\n")?;
+        }
+    }
+    Ok(text)
+}
+
+/// How many calls stand in the history of such a trace.
+fn calls_in<R: AllocGlobal + Abort + Threads + Wait + Sync>(
+    rt: &R,
+    options: RunOptions,
+    mut text: &[u8],
+) -> usize {
+    let mut written = Vec::new(rt.alloc());
+    let outcome = run_shared(rt, rt.alloc(), &mut text, &mut written, options);
+    expect_equal(rt, outcome, Ok(()));
+    let history = read_history(rt.alloc(), &written).expect(rt, "a history");
+    history.calls().len()
+}
+
+#[test]
+fn replicators_of_a_run_step(rt: HostRuntime) -> Result<(), Fail> {
+    let text = replaced_often(&rt)?;
+    // Pieces are folded under the lock: each object is made.
+    expect_equal(&rt, calls_in(&rt, IDLE_ALONE, &text), 920);
+    let mut collected: u32 = 0;
+    for row in 0..200usize {
+        let rt = Row { rt: &rt, row };
+        // Without a step no cycle ends, and all objects after the eighth are missing.
+        if calls_in(&rt, IDLE_ONE, &text) > 908 {
+            collected = collected.saturating_add(1);
+        }
+    }
+    assert!(rt; collected > 0, "{collected}");
+    Ok(())
 }
 
 /// Refuses the nth allocation of a run of two owners, whose cycle begins where the fifth of their
