@@ -24,8 +24,13 @@ fn trace<R: AllocGlobal + Abort>(rt: &R, numbers: &mut Numbers) -> Result<Vec<u8
 }
 
 /// Plays a trace in threads: the heap closes with the calls of all, and the history that it printed
-/// is legal. Answers how many words the objects take that were made in it.
-fn play<R: AllocGlobal + Abort + Threads + Wait + Sync>(rt: &R, text: &[u8], idle: u32) -> u64 {
+/// is legal. Answers how many words the objects take that were made in it, and how many of these
+/// objects are raw.
+fn play<R: AllocGlobal + Abort + Threads + Wait + Sync>(
+    rt: &R,
+    text: &[u8],
+    idle: u32,
+) -> (u64, u64) {
     let options = RunOptions {
         replicators: 4,
         idle,
@@ -39,30 +44,34 @@ fn play<R: AllocGlobal + Abort + Threads + Wait + Sync>(rt: &R, text: &[u8], idl
         panic!(rt; "the history isn't legal");
     };
     expect_equal(rt, calls as usize, history.calls().len());
-    let mut words: u64 = 0;
+    let (mut words, mut raws): (u64, u64) = (0, 0);
     for call in history.calls() {
         if let (Some((_, shape)), Ok(_)) = (call.command.made(), call.answer) {
             words = words.saturating_add(2).saturating_add(shape.fields.into());
+            raws = raws.saturating_add(shape.raw.into());
         }
     }
-    words
+    (words, raws)
 }
 
 #[test]
 fn four_mutators_and_four_replicators(rt: HostRuntime) -> Result<(), Fail> {
     let mut numbers = Numbers { state: 3 };
-    let (mut runs, mut collected): (u64, u64) = (0, 0);
+    let (mut runs, mut collected, mut with_raws): (u64, u64, u64) = (0, 0, 0);
     for row in 0..100usize {
         let rt = Row { rt: &rt, row };
         let text = trace(&rt, &mut numbers)?;
-        let words = play(&rt, &text, numbers.below(4));
+        let (words, raws) = play(&rt, &text, numbers.below(4));
         // More than the space has: what isn't reached was collected.
         if words > 192 {
             collected = collected.saturating_add(1);
         }
+        if raws > 0 {
+            with_raws = with_raws.saturating_add(1);
+        }
         runs = runs.saturating_add(1);
     }
     expect_equal(&rt, runs, 100);
-    expect_each(&rt, &[collected], 10);
+    expect_each(&rt, &[collected, with_raws], 10);
     Ok(())
 }
