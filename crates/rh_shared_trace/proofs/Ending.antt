@@ -16,7 +16,7 @@ pub ends-where_written : (options : RunOptions) (input : List ℕ) (script : Scr
     → IsSharedRun options input script → EndsWriting script h result old new → Ends options input result old new
 ends-where_written options input script h (Ok done) old new run written = (script, h, run, written.0, written.1)
 ends-where_written options input script h (Err faults.Write) old new run written = (script, h, run, written.0, written.1)
-ends-where_written options input script h (Err faults.HistoryDiffers) old new run same = (script, run, same)
+ends-where_written options input script h (Err faults.HistoryDiffers) old new run differs = (script, run, differs.1)
 ends-where_written options input script h (Err faults.OutOfMemory) old new run same = same
 ends-where_written options input script h (Err faults.Read) old new run none = absurd none
 ends-where_written options input script h (Err faults.Long) old new run none = absurd none

@@ -5,3 +5,4 @@ pub mod OneOwner
 pub mod LeftOut
 pub mod WhatStands
 pub mod Takes
+pub mod Matched

@@ -68,12 +68,13 @@ Ends options input (Err faults.Read) old new = Keeps old new
 Ends options input (Err faults.OutOfMemory) old new = Keeps old new
 
 -- what comes of writing a history: it is of the trace and its text was written; or a write failed,
--- with a prefix of the text written; or nothing was
+-- with a prefix of the text written; or nothing was, where the history isn't of the trace or memory
+-- was refused
 abbrev pub EndsWriting : Script → HistoryState → Result (Unit {0}) SharedRunFault
     → Option (List ℕ) → Option (List ℕ) → Type 0
 EndsWriting script h (Ok done) old new = IsHistoryOf script h × Appends old new (spelling h)
 EndsWriting script h (Err faults.Write) old new =
     IsHistoryOf script h × AppendsLess old new (spelling h)
-EndsWriting script h (Err faults.HistoryDiffers) old new = Keeps old new
+EndsWriting script h (Err faults.HistoryDiffers) old new = (¬ IsHistoryOf script h) × Keeps old new
 EndsWriting script h (Err faults.OutOfMemory) old new = Keeps old new
 EndsWriting script h (Err other) old new = ⊥

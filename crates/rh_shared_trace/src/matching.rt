@@ -1,6 +1,6 @@
 //! Whether a history is of a trace.
 
-ghost use Rattle.std.specs.Prelude.{◌≡◌, ◌<◌, [], ◌∷◌, Bool, List, IsTrue, IfSome};
+ghost use Rattle.std.specs.Prelude.{◌≡◌, ◌↔◌, ◌<◌, [], ◌∷◌, Bool, List, IsTrue, IfSome, IfNone};
 ghost use Rattle.rh_replay.specs.declared.call.Call.{Call as CallOf};
 ghost use Rattle.rh_shared.specs.Shares.{calls_of};
 ghost use Rattle.rh_shared_trace.specs.Matching.{AreCallsFor, AreOfTrace, HaveOwnersBelow, MayLeaveOut, lines_of, may_be_limited};
@@ -16,7 +16,7 @@ use std::alloc::Allocator;
 /// A line may be left out where a limit that the trace may come to may have refused it, and where
 /// the history is full any line after the owner's last call.
 pub fn are_of_trace<A: Allocator>(is_full: bool, trace: &Trace<A>, calls: &[Call]) -> bool
-    ensures { IsTrue result → AreOfTrace is_full trace.now calls.now }
+    ensures { IsTrue result ↔ AreOfTrace is_full trace.now calls.now }
 {
     let header = trace.header();
     let owners = header.owners;
@@ -34,7 +34,7 @@ pub fn are_of_trace<A: Allocator>(is_full: bool, trace: &Trace<A>, calls: &[Call
 
 /// Whether each call is of one of so many owners.
 fn have_owners_below(owners: u32, calls: &[Call]) -> bool
-    ensures { IsTrue result → HaveOwnersBelow owners calls.now }
+    ensures { IsTrue result ↔ HaveOwnersBelow owners calls.now }
 {
     for call in calls {
         if call.owner >= owners {
@@ -53,7 +53,7 @@ fn are_of_lines(
     calls: &[Call],
 ) -> bool
     ensures { IsTrue result
-        → AreCallsFor limits is_full (lines_of owner requests.now) (calls_of owner calls.now) }
+        ↔ AreCallsFor limits is_full (lines_of owner requests.now) (calls_of owner calls.now) }
 {
     let mut rest = requests;
     for call in calls {
@@ -75,9 +75,12 @@ fn after_line<'a>(
     requests: &'a [Request],
     command: &Command,
 ) -> Option<&'a [Request]>
-    ensures { IfSome result (λ after. (full : Bool) (call : CallOf) (calls : List CallOf)
+    ensures found { IfSome result (λ after. (full : Bool) (call : CallOf) (calls : List CallOf)
         → call.command ≡ command.now → AreCallsFor limits full (lines_of owner after.now) calls
-        → AreCallsFor limits full (lines_of owner requests.now) (call ∷ calls)) }
+        ↔ AreCallsFor limits full (lines_of owner requests.now) (call ∷ calls)) }
+    ensures none { IfNone result ((full : Bool) (call : CallOf) (calls : List CallOf)
+        → call.command ≡ command.now
+        → ¬ AreCallsFor limits full (lines_of owner requests.now) (call ∷ calls)) }
 {
     let mut rest = requests;
     while let Some((request, after)) = rest.split_first() {
@@ -102,7 +105,7 @@ fn after_line<'a>(
 
 /// Whether all lines of the owner may be left out.
 fn may_all_be_left_out(limits: TraceLimits, is_full: bool, owner: u32, requests: &[Request]) -> bool
-    ensures { IsTrue result → AreCallsFor limits is_full (lines_of owner requests.now) [] }
+    ensures { IsTrue result ↔ AreCallsFor limits is_full (lines_of owner requests.now) [] }
 {
     for request in requests {
         if let Request::Command {
@@ -120,7 +123,7 @@ fn may_all_be_left_out(limits: TraceLimits, is_full: bool, owner: u32, requests:
 
 /// Whether a line with this command may be left out after the owner's last call.
 fn may_leave_out(limits: TraceLimits, is_full: bool, command: &Command) -> bool
-    ensures { IsTrue result → MayLeaveOut limits is_full command.now }
+    ensures { IsTrue result ↔ MayLeaveOut limits is_full command.now }
 {
     is_full || may_be_limited(limits, command)
 }
@@ -139,7 +142,7 @@ fn may_be_limited(limits: TraceLimits, command: &Command) -> bool
 
 /// Whether two commands are one.
 fn is_same_command(one: &Command, other: &Command) -> bool
-    ensures { IsTrue result → (one.now ≡ other.now) }
+    ensures { IsTrue result ↔ (one.now ≡ other.now) }
 {
     *one == *other
 }

@@ -13,7 +13,8 @@ use rh_text::{IoLog, Write};
 use std::alloc::Allocator;
 use std::io;
 
-/// Writes the text of a history, where it is legal and of the trace, and else nothing.
+/// Writes the text of a history, where it is legal and of the trace, and else nothing. It answers
+/// `HistoryDiffers` only where it isn't.
 pub fn write_checked<A: Allocator + Copy, W: io::Write>(
     alloc: A,
     trace: &Trace<A>,
