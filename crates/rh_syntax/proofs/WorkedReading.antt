@@ -12,11 +12,11 @@ use Rattle.rh_syntax.specs.declared.fault.Kind.{Kind}
 use Rattle.rh_syntax.specs.declared.fault.Kind.TheVariants.{Empty, Cut, Form, Header, Word, Number, Root, Tray}
 use Rattle.rh_syntax.specs.declared.fault.TraceFault.{TraceFault}
 use Rattle.rh_syntax.specs.declared.request.Request.{Request}
-use Rattle.rh_syntax.specs.declared.request.Request.TheVariants.{Command, Begin, Shade, Deal, Give, Join, Flip, Recall, Abandon, Idle, Trays, Stat, Dump}
+use Rattle.rh_syntax.specs.declared.request.Request.TheVariants.{Command, Begin, Shade, Deal, Give, Join, Flip, Recall, Abandon, Idle, Resize, Trays, Stat, Dump}
 use Rattle.rh_syntax.specs.Spelling.{Script}
 use Rattle.rh_layout.specs.declared.command.RootId.{RootId}
 use Rattle.rh_layout.specs.declared.command.Operand.TheVariants as operands
-use Rattle.rh_syntax.specs.Reading.{operand_or_fault, read_alloc, read_raw, read_load, read_store, read_copy, read_same, read_drop, command_or_fault, kind_or_fault, read_shade, read_deal, read_give, read_join, read_idle, keyword_request, request_of_parts, sizes_of, header_of_parts, checked_parts, request_or_kind, header_or_kind, requests_from, script_or_fault, trace_of}
+use Rattle.rh_syntax.specs.Reading.{operand_or_fault, read_alloc, read_raw, read_load, read_store, read_copy, read_same, read_drop, command_or_fault, kind_or_fault, read_shade, read_deal, read_give, read_join, read_idle, read_resize, listing_request, keyword_request, request_of_parts, sizes_of, header_of_parts, checked_parts, request_or_kind, header_or_kind, requests_from, script_or_fault, trace_of}
 use Rattle.rh_syntax.specs.TrayName.{is_tray_name}
 
 -- so many lines, each ended
@@ -83,6 +83,13 @@ faulty =
     ∷ (codes "idle 4294967296", Number)
     ∷ (codes "1 idle 2", Word)
     ∷ (codes "idles 1", Word)
+    ∷ (codes "resize", Form)
+    ∷ (codes "resize 16 8", Form)
+    ∷ (codes "resize x", Number)
+    ∷ (codes "resize -1", Number)
+    ∷ (codes "resize 4294967296", Number)
+    ∷ (codes "1 resize 16", Word)
+    ∷ (codes "resizes 16", Word)
     ∷ []
 
 -- what a header and a line are read as
@@ -90,18 +97,18 @@ found : List ℕ → Result Script TraceFault
 found line = trace_of (text (header ∷ line ∷ []))
 
 faults : map (λ (row : List ℕ × Kind). found row.0) faulty ≡ map (λ (row : List ℕ × Kind). fault 2 row.1) faulty
-unfolding digits script_or_fault header_or_kind request_or_kind requests_from checked_parts is_formed header_of_parts six_parts sizes_of number_of request_of_parts command_or_fault keyword_request read_shade read_deal read_give read_join read_idle one_part two_parts three_parts kind_or_fault root_of is_tray_name text header fault faulty found
+unfolding digits script_or_fault header_or_kind request_or_kind requests_from checked_parts is_formed header_of_parts six_parts sizes_of number_of request_of_parts command_or_fault keyword_request listing_request read_shade read_deal read_give read_join read_idle read_resize one_part two_parts three_parts kind_or_fault root_of is_tray_name text header fault faulty found
 faults = refl
 
 -- each line of a cycle, with the greatest number and the longest name
 cycle : List (List ℕ)
-cycle = codes "begin" ∷ codes "shade 1.0" ∷ codes "deal copies 4294967295 a" ∷ codes "deal entries 0 b_9" ∷ codes "give abcdefghijklmnop" ∷ codes "join a b_9" ∷ codes "flip" ∷ codes "recall" ∷ codes "abandon" ∷ codes "idle 14" ∷ codes "trays" ∷ codes "stat" ∷ codes "dump" ∷ []
+cycle = codes "begin" ∷ codes "shade 1.0" ∷ codes "deal copies 4294967295 a" ∷ codes "deal entries 0 b_9" ∷ codes "give abcdefghijklmnop" ∷ codes "join a b_9" ∷ codes "flip" ∷ codes "recall" ∷ codes "abandon" ∷ codes "idle 14" ∷ codes "resize 4294967295" ∷ codes "trays" ∷ codes "stat" ∷ codes "dump" ∷ []
 
 cycle_requests : List Request
-cycle_requests = Begin ∷ Shade (record { owner = 1; slot = 0 }) ∷ Deal Copies 4294967295 (codes "a") ∷ Deal Entries 0 (codes "b_9") ∷ Give (codes "abcdefghijklmnop") ∷ Join (codes "a") (codes "b_9") ∷ Flip ∷ Recall ∷ Abandon ∷ Idle 14 ∷ Trays ∷ Stat ∷ Dump ∷ []
+cycle_requests = Begin ∷ Shade (record { owner = 1; slot = 0 }) ∷ Deal Copies 4294967295 (codes "a") ∷ Deal Entries 0 (codes "b_9") ∷ Give (codes "abcdefghijklmnop") ∷ Join (codes "a") (codes "b_9") ∷ Flip ∷ Recall ∷ Abandon ∷ Idle 14 ∷ Resize 4294967295 ∷ Trays ∷ Stat ∷ Dump ∷ []
 
 read : trace_of (text (header ∷ cycle)) ≡ Ok (record { header = record { words = 16; ratio = 8; log = 4; owners = 2; slots = 2 }; requests = cycle_requests })
-unfolding digits script_or_fault header_or_kind request_or_kind requests_from checked_parts is_formed header_of_parts six_parts sizes_of number_of request_of_parts keyword_request read_shade read_deal read_give read_join read_idle one_part two_parts three_parts kind_or_fault root_of is_tray_name text header cycle cycle_requests
+unfolding digits script_or_fault header_or_kind request_or_kind requests_from checked_parts is_formed header_of_parts six_parts sizes_of number_of request_of_parts keyword_request listing_request read_shade read_deal read_give read_join read_idle read_resize one_part two_parts three_parts kind_or_fault root_of is_tray_name text header cycle cycle_requests
 read = refl
 
 -- a root of an owner and a slot

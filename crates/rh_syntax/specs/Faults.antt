@@ -49,6 +49,7 @@ keyword_forms =
     ∷ (codes "recall", keyword ∷ [])
     ∷ (codes "abandon", keyword ∷ [])
     ∷ (codes "idle", keyword ∷ number ∷ [])
+    ∷ (codes "resize", keyword ∷ number ∷ [])
     ∷ (codes "trays", keyword ∷ [])
     ∷ (codes "stat", keyword ∷ [])
     ∷ (codes "dump", keyword ∷ [])

@@ -194,6 +194,21 @@ read_idle args = do
   words ← number_or_fault part
   Ok (requests.Idle words)
 
+-- resize WORDS
+unfoldable pub read_resize : List (List ℕ) → Result Request Kind
+read_resize args = do
+  part ← or_fault (one_part args) Form
+  words ← number_or_fault part
+  Ok (requests.Resize words)
+
+-- the request of a line that asks what is there
+unfoldable pub listing_request : List ℕ → List (List ℕ) → Result Request Kind
+listing_request keyword args =
+    if bytes_eq keyword (codes "trays") then alone args requests.Trays
+    else if bytes_eq keyword (codes "stat") then alone args requests.Stat
+    else if bytes_eq keyword (codes "dump") then alone args requests.Dump
+    else Err Word
+
 -- the request of a line that begins with its keyword
 unfoldable pub keyword_request : List ℕ → List (List ℕ) → Result Request Kind
 keyword_request keyword args =
@@ -206,10 +221,8 @@ keyword_request keyword args =
     else if bytes_eq keyword (codes "recall") then alone args requests.Recall
     else if bytes_eq keyword (codes "abandon") then alone args requests.Abandon
     else if bytes_eq keyword (codes "idle") then read_idle args
-    else if bytes_eq keyword (codes "trays") then alone args requests.Trays
-    else if bytes_eq keyword (codes "stat") then alone args requests.Stat
-    else if bytes_eq keyword (codes "dump") then alone args requests.Dump
-    else Err Word
+    else if bytes_eq keyword (codes "resize") then read_resize args
+    else listing_request keyword args
 
 -- the request of a line after the first: a command where it begins with an owner, and else by its
 -- keyword

@@ -133,6 +133,11 @@ pub enum Line {
         /// How many words.
         words: u32,
     },
+    /// `resize WORDS`: both spaces have so many words from then on.
+    Resize {
+        /// How many words.
+        words: u32,
+    },
     /// `trays`: the trays, each with its name, its epoch and how many entries it has.
     Trays,
     /// `stat`: the numbers of the heap.
@@ -158,6 +163,7 @@ impl Line {
             Request::Recall => Line::Recall,
             Request::Abandon => Line::Abandon,
             Request::Idle { words } => Line::Idle { words },
+            Request::Resize { words } => Line::Resize { words },
             Request::Trays => Line::Trays,
             Request::Stat => Line::Stat,
             Request::Dump => Line::Dump,

@@ -9,7 +9,8 @@ ghost use Rattle.rh_syntax.specs.Spelling.{spell_request, spelling};
 use crate::lines::commands::put_command;
 use crate::lines::header::put_header;
 use crate::lines::keywords::{
-    put_alone, put_deal_line, put_give_line, put_idle_line, put_join_line, put_shade_line,
+    put_alone, put_deal_line, put_give_line, put_idle_line, put_join_line, put_resize_line,
+    put_shade_line,
 };
 use crate::request::Request;
 use crate::trace::Trace;
@@ -32,6 +33,7 @@ fn put_request(text: &mut LineText, request: &Request)
         Request::Recall => put_alone(text, b"recall"),
         Request::Abandon => put_alone(text, b"abandon"),
         Request::Idle { words } => put_idle_line(text, words),
+        Request::Resize { words } => put_resize_line(text, words),
         Request::Trays => put_alone(text, b"trays"),
         Request::Stat => put_alone(text, b"stat"),
         Request::Dump => put_alone(text, b"dump"),

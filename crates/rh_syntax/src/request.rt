@@ -53,6 +53,11 @@ pub enum Request {
         /// How many words.
         words: u32,
     },
+    /// Both spaces have so many words from then on.
+    Resize {
+        /// How many words.
+        words: u32,
+    },
     /// The trays, each with its name, its epoch and how many entries it has.
     Trays,
     /// The numbers of the heap.

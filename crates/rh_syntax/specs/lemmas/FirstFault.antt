@@ -32,7 +32,7 @@ use Rattle.rh_syntax.specs.declared.line as declared
 use Rattle.rh_syntax.specs.declared.request.Request.{Request}
 use Rattle.rh_syntax.specs.declared.request.Request.TheVariants as requests
 use Rattle.rh_syntax.specs.Faults.{Sort, keyword, number, root, operand, copies_or_entries, tray, header_form, command_forms, keyword_forms, lookup, IsNumber, IsRoot, IsInteger, HasDot, IsDigitFirst, each_part, form_faults, BeginsWithOwner, LacksKeyword, form_of, command_part_faults, command_faults, keyword_part_faults, line_part_faults, IsFirstPart, header_part_faults, raw_line_faults, header_faults, line_faults, trace_faults}
-use Rattle.rh_syntax.specs.Reading.{number_or_fault, integer_or_fault, root_or_fault, operand_or_fault, read_alloc, read_raw, read_load, read_store, read_copy, read_same, read_drop, command_or_fault, owned_command, single_command, alone, tray_or_fault, kind_or_fault, read_shade, read_deal, read_give, read_join, read_idle, keyword_request, request_of_parts, sizes_of, header_of_parts, checked_parts, fault_at, request_or_kind, header_or_kind, requests_from, script_or_fault, trace_of}
+use Rattle.rh_syntax.specs.Reading.{number_or_fault, integer_or_fault, root_or_fault, operand_or_fault, read_alloc, read_raw, read_load, read_store, read_copy, read_same, read_drop, command_or_fault, owned_command, single_command, alone, tray_or_fault, kind_or_fault, read_shade, read_deal, read_give, read_join, read_idle, read_resize, listing_request, keyword_request, request_of_parts, sizes_of, header_of_parts, checked_parts, fault_at, request_or_kind, header_or_kind, requests_from, script_or_fault, trace_of}
 use Rattle.rh_syntax.specs.Spelling.{Script, spell_request, spell_header, RequestFits, HeaderFits}
 use Rattle.rh_syntax.specs.TrayName.{tray_name_of, IsTrayName}
 use Rattle.rh_syntax.specs.lemmas.ReadIsSpelled.{request_or_fault-means, header_or_fault-means}
@@ -311,12 +311,16 @@ judges-idle : (word : List ℕ) (args : List (List ℕ)) → Judges (form_faults
 unfolding read_idle
 judges-idle word args = judges-one (keyword ∷ []) (word ∷ []) refl number args _ (λ a. judges-number a _ _ (λ n. judges-end _))
 
+judges-resize : (word : List ℕ) (args : List (List ℕ)) → Judges (form_faults (Some (keyword ∷ number ∷ [])) (word ∷ args)) (read_resize args)
+unfolding read_resize
+judges-resize word args = judges-one (keyword ∷ []) (word ∷ []) refl number args _ (λ a. judges-number a _ _ (λ n. judges-end _))
+
 -- the keyword names no form
 abbrev LacksForm : Option (List Sort) → Type 0
 LacksForm form = form ≡ None
 
 judges-keyword_request : (word : List ℕ) (args : List (List ℕ)) → Judges (keyword_part_faults (word ∷ args)) (keyword_request word args)
-unfolding keyword_request
+unfolding keyword_request listing_request
 judges-keyword_request word args =
     let parts = word ∷ args in
     judges-later Form (parts ≡ []) (word_faults LacksForm parts (lookup word keyword_forms)) (keyword_request word args) (cons_nil word args)
@@ -329,10 +333,11 @@ judges-keyword_request word args =
     (by_keyword LacksForm parts some_none (bytes_eq word (codes "recall")) _ _ _ _ (judges-alone word args requests.Recall)
     (by_keyword LacksForm parts some_none (bytes_eq word (codes "abandon")) _ _ _ _ (judges-alone word args requests.Abandon)
     (by_keyword LacksForm parts some_none (bytes_eq word (codes "idle")) _ _ _ _ (judges-idle word args)
+    (by_keyword LacksForm parts some_none (bytes_eq word (codes "resize")) _ _ _ _ (judges-resize word args)
     (by_keyword LacksForm parts some_none (bytes_eq word (codes "trays")) _ _ _ _ (judges-alone word args requests.Trays)
     (by_keyword LacksForm parts some_none (bytes_eq word (codes "stat")) _ _ _ _ (judges-alone word args requests.Stat)
     (by_keyword LacksForm parts some_none (bytes_eq word (codes "dump")) _ _ _ _ (judges-alone word args requests.Dump)
-    (unknown LacksForm parts refl)))))))))))))
+    (unknown LacksForm parts refl))))))))))))))
 
 -- ---- all lines
 

@@ -35,7 +35,7 @@ use Rattle.rh_syntax.specs.declared.request.Request.{Request}
 use Rattle.rh_syntax.specs.declared.request.Request.TheVariants as requests
 use Rattle.rh_syntax.specs.TrayName.{tray_name_of, IsTrayName}
 use Rattle.rh_syntax.specs.Spelling.{Script, operand_text, kind_text, command_parts, command_text, request_parts, header_parts, spell_request, spell_header, spelling, OperandFits, CommandFits, RequestFits, HeaderFits, IsScript}
-use Rattle.rh_syntax.specs.Reading.{number_or_fault, integer_or_fault, root_or_fault, operand_or_fault, tray_or_fault, kind_or_fault, read_alloc, read_raw, read_load, read_store, read_copy, read_same, read_drop, command_or_fault, owned_command, single_command, alone, read_shade, read_deal, read_give, read_join, read_idle, keyword_request, request_of_parts, sizes_of, header_of_parts, checked_parts, fault_at, request_or_kind, header_or_kind, request_or_fault, header_or_fault, requests_from, script_or_fault, trace_of, Gives}
+use Rattle.rh_syntax.specs.Reading.{number_or_fault, integer_or_fault, root_or_fault, operand_or_fault, tray_or_fault, kind_or_fault, read_alloc, read_raw, read_load, read_store, read_copy, read_same, read_drop, command_or_fault, owned_command, single_command, alone, read_shade, read_deal, read_give, read_join, read_idle, read_resize, listing_request, keyword_request, request_of_parts, sizes_of, header_of_parts, checked_parts, fault_at, request_or_kind, header_or_kind, request_or_fault, header_or_fault, requests_from, script_or_fault, trace_of, Gives}
 use Rattle.rh_syntax.specs.lemmas.LinesInTurn.{number_within}
 use Rattle.rh_syntax.specs.lemmas.TrayNames.{name-from_read}
 
@@ -371,13 +371,24 @@ read_idle-means args request e =
     let whole : codes "idle" ∷ args ≡ request_parts (requests.Idle b.0) = ap (λ (ps : List (List ℕ)). codes "idle" ∷ ps) (args_1 a.0 (decimal b.0) args args_are words_is.0) in
     subst (ReadsRequest (codes "idle" ∷ args)) (ok_is (requests.Idle b.0) request b.2) (whole, words_is.1)
 
+read_resize-means : (args : List (List ℕ)) (request : Request) → read_resize args ≡ Ok request → ReadsRequest (codes "resize" ∷ args) request
+unfolding read_resize
+read_resize-means args request e =
+    let a = bind_ok (or_fault (one_part args) Form) (λ part. number_or_fault part >>= λ n. Ok (requests.Resize n)) request e in
+    let b = bind_ok (number_or_fault a.0) (λ n. Ok (requests.Resize n)) request a.2 in
+    let args_are = one_part-means args a.0 (or_fault_ok (one_part args) Form a.0 a.1) in
+    let words_is = number_or_fault-means a.0 b.0 b.1 in
+    let whole : codes "resize" ∷ args ≡ request_parts (requests.Resize b.0) = ap (λ (ps : List (List ℕ)). codes "resize" ∷ ps) (args_1 a.0 (decimal b.0) args args_are words_is.0) in
+    subst (ReadsRequest (codes "resize" ∷ args)) (ok_is (requests.Resize b.0) request b.2) (whole, words_is.1)
+
 keyword_request-means : (word : List ℕ) (args : List (List ℕ)) (request : Request) → keyword_request word args ≡ Ok request → ReadsRequest (word ∷ args) request
-unfolding keyword_request
+unfolding keyword_request listing_request
 keyword_request-means word args request e =
     let dumps : Result Request Kind = cond (bytes_eq word (codes "dump")) (alone args requests.Dump) (Err Word) in
     let stats : Result Request Kind = cond (bytes_eq word (codes "stat")) (alone args requests.Stat) dumps in
     let trays : Result Request Kind = cond (bytes_eq word (codes "trays")) (alone args requests.Trays) stats in
-    let idles : Result Request Kind = cond (bytes_eq word (codes "idle")) (read_idle args) trays in
+    let resizes : Result Request Kind = cond (bytes_eq word (codes "resize")) (read_resize args) trays in
+    let idles : Result Request Kind = cond (bytes_eq word (codes "idle")) (read_idle args) resizes in
     let abandons : Result Request Kind = cond (bytes_eq word (codes "abandon")) (alone args requests.Abandon) idles in
     let recalls : Result Request Kind = cond (bytes_eq word (codes "recall")) (alone args requests.Recall) abandons in
     let flips : Result Request Kind = cond (bytes_eq word (codes "flip")) (alone args requests.Flip) recalls in
@@ -394,10 +405,11 @@ keyword_request-means word args request e =
     (by_keyword says word (codes "flip") (alone args requests.Flip) recalls request (alone-means (codes "flip") args requests.Flip request (refl, tt))
     (by_keyword says word (codes "recall") (alone args requests.Recall) abandons request (alone-means (codes "recall") args requests.Recall request (refl, tt))
     (by_keyword says word (codes "abandon") (alone args requests.Abandon) idles request (alone-means (codes "abandon") args requests.Abandon request (refl, tt))
-    (by_keyword says word (codes "idle") (read_idle args) trays request (read_idle-means args request)
+    (by_keyword says word (codes "idle") (read_idle args) resizes request (read_idle-means args request)
+    (by_keyword says word (codes "resize") (read_resize args) trays request (read_resize-means args request)
     (by_keyword says word (codes "trays") (alone args requests.Trays) stats request (alone-means (codes "trays") args requests.Trays request (refl, tt))
     (by_keyword says word (codes "stat") (alone args requests.Stat) dumps request (alone-means (codes "stat") args requests.Stat request (refl, tt))
-    (by_keyword says word (codes "dump") (alone args requests.Dump) (Err Word) request (alone-means (codes "dump") args requests.Dump request (refl, tt)) (λ no. absurd cc)))))))))))) e
+    (by_keyword says word (codes "dump") (alone args requests.Dump) (Err Word) request (alone-means (codes "dump") args requests.Dump request (refl, tt)) (λ no. absurd cc))))))))))))) e
 
 by_owner : (t : Bool) (first : List ℕ) (rest : List (List ℕ)) (request : Request) → cond t (command_or_fault first rest >>= λ owned. Ok (requests.Command owned.0 owned.1)) (keyword_request first rest) ≡ Ok request → ReadsRequest (first ∷ rest) request
 by_owner true first rest request e = command_request-means first rest request e

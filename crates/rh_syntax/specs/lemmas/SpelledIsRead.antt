@@ -31,7 +31,7 @@ use Rattle.rh_syntax.specs.declared.request.Request.{Request}
 use Rattle.rh_syntax.specs.declared.request.Request.TheVariants as requests
 use Rattle.rh_syntax.specs.TrayName.{IsNameByte, IsTrayName}
 use Rattle.rh_syntax.specs.Spelling.{Script, operand_text, kind_text, command_parts, command_text, request_parts, header_parts, spell_request, spelling, OperandFits, CommandFits, RequestFits, HeaderFits, IsScript}
-use Rattle.rh_syntax.specs.Reading.{number_or_fault, integer_or_fault, root_or_fault, operand_or_fault, tray_or_fault, kind_or_fault, read_alloc, read_raw, read_load, read_store, read_copy, read_same, read_drop, command_or_fault, owned_command, single_command, read_shade, read_deal, read_give, read_join, read_idle, keyword_request, request_of_parts, sizes_of, header_of_parts, checked_parts, fault_at, request_or_kind, header_or_kind, request_or_fault, header_or_fault, requests_from, script_or_fault, trace_of}
+use Rattle.rh_syntax.specs.Reading.{number_or_fault, integer_or_fault, root_or_fault, operand_or_fault, tray_or_fault, kind_or_fault, read_alloc, read_raw, read_load, read_store, read_copy, read_same, read_drop, command_or_fault, owned_command, single_command, read_shade, read_deal, read_give, read_join, read_idle, read_resize, listing_request, keyword_request, request_of_parts, sizes_of, header_of_parts, checked_parts, fault_at, request_or_kind, header_or_kind, request_or_fault, header_or_fault, requests_from, script_or_fault, trace_of}
 use Rattle.rh_syntax.specs.lemmas.TrayNames.{read-from_name}
 
 -- ---- what the parts of a spelled line are like
@@ -301,16 +301,20 @@ idle-read : (words : ℕ) → IsU32 words → request_of_parts (codes "idle" ∷
 unfolding request_of_parts keyword_request read_idle one_part
 idle-read words small = rw (number_or_fault-decimal words small) refl
 
+resize-read : (words : ℕ) → IsU32 words → request_of_parts (codes "resize" ∷ decimal words ∷ []) ≡ Ok (requests.Resize words)
+unfolding request_of_parts keyword_request read_resize one_part
+resize-read words small = rw (number_or_fault-decimal words small) refl
+
 trays-read : request_of_parts (codes "trays" ∷ []) ≡ Ok requests.Trays
-unfolding request_of_parts keyword_request
+unfolding request_of_parts keyword_request listing_request
 trays-read = refl
 
 stat-read : request_of_parts (codes "stat" ∷ []) ≡ Ok requests.Stat
-unfolding request_of_parts keyword_request
+unfolding request_of_parts keyword_request listing_request
 stat-read = refl
 
 dump-read : request_of_parts (codes "dump" ∷ []) ≡ Ok requests.Dump
-unfolding request_of_parts keyword_request
+unfolding request_of_parts keyword_request listing_request
 dump-read = refl
 
 request-read : (line : Request) → RequestFits line → IsRequestReadFrom line
@@ -361,6 +365,13 @@ request-read (requests.Idle words) fits = record {
   spelled = refl;
   are = record { each = (keyword_part (codes "idle") refl refl refl, (number_part words fits, tt)); few = omega arith };
   read = idle-read words fits;
+}
+request-read (requests.Resize words) fits = record {
+  first = codes "resize";
+  others = decimal words ∷ [];
+  spelled = refl;
+  are = record { each = (keyword_part (codes "resize") refl refl refl, (number_part words fits, tt)); few = omega arith };
+  read = resize-read words fits;
 }
 request-read requests.Trays fits = alone-read requests.Trays (codes "trays") (keyword_part (codes "trays") refl refl refl) refl trays-read
 request-read requests.Stat fits = alone-read requests.Stat (codes "stat") (keyword_part (codes "stat") refl refl refl) refl stat-read

@@ -2,7 +2,7 @@
 
 ghost use Rattle.std.specs.Prelude.{◌≡◌, ◌+◌, ◌≤◌, [], ◌∷◌, ◌++◌, length};
 ghost use Rattle.rh_text.specs.Parts.{parts_left, spell_parts};
-ghost use Rattle.rh_syntax.specs.Reading.{tray_or_fault, kind_or_fault, alone, read_shade, read_deal, read_give, read_join, read_idle, keyword_request};
+ghost use Rattle.rh_syntax.specs.Reading.{tray_or_fault, kind_or_fault, alone, read_shade, read_deal, read_give, read_join, read_idle, read_resize, listing_request, keyword_request};
 ghost use Rattle.rh_syntax.specs.Spelling.{kind_text, spell_request};
 ghost use Rattle.rh_syntax.specs.declared.request.Request.TheVariants as requests;
 
@@ -192,6 +192,45 @@ pub fn put_idle_line(text: &mut LineText, words: u32)
     text.put(b"\n");
 }
 
+/// `resize WORDS`, from what stands after the keyword.
+#[tactic(auto, unfolding(crate::specs::Reading::read_resize))]
+fn read_resize(rest: Option<&[u8]>) -> Result<Request, Kind>
+    ensures { result ≡ read_resize (parts_left rest.entry) }
+{
+    let Some(words) = one_part(rest) else {
+        return Err(Kind::Form);
+    };
+    let words = number_or_fault(words)?;
+    Ok(Request::Resize { words })
+}
+
+/// The text becomes that of a `resize` line.
+pub fn put_resize_line(text: &mut LineText, words: u32)
+    ensures { text.new ≡ spell_request (requests.Resize words) }
+{
+    text.clear();
+    text.put(b"resize");
+    text.put_next_number(words);
+    text.put(b"\n");
+}
+
+/// The request of a line that asks what is there, from what stands after its keyword.
+#[tactic(auto, unfolding(crate::specs::Reading::listing_request))]
+fn listing_request(keyword: &[u8], rest: Option<&[u8]>) -> Result<Request, Kind>
+    ensures { result ≡ listing_request keyword.now (parts_left rest.entry) }
+{
+    if is_text(keyword, b"trays") {
+        return alone(rest, Request::Trays);
+    }
+    if is_text(keyword, b"stat") {
+        return alone(rest, Request::Stat);
+    }
+    if is_text(keyword, b"dump") {
+        return alone(rest, Request::Dump);
+    }
+    Err(Kind::Word)
+}
+
 /// The request of a line that begins with its keyword, from what stands after it.
 #[tactic(auto, unfolding(crate::specs::Reading::keyword_request))]
 pub fn keyword_request(keyword: &[u8], rest: Option<&[u8]>) -> Result<Request, Kind>
@@ -224,14 +263,8 @@ pub fn keyword_request(keyword: &[u8], rest: Option<&[u8]>) -> Result<Request, K
     if is_text(keyword, b"idle") {
         return read_idle(rest);
     }
-    if is_text(keyword, b"trays") {
-        return alone(rest, Request::Trays);
+    if is_text(keyword, b"resize") {
+        return read_resize(rest);
     }
-    if is_text(keyword, b"stat") {
-        return alone(rest, Request::Stat);
-    }
-    if is_text(keyword, b"dump") {
-        return alone(rest, Request::Dump);
-    }
-    Err(Kind::Word)
+    listing_request(keyword, rest)
 }
