@@ -6,6 +6,7 @@ pub mod DealOrder
 pub mod PutTrays
 pub mod SetTrays
 pub mod LineOrder
+pub mod ResizeOrder
 pub mod TrayChanges
 pub mod OneCycleAnswer
 pub mod OneListing

@@ -25,10 +25,12 @@ use Rattle.rh_engine.specs.declared.engine.DealRefusal.{DealRefusal}
 use Rattle.rh_engine.specs.declared.engine.DealRefusal.TheVariants as deal_refusals
 use Rattle.rh_engine.specs.declared.engine.GiveRefusal.{GiveRefusal}
 use Rattle.rh_engine.specs.declared.engine.GiveRefusal.TheVariants as give_refusals
+use Rattle.rh_engine.specs.declared.engine.ResizeRefusal.{ResizeRefusal}
+use Rattle.rh_engine.specs.declared.engine.ResizeRefusal.TheVariants as resize_refusals
 use Rattle.rh_engine.specs.declared.trays.JoinRefusal.{JoinRefusal}
 use Rattle.rh_engine.specs.declared.trays.JoinRefusal.TheVariants as join_refusals
-use Rattle.rh_engine.specs.CycleAnswers.{two_numbers, begin_text, shade_text, deal_text, give_error_text, given_text, give_text, join_text, flip_text, recall_text, abandon_text, idle_text}
-use Rattle.rh_engine.specs.ToldAnswers.{IsToldBegin, IsToldShade, IsToldDeal, IsToldGiveError, IsToldGiven, IsToldGive, IsToldJoin, IsToldFlip, IsToldRecall, IsToldAbandon, IsToldIdle}
+use Rattle.rh_engine.specs.CycleAnswers.{two_numbers, begin_text, shade_text, deal_text, give_error_text, given_text, give_text, join_text, flip_text, recall_text, abandon_text, idle_text, resize_text}
+use Rattle.rh_engine.specs.ToldAnswers.{IsToldBegin, IsToldShade, IsToldDeal, IsToldGiveError, IsToldGiven, IsToldGive, IsToldJoin, IsToldFlip, IsToldRecall, IsToldAbandon, IsToldIdle, IsToldResize}
 
 -- the byte at a position of a text, and a number by its position among several
 abbrev byte : List ℕ → ℕ → ℕ
@@ -234,3 +236,19 @@ idle_told-text (Err idles.IdleSpent) told = refl
 
 pub idle_text-injective : (a b : Result ℕ IdleError) → IsToldIdle a → IsToldIdle b → idle_text a ≡ idle_text b → a ≡ b
 idle_text-injective a b one other same = sym (idle_told-text a one) ∙ ap idle_told same ∙ idle_told-text b other
+
+-- resize
+
+abbrev resize_told : List ℕ → Result ℕ ResizeRefusal
+resize_told text =
+    if byte text 0 == 119 then Ok (number (numbers_in text) 0)
+    else if byte text 8 == 66 then Err resize_refusals.BadSpace
+    else Err (resize_refusals.Used (number (numbers_in text) 0))
+
+resize_told-text : (answer : Result ℕ ResizeRefusal) → IsToldResize answer → resize_told (resize_text answer) ≡ answer
+resize_told-text (Ok words) told = ap (λ ns. Ok (number ns 0)) (numbers_in-one words told)
+resize_told-text (Err resize_refusals.BadSpace) told = refl
+resize_told-text (Err (resize_refusals.Used used)) told = ap (λ ns. Err (resize_refusals.Used (number ns 0))) (numbers_in-one used told)
+
+pub resize_text-injective : (a b : Result ℕ ResizeRefusal) → IsToldResize a → IsToldResize b → resize_text a ≡ resize_text b → a ≡ b
+resize_text-injective a b one other same = sym (resize_told-text a one) ∙ ap resize_told same ∙ resize_told-text b other

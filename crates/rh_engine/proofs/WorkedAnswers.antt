@@ -14,9 +14,10 @@ use Rattle.rh_core.specs.declared.errors.ShadeError.TheVariants as shade_errors
 use Rattle.rh_core.specs.declared.stat.Stat.{Stat}
 use Rattle.rh_engine.specs.declared.engine.DealRefusal.TheVariants as deal_refusals
 use Rattle.rh_engine.specs.declared.engine.GiveRefusal.TheVariants as give_refusals
+use Rattle.rh_engine.specs.declared.engine.ResizeRefusal.TheVariants as resize_refusals
 use Rattle.rh_engine.specs.declared.trays.JoinRefusal.TheVariants as join_refusals
 use Rattle.rh_engine.specs.Trays.{Tray}
-use Rattle.rh_engine.specs.CycleAnswers.{begin_text, shade_text, deal_text, give_text, join_text, flip_text, recall_text, abandon_text, idle_text, tray_text, stat_text}
+use Rattle.rh_engine.specs.CycleAnswers.{begin_text, shade_text, deal_text, give_text, join_text, flip_text, recall_text, abandon_text, idle_text, resize_text, tray_text, stat_text}
 
 begun : begin_text (Ok 12) ≡ codes "cycle 12"
 unfolding digits
@@ -178,6 +179,17 @@ no_cycle_to_idle = refl
 
 idle_spent : idle_text (Err idles.IdleSpent) ≡ codes "refused IdleSpent"
 idle_spent = refl
+
+resized : resize_text (Ok 17) ≡ codes "words 17"
+unfolding digits
+resized = refl
+
+too_many_words : resize_text (Err resize_refusals.BadSpace) ≡ codes "refused BadSpace"
+too_many_words = refl
+
+words_used : resize_text (Err (resize_refusals.Used 15)) ≡ codes "refused Used 15"
+unfolding digits
+words_used = refl
 
 -- a tray of the second epoch, with one entry
 one_entry : Tray

@@ -1,4 +1,4 @@
--- The texts of the answers to the lines of a cycle, without line ends.
+-- The texts of the answers to the lines of a cycle and to `resize`, without line ends.
 use Rattle.std.specs.Prelude.{ℕ, Bool, true, false, List, ◌++◌, length, Result, Ok, Err, codes, decimal}
 use Rattle.rh_text.specs.Root.{root_text}
 use Rattle.rh_core.specs.declared.outcomes.Flipped.{Flipped}
@@ -26,6 +26,8 @@ use Rattle.rh_engine.specs.declared.engine.DealRefusal.{DealRefusal}
 use Rattle.rh_engine.specs.declared.engine.DealRefusal.TheVariants as deal_refusals
 use Rattle.rh_engine.specs.declared.engine.GiveRefusal.{GiveRefusal}
 use Rattle.rh_engine.specs.declared.engine.GiveRefusal.TheVariants as give_refusals
+use Rattle.rh_engine.specs.declared.engine.ResizeRefusal.{ResizeRefusal}
+use Rattle.rh_engine.specs.declared.engine.ResizeRefusal.TheVariants as resize_refusals
 use Rattle.rh_engine.specs.declared.trays.JoinRefusal.{JoinRefusal}
 use Rattle.rh_engine.specs.declared.trays.JoinRefusal.TheVariants as join_refusals
 use Rattle.rh_engine.specs.Trays.{Tray}
@@ -122,6 +124,12 @@ abbrev pub idle_text : Result ℕ IdleError → List ℕ
 idle_text (Ok words) = codes "idle " ++ decimal words
 idle_text (Err idles.NoCycle) = codes "refused NoCycle"
 idle_text (Err idles.IdleSpent) = codes "refused IdleSpent"
+
+-- words WORDS
+abbrev pub resize_text : Result ℕ ResizeRefusal → List ℕ
+resize_text (Ok words) = codes "words " ++ decimal words
+resize_text (Err resize_refusals.BadSpace) = codes "refused BadSpace"
+resize_text (Err (resize_refusals.Used used)) = codes "refused Used " ++ decimal used
 
 -- tray NAME epoch E entries N
 abbrev pub tray_text : List ℕ → Tray → List ℕ

@@ -1,5 +1,5 @@
 -- What the lines of a trace make of a heap and the trays, and what they are answered.
-use Rattle.std.specs.Prelude.{◌≡◌, ◌≢◌, ℕ, ◌≤◌, ◌==◌, not, false, if◌then◌else◌, List, length, Option, Some, None, Result, Ok, Err}
+use Rattle.std.specs.Prelude.{◌≡◌, ◌≢◌, ℕ, ◌<◌, ◌≤◌, ◌⊎◌, ◌==◌, nat_lt, ◌||◌, not, false, if◌then◌else◌, List, length, Option, Some, None, Result, Ok, Err}
 use Rattle.rh_layout.specs.Refusing.{unless}
 use Rattle.rh_layout.specs.declared.command.Command.{Command}
 use Rattle.rh_layout.specs.declared.command.Reply.{Reply}
@@ -25,7 +25,9 @@ use Rattle.rh_core.specs.Commands.{heap_step}
 use Rattle.rh_core.specs.Cycle.{begin_step, flip_step}
 use Rattle.rh_core.specs.Recall.{recall_step, abandon_step}
 use Rattle.rh_core.specs.Idle.{idle_step}
+use Rattle.rh_core.specs.Resize.{with_sizes}
 use Rattle.rh_core.specs.Shading.{shade_step}
+use Rattle.rh_core.specs.Stat.{stat_of}
 use Rattle.rh_core.specs.Dealing.{deal_step}
 use Rattle.rh_core.specs.Giving.{give_step}
 use Rattle.rh_engine.specs.declared.engine.TrayDeal.{TrayDeal}
@@ -33,6 +35,8 @@ use Rattle.rh_engine.specs.declared.engine.DealRefusal.{DealRefusal}
 use Rattle.rh_engine.specs.declared.engine.DealRefusal.TheVariants as deal_refusals
 use Rattle.rh_engine.specs.declared.engine.GiveRefusal.{GiveRefusal}
 use Rattle.rh_engine.specs.declared.engine.GiveRefusal.TheVariants as give_refusals
+use Rattle.rh_engine.specs.declared.engine.ResizeRefusal.{ResizeRefusal}
+use Rattle.rh_engine.specs.declared.engine.ResizeRefusal.TheVariants as resize_refusals
 use Rattle.rh_engine.specs.declared.trays.JoinRefusal.{JoinRefusal}
 use Rattle.rh_engine.specs.declared.trays.JoinRefusal.TheVariants as join_refusals
 use Rattle.rh_engine.specs.Trays.{Trays, Tray, tray_named, trays_with, tray_with, tray_or_empty, replica_of, is_beyond, join_step, IsFoldedInto}
@@ -74,6 +78,30 @@ abandon_line_step e = (record e { heap = (abandon_step e.heap).0 }, (abandon_ste
 abbrev pub idle_line_step : EngineState → ℕ → EngineState × Result ℕ IdleError
 idle_line_step e words =
     (record e { heap = (idle_step e.heap words).0 }, (idle_step e.heap words).1)
+
+-- Resize.
+
+-- why the spaces don't get so many words
+abbrev pub resize_line_refusal : EngineState → ℕ → Option ResizeRefusal
+resize_line_refusal e words =
+    let used = (stat_of e.heap).used in
+    if nat_lt words 8 || nat_lt 16777216 words then Some resize_refusals.BadSpace
+    else if nat_lt words used then Some (resize_refusals.Used used)
+    else None
+
+-- both spaces have so many words, and the log keeps its limit
+abbrev pub with_space : EngineState → ℕ → EngineState
+with_space e words =
+    record e { heap = with_sizes e.heap words e.heap.mutators.config.log_limit }
+
+-- the engine and the answer, unless it is refused
+abbrev pub resize_unless : Option ResizeRefusal → EngineState → ℕ
+    → EngineState × Result ℕ ResizeRefusal
+resize_unless refusal e words = unless refusal e (with_space e words, Ok words)
+
+-- Both spaces have so many words.
+abbrev pub resize_line_step : EngineState → ℕ → EngineState × Result ℕ ResizeRefusal
+resize_line_step e words = resize_unless (resize_line_refusal e words) e words
 
 -- Deal.
 
@@ -185,6 +213,14 @@ abbrev pub refusals_of_give : EngineState → List ℕ → ℕ → GiveRefusal �
 refusals_of_give e name =
     (give_refusals.NoTray when (tray_named e.trays name ≡ None))
     ▸ IsGiveRefusal e name
+    ▸ no_fault
+
+-- the refusals of a resize, in their order, each with when it holds
+abbrev pub refusals_of_resize : EngineState → ℕ → ℕ → ResizeRefusal → Type 0
+refusals_of_resize e words =
+    let used = (stat_of e.heap).used in
+    (resize_refusals.BadSpace when ((words < 8) ⊎ (16777216 < words)))
+    ▸ (resize_refusals.Used used when (words < used))
     ▸ no_fault
 
 -- The heap dealt a piece, which was folded into the tray of this name. Its items, and the entries

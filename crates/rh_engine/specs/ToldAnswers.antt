@@ -1,4 +1,4 @@
--- Answers to the lines of a cycle whose numbers fit, as those of each heap do.
+-- Answers to the lines of a cycle and to `resize` whose numbers fit, as those of each heap do.
 use Rattle.std.specs.Prelude.{ℕ, ⊤, length, Result, Ok, Err}
 use Rattle.rh_core.specs.declared.outcomes.Flipped.{Flipped}
 use Rattle.rh_core.specs.declared.outcomes.Given.{Given}
@@ -21,6 +21,8 @@ use Rattle.rh_engine.specs.declared.engine.DealRefusal.{DealRefusal}
 use Rattle.rh_engine.specs.declared.engine.DealRefusal.TheVariants as deal_refusals
 use Rattle.rh_engine.specs.declared.engine.GiveRefusal.{GiveRefusal}
 use Rattle.rh_engine.specs.declared.engine.GiveRefusal.TheVariants as give_refusals
+use Rattle.rh_engine.specs.declared.engine.ResizeRefusal.{ResizeRefusal}
+use Rattle.rh_engine.specs.declared.engine.ResizeRefusal.TheVariants as resize_refusals
 use Rattle.rh_engine.specs.declared.trays.JoinRefusal.{JoinRefusal}
 use Rattle.rh_engine.specs.Trays.{Tray}
 
@@ -85,6 +87,12 @@ IsToldAbandon (Err why) = ⊤
 abbrev pub IsToldIdle : Result ℕ IdleError → Type 0
 IsToldIdle (Ok words) = IsU128 words
 IsToldIdle (Err why) = ⊤
+
+-- to `resize`: the words do, or how many are used
+abbrev pub IsToldResize : Result ℕ ResizeRefusal → Type 0
+IsToldResize (Ok words) = IsU128 words
+IsToldResize (Err (resize_refusals.Used used)) = IsU128 used
+IsToldResize other = ⊤
 
 -- to `trays`, of a tray: its epoch and how many entries it has do
 abbrev pub IsToldTray : Tray → Type 0

@@ -1,10 +1,10 @@
-//! The texts of the answers to the lines of a cycle, without line ends.
+//! The texts of the answers to the lines of a cycle and to `resize`, without line ends.
 
 ghost use Rattle.std.specs.Prelude.{◌≡◌, ◌+◌, ◌^◌, ◌<◌, ◌≤◌, ◌++◌, length, codes};
-ghost use Rattle.rh_engine.specs.CycleAnswers.{two_numbers, credit_text, begin_text, shade_text, deal_error_text, deal_text, give_error_text, given_text, give_text, join_text, flip_text, recall_text, abandon_text, idle_text, tray_text, stat_start, stat_log, stat_work, stat_text};
+ghost use Rattle.rh_engine.specs.CycleAnswers.{two_numbers, credit_text, begin_text, shade_text, deal_error_text, deal_text, give_error_text, given_text, give_text, join_text, flip_text, recall_text, abandon_text, idle_text, resize_text, tray_text, stat_start, stat_log, stat_work, stat_text};
 ghost use Rattle.rh_engine.specs.Trays.{tray_of};
 
-use crate::engine::{DealRefusal, GiveRefusal, TrayDeal};
+use crate::engine::{DealRefusal, GiveRefusal, ResizeRefusal, TrayDeal};
 use crate::trays::JoinRefusal;
 use rh_core::{
     BeginError, DealError, FlipError, Flipped, GiveError, Given, IdleError, NoCycle, RecallError,
@@ -239,6 +239,19 @@ pub fn put_idle(text: &mut LineText, answer: Result<u64, IdleError>)
         Ok(words) => text.put_part(b"idle ", words),
         Err(IdleError::NoCycle) => text.put(b"refused NoCycle"),
         Err(IdleError::IdleSpent) => text.put(b"refused IdleSpent"),
+    }
+}
+
+/// The text becomes that of the answer to `resize`.
+pub fn put_resize(text: &mut LineText, answer: Result<u32, ResizeRefusal>)
+    ensures value { text.new ≡ resize_text answer }
+    ensures len { length text.new ≤ 100 }
+{
+    text.clear();
+    match answer {
+        Ok(words) => text.put_part(b"words ", words),
+        Err(ResizeRefusal::BadSpace) => text.put(b"refused BadSpace"),
+        Err(ResizeRefusal::Used(used)) => text.put_part(b"refused Used ", used),
     }
 }
 

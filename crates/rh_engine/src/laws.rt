@@ -1,7 +1,7 @@
 //! Laws of trays, and of the lines that deal into them. Each function does nothing: its contract is
 //! the law.
 
-ghost use Rattle.std.specs.Prelude.{◌≡◌, ◌≢◌, ◌↔◌, ◌≤◌, ◌+◌, ◌++◌, ◌∷◌, [], ℕ, List, length, true, Some, Result, Ok, Err, is_some, map, None, if◌then◌else◌};
+ghost use Rattle.std.specs.Prelude.{◌≡◌, ◌≢◌, ◌↔◌, ◌≤◌, ◌+◌, ◌-◌, ◌++◌, ◌∷◌, [], ℕ, List, length, true, Some, Result, Ok, Err, is_some, map, None, if◌then◌else◌};
 ghost use Rattle.std.specs.List.Sorted.{IsStrictlySortedBy};
 ghost use Rattle.std.specs.Map.{keys_of};
 ghost use Rattle.rh_layout.specs.Item.{place_cmp, place_of};
@@ -14,6 +14,7 @@ ghost use Rattle.rh_engine.specs.declared.engine.TrayDeal.{TrayDeal};
 ghost use Rattle.rh_engine.specs.declared.engine.DealRefusal.{DealRefusal};
 ghost use Rattle.rh_engine.specs.declared.engine.DealRefusal.TheVariants.{TooManyTrays};
 ghost use Rattle.rh_engine.specs.declared.engine.GiveRefusal.{GiveRefusal};
+ghost use Rattle.rh_engine.specs.declared.engine.ResizeRefusal.{ResizeRefusal};
 ghost use Rattle.rh_engine.specs.declared.trays.JoinRefusal.{JoinRefusal};
 ghost use Rattle.rh_engine.specs.declared.trays.JoinRefusal.TheVariants as joins;
 ghost use Rattle.rh_core.specs.declared.errors.BeginError.{BeginError};
@@ -26,11 +27,12 @@ ghost use Rattle.rh_core.specs.declared.outcomes.Flipped.{Flipped};
 ghost use Rattle.rh_core.specs.declared.outcomes.Given.{Given as GivenOf};
 ghost use Rattle.rh_core.specs.declared.outcomes.Shaded.{Shaded};
 ghost use Rattle.rh_core.specs.declared.stat.Stat.{Stat};
+ghost use Rattle.rh_core.specs.Stat.{stat_of};
 ghost use Rattle.rh_syntax.specs.TrayName.{IsTrayName};
-ghost use Rattle.rh_engine.specs.CycleAnswers.{begin_text, shade_text, deal_text, give_text, join_text, flip_text, recall_text, abandon_text, idle_text, tray_text, stat_text};
-ghost use Rattle.rh_engine.specs.ToldAnswers.{IsToldBegin, IsToldShade, IsToldDeal, IsToldGive, IsToldJoin, IsToldFlip, IsToldRecall, IsToldAbandon, IsToldIdle, IsToldTray, IsToldStat};
+ghost use Rattle.rh_engine.specs.CycleAnswers.{begin_text, shade_text, deal_text, give_text, join_text, flip_text, recall_text, abandon_text, idle_text, resize_text, tray_text, stat_text};
+ghost use Rattle.rh_engine.specs.ToldAnswers.{IsToldBegin, IsToldShade, IsToldDeal, IsToldGive, IsToldJoin, IsToldFlip, IsToldRecall, IsToldAbandon, IsToldIdle, IsToldResize, IsToldTray, IsToldStat};
 ghost use Rattle.rh_engine.specs.Trays.{Trays as TraysOf, Tray, tray_named, trays_with, entries_with_all, replica_of, tray_of, IsJoinedInto};
-ghost use Rattle.rh_engine.specs.Engine.{EngineState, deal_line_step, refusals_of_deal, join_line_step, refusals_of_join, give_line_step, refusals_of_give, IsDealtInto};
+ghost use Rattle.rh_engine.specs.Engine.{EngineState, deal_line_step, refusals_of_deal, join_line_step, refusals_of_join, give_line_step, refusals_of_give, IsDealtInto, resize_line_step, refusals_of_resize};
 
 /// Entries with items joined in have at each place what they had, joined with the newest of the
 /// items, and stand in order of place where they did before.
@@ -118,6 +120,25 @@ pub fn gives_of_trays_are_refused_in_order()
     ensures whole { (t : Tray) → tray_of (replica_of t) ≡ t }
 {}
 
+/// A resize is refused by the first of its refusals that holds, and changes nothing then. Where the
+/// spaces get other sizes none of them holds, and the answer is the words. Of what the heap tells of
+/// itself the free words alone are others then: those that objects don't use. The limit of the log
+/// and the trays stay.
+pub fn resizes_are_refused_in_order()
+    ensures refused { (e : EngineState) (words : ℕ) (why : ResizeRefusal)
+        → (resize_line_step e words).1 ≡ Err why
+        → IsLeast (refusals_of_resize e words) why × ((resize_line_step e words).0 ≡ e) }
+    ensures resized { (e : EngineState) (words n : ℕ) → (resize_line_step e words).1 ≡ Ok n
+        → IsFaultless (refusals_of_resize e words) × (n ≡ words)
+        × (stat_of (resize_line_step e words).0.heap
+        ≡ record (stat_of e.heap) { free = words - (stat_of e.heap).used }) }
+    ensures limit { (e : EngineState) (words : ℕ)
+        → (resize_line_step e words).0.heap.mutators.config.log_limit
+        ≡ e.heap.mutators.config.log_limit }
+    ensures trays { (e : EngineState) (words : ℕ)
+        → (resize_line_step e words).0.trays ≡ e.trays }
+{}
+
 /// There are at most 64 trays: in a cycle a deal into a tray is refused with TooManyTrays, and
 /// changes nothing, exactly where there is none of its name and there are 64 others, and so is a
 /// join of a tray that is there into one. A name that is new makes one tray more, and one that is
@@ -158,6 +179,8 @@ pub fn each_text_is_of_one_answer_to_its_line()
         → abandon_text a ≡ abandon_text b → a ≡ b }
     ensures idle { (a b : Result ℕ IdleError) → IsToldIdle a → IsToldIdle b
         → idle_text a ≡ idle_text b → a ≡ b }
+    ensures resize { (a b : Result ℕ ResizeRefusal) → IsToldResize a → IsToldResize b
+        → resize_text a ≡ resize_text b → a ≡ b }
 {}
 
 /// The line of a tray tells its name, its epoch and how many entries it has, and not which. The

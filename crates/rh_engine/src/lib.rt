@@ -9,7 +9,7 @@ mod trays;
 
 pub use cycle_answers::{
     put_abandon, put_begin, put_deal, put_flip, put_give, put_idle, put_join, put_recall,
-    put_shade, put_stat, put_tray,
+    put_resize, put_shade, put_stat, put_tray,
 };
-pub use engine::{DealRefusal, Engine, GiveRefusal, TrayDeal};
+pub use engine::{DealRefusal, Engine, GiveRefusal, ResizeRefusal, TrayDeal};
 pub use trays::{JoinRefusal, Trays};

@@ -1,4 +1,4 @@
-use Rattle.rh_engine.proofs.OneCycleAnswer.{begin_text-injective, shade_text-injective, deal_text-injective, give_text-injective, join_text-injective, flip_text-injective, recall_text-injective, abandon_text-injective, idle_text-injective}
+use Rattle.rh_engine.proofs.OneCycleAnswer.{begin_text-injective, shade_text-injective, deal_text-injective, give_text-injective, join_text-injective, flip_text-injective, recall_text-injective, abandon_text-injective, idle_text-injective, resize_text-injective}
 use Rattle.rh_engine.proofs.laws.each_text_is_of_one_answer_to_its_line.Goals as goal
 
 pub returns-clause-begin : goal.returns-clause-begin
@@ -27,3 +27,6 @@ returns-clause-abandon c = abandon_text-injective
 
 pub returns-clause-idle : goal.returns-clause-idle
 returns-clause-idle c = idle_text-injective
+
+pub returns-clause-resize : goal.returns-clause-resize
+returns-clause-resize c = resize_text-injective
