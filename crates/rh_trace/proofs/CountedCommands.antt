@@ -1,6 +1,7 @@
 -- A summary counts the requests that are commands, and the commands that the heap refused.
 use Rattle.std.proofs.Common.{◌≡◌, ℕ, ◌+◌, cond, List, [], ◌∷◌, ◌++◌, Option, Some, None, refl, sym, ap, ◌∙◌, arith}
 use Rattle.std.specs.Prelude.{count_by}
+use Rattle.std.specs.List.{AllByRecursion}
 use Rattle.rh_core.specs.declared.event.Event.{Event}
 use Rattle.rh_core.specs.declared.event.Event.TheVariants as events
 use Rattle.rh_layout.specs.declared.kind.Kind.{Kind}
@@ -12,7 +13,7 @@ use Rattle.rh_syntax.specs.declared.request.Request.{Request}
 use Rattle.rh_syntax.specs.declared.request.Request.TheVariants as requests
 use Rattle.rh_trace.specs.Answers.{is_answer, is_refused}
 use Rattle.rh_engine.specs.Engine.{EngineState, tray_refusal, deal_unless, give_found}
-use Rattle.rh_trace.specs.Events.{event_unless, gives_of, request_events, events_of, is_command, is_refused_command}
+use Rattle.rh_trace.specs.Events.{event_unless, gives_of, request_events, events_of, LeavesSizes, is_command, is_refused_command}
 use Rattle.rh_trace.specs.Run.{request_step, answers_to}
 use Rattle.rh_engine.specs.Trays.{Tray, tray_named, replica_of}
 use Rattle.rh_trace.proofs.CountsByHead.{count_by-head}
@@ -30,6 +31,7 @@ is_answer-request e requests.Flip = refl
 is_answer-request e requests.Recall = refl
 is_answer-request e requests.Abandon = refl
 is_answer-request e (requests.Idle words) = refl
+is_answer-request e (requests.Resize words) = refl
 is_answer-request e requests.Trays = refl
 is_answer-request e requests.Stat = refl
 is_answer-request e requests.Dump = refl
@@ -65,26 +67,27 @@ module _ (A : Type 0) where
   refusals-give (Some t) e rest = refusals-first e (events.Give (replica_of t)) rest
 
   -- the heap refuses a command where its request is answered a refusal
-  refusals-request : (e : EngineState) (request : Request) (rest : List (Event A))
+  refusals-request : (e : EngineState) (request : Request) → LeavesSizes request → (rest : List (Event A))
       → refusals e.heap (request_events e request ++ rest) ≡ cond (is_refused (request_step e request).1) 1 0 + refusals (request_step e request).0.heap rest
-  refusals-request e (requests.Command owner command) rest = refusals-first e (events.Command owner command) rest
-  refusals-request e requests.Begin rest = refusals-first e events.Begin rest
-  refusals-request e (requests.Shade root) rest = refusals-first e (events.Shade root) rest
-  refusals-request e (requests.Deal kind most tray) rest = refusals-deal (tray_refusal e tray) e kind most tray rest
-  refusals-request e (requests.Give tray) rest = refusals-give (tray_named e.trays tray) e rest
-  refusals-request e (requests.Join into other) rest = omega arith
-  refusals-request e requests.Flip rest = refusals-first e events.Flip rest
-  refusals-request e requests.Recall rest = refusals-first e events.Recall rest
-  refusals-request e requests.Abandon rest = refusals-first e events.Abandon rest
-  refusals-request e (requests.Idle words) rest = refusals-first e (events.Idle words) rest
-  refusals-request e requests.Trays rest = omega arith
-  refusals-request e requests.Stat rest = omega arith
-  refusals-request e requests.Dump rest = omega arith
+  refusals-request e (requests.Command owner command) leaves rest = refusals-first e (events.Command owner command) rest
+  refusals-request e requests.Begin leaves rest = refusals-first e events.Begin rest
+  refusals-request e (requests.Shade root) leaves rest = refusals-first e (events.Shade root) rest
+  refusals-request e (requests.Deal kind most tray) leaves rest = refusals-deal (tray_refusal e tray) e kind most tray rest
+  refusals-request e (requests.Give tray) leaves rest = refusals-give (tray_named e.trays tray) e rest
+  refusals-request e (requests.Join into other) leaves rest = omega arith
+  refusals-request e requests.Flip leaves rest = refusals-first e events.Flip rest
+  refusals-request e requests.Recall leaves rest = refusals-first e events.Recall rest
+  refusals-request e requests.Abandon leaves rest = refusals-first e events.Abandon rest
+  refusals-request e (requests.Idle words) leaves rest = refusals-first e (events.Idle words) rest
+  refusals-request e (requests.Resize words) leaves rest = absurd leaves
+  refusals-request e requests.Trays leaves rest = omega arith
+  refusals-request e requests.Stat leaves rest = omega arith
+  refusals-request e requests.Dump leaves rest = omega arith
 
-  pub refused_of-requests : (e : EngineState) (requests : List Request) → count_by is_refused (answers_to e requests) ≡ refusals e.heap (events_of e requests)
-  refused_of-requests e [] = refl
-  refused_of-requests e (request ∷ others) =
+  pub refused_of-requests : (e : EngineState) (requests : List Request) → AllByRecursion LeavesSizes requests → count_by is_refused (answers_to e requests) ≡ refusals e.heap (events_of e requests)
+  refused_of-requests e [] leave = refl
+  refused_of-requests e (request ∷ others) leave =
       let one = request_step e request in
       count_by-head is_refused one.1 (answers_to one.0 others)
-      ∙ ap (λ n. cond (is_refused one.1) 1 0 + n) (refused_of-requests one.0 others)
-      ∙ sym (refusals-request e request (events_of one.0 others))
+      ∙ ap (λ n. cond (is_refused one.1) 1 0 + n) (refused_of-requests one.0 others leave.1)
+      ∙ sym (refusals-request e request leave.0 (events_of one.0 others))

@@ -22,9 +22,10 @@ use Rattle.rh_engine.specs.declared.engine.DealRefusal.{DealRefusal}
 use Rattle.rh_syntax.specs.declared.request.Request.{Request}
 use Rattle.rh_syntax.specs.declared.request.Request.TheVariants as requests
 use Rattle.rh_trace.specs.Answers.{is_flip, flip_of, words_of, root_words_of}
-use Rattle.rh_engine.specs.Engine.{EngineState, deal_unless, deal_done, tray_refusal, give_found}
+use Rattle.rh_engine.specs.Engine.{EngineState, deal_unless, deal_done, tray_refusal, give_found, resize_line_step}
 use Rattle.rh_trace.specs.Run.{request_step, answers_to, engine_after}
 use Rattle.rh_engine.specs.Trays.{Trays, Tray, tray_named, replica_of}
+use Rattle.rh_engine.proofs.ResizeOrder.{resize-either}
 use Rattle.rh_trace.proofs.CountsByHead.{count_by-head}
 
 -- the counts stay
@@ -82,6 +83,7 @@ request-counted counts requests.Flip e = counts.flip e.heap
 request-counted counts requests.Recall e = counted-none e.heap (recall_step e.heap).0 (counts.recall e.heap)
 request-counted counts requests.Abandon e = counted-none e.heap (abandon_step e.heap).0 (counts.abandon e.heap)
 request-counted counts (requests.Idle words) e = counted-none e.heap (idle_step e.heap words).0 (counts.idle e.heap words)
+request-counted counts (requests.Resize words) e = counted-none e.heap (resize_line_step e words).0.heap (resize-either e words (λ x. CountsStay e.heap x.heap) (refl, refl) (λ in_range few. (refl, refl)))
 request-counted counts requests.Trays e = counted-none e.heap e.heap (refl, refl)
 request-counted counts requests.Stat e = counted-none e.heap e.heap (refl, refl)
 request-counted counts requests.Dump e = counted-none e.heap e.heap (refl, refl)

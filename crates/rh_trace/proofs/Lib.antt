@@ -6,7 +6,10 @@ pub mod WrittenInTurn
 pub mod PlainAnswers
 pub mod WorkedTraces
 pub mod WorkedRuns
+pub mod WorkedResizes
 pub mod LinesAreEvents
+pub mod TraceParts
+pub mod ResizedHeaps
 pub mod TraysInOrder
 pub mod HeapDump
 pub mod OneTotal

@@ -1,5 +1,6 @@
 -- The requests of a trace are events of a heap.
 use Rattle.std.proofs.Common.{◌≡◌, ℕ, List, [], ◌∷◌, ◌++◌, Option, Some, None, Result, Ok, Err, refl, sym, ap, ◌∙◌}
+use Rattle.std.specs.List.{AllByRecursion}
 use Rattle.rh_core.specs.declared.event.Event.{Event}
 use Rattle.rh_core.specs.declared.event.Event.TheVariants as events
 use Rattle.rh_core.specs.declared.outcomes.Dealt.{Dealt}
@@ -17,9 +18,10 @@ use Rattle.rh_syntax.specs.declared.request.Request.TheVariants as requests
 use Rattle.rh_trace.specs.Answers as answered
 use Rattle.rh_engine.specs.Engine.{EngineState, tray_refusal, counts_of_dealt, deal_done, deal_unless, given_or_refused, give_found}
 use Rattle.rh_trace.specs.Events as told
-use Rattle.rh_trace.specs.Events.{request_events, events_of, gives_of, MayChangeTrays, TellsDealt, TellsGiven, TellsAnswer}
+use Rattle.rh_trace.specs.Events.{request_events, events_of, gives_of, LeavesSizes, MayChangeTrays, TellsDealt, TellsGiven, TellsAnswer}
 use Rattle.rh_trace.specs.Run.{request_step, engine_after}
 use Rattle.rh_engine.specs.Trays.{Tray, Trays, tray_named, replica_of}
+use Rattle.rh_engine.proofs.ResizeOrder.{resize-trays}
 
 pub heap-of_deal : (heap : HeapState) (answer : Result Dealt DealError) (trays : Trays) (name : List ℕ) → (deal_done heap answer trays name).0.heap ≡ heap
 heap-of_deal heap (Ok dealt) trays name = refl
@@ -49,6 +51,7 @@ trays-of_request e requests.Flip other = refl
 trays-of_request e requests.Recall other = refl
 trays-of_request e requests.Abandon other = refl
 trays-of_request e (requests.Idle words) other = refl
+trays-of_request e (requests.Resize words) other = resize-trays e words
 trays-of_request e requests.Trays other = refl
 trays-of_request e requests.Stat other = refl
 trays-of_request e requests.Dump other = refl
@@ -62,32 +65,33 @@ module _ (A : Type 0) where
   heap-of_give None e = refl
   heap-of_give (Some t) e = refl
 
-  heap-of_request : (e : EngineState) (request : Request) → (request_step e request).0.heap ≡ heap_after {A = A} e.heap (request_events e request)
-  heap-of_request e (requests.Command owner command) = refl
-  heap-of_request e requests.Begin = refl
-  heap-of_request e (requests.Shade root) = refl
-  heap-of_request e (requests.Deal kind most tray) = heap-of_deal_unless (tray_refusal e tray) e kind most tray
-  heap-of_request e (requests.Give tray) = heap-of_give (tray_named e.trays tray) e
-  heap-of_request e (requests.Join into other) = refl
-  heap-of_request e requests.Flip = refl
-  heap-of_request e requests.Recall = refl
-  heap-of_request e requests.Abandon = refl
-  heap-of_request e (requests.Idle words) = refl
-  heap-of_request e requests.Trays = refl
-  heap-of_request e requests.Stat = refl
-  heap-of_request e requests.Dump = refl
+  heap-of_request : (e : EngineState) (request : Request) → LeavesSizes request → (request_step e request).0.heap ≡ heap_after {A = A} e.heap (request_events e request)
+  heap-of_request e (requests.Command owner command) leaves = refl
+  heap-of_request e requests.Begin leaves = refl
+  heap-of_request e (requests.Shade root) leaves = refl
+  heap-of_request e (requests.Deal kind most tray) leaves = heap-of_deal_unless (tray_refusal e tray) e kind most tray
+  heap-of_request e (requests.Give tray) leaves = heap-of_give (tray_named e.trays tray) e
+  heap-of_request e (requests.Join into other) leaves = refl
+  heap-of_request e requests.Flip leaves = refl
+  heap-of_request e requests.Recall leaves = refl
+  heap-of_request e requests.Abandon leaves = refl
+  heap-of_request e (requests.Idle words) leaves = refl
+  heap-of_request e (requests.Resize words) leaves = absurd leaves
+  heap-of_request e requests.Trays leaves = refl
+  heap-of_request e requests.Stat leaves = refl
+  heap-of_request e requests.Dump leaves = refl
 
   heap_after-append : (h : HeapState) (one other : List (Event A)) → heap_after h (one ++ other) ≡ heap_after (heap_after h one) other
   heap_after-append h [] other = refl
   heap_after-append h (event ∷ one) other = heap_after-append (event_step h event).0 one other
 
   -- the heap after requests is the heap after their events
-  pub heap-after_requests : (e : EngineState) (requests : List Request) → (engine_after e requests).heap ≡ heap_after {A = A} e.heap (events_of e requests)
-  heap-after_requests e [] = refl
-  heap-after_requests e (request ∷ others) =
+  pub heap-after_requests : (e : EngineState) (requests : List Request) → AllByRecursion LeavesSizes requests → (engine_after e requests).heap ≡ heap_after {A = A} e.heap (events_of e requests)
+  heap-after_requests e [] leave = refl
+  heap-after_requests e (request ∷ others) leave =
       let next = (request_step e request).0 in
-      heap-after_requests next others
-      ∙ ap (λ h. heap_after {A = A} h (events_of next others)) (heap-of_request e request)
+      heap-after_requests next others leave.1
+      ∙ ap (λ h. heap_after {A = A} h (events_of next others)) (heap-of_request e request leave.0)
       ∙ sym (heap_after-append e.heap (request_events e request) (events_of next others))
 
   tells-deal : (why : Option DealRefusal) (e : EngineState) (kind : Kind) (most : ℕ) (name : List ℕ) → TellsAnswer (answers_of {A = A} e.heap (told.event_unless why (events.Deal kind most))) (answered.Deal (deal_unless why e kind most name).1)
@@ -110,6 +114,7 @@ module _ (A : Type 0) where
   answer-of_request e requests.Recall = refl
   answer-of_request e requests.Abandon = refl
   answer-of_request e (requests.Idle words) = refl
+  answer-of_request e (requests.Resize words) = tt
   answer-of_request e requests.Trays = tt
   answer-of_request e requests.Stat = tt
   answer-of_request e requests.Dump = tt

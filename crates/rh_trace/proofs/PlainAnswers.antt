@@ -21,7 +21,7 @@ use Rattle.rh_core.specs.runs.Run.{event_step}
 use Rattle.rh_core.specs.Stat.{stat_of}
 use Rattle.rh_engine.specs.declared.engine.DealRefusal.{DealRefusal}
 use Rattle.rh_engine.specs.Trays.{Trays, Tray, tray_named, replica_of}
-use Rattle.rh_engine.specs.Engine.{EngineState, command_step, begin_line_step, shade_line_step, deal_line_step, deal_unless, deal_done, tray_refusal, give_line_step, give_found, join_line_step, flip_line_step, recall_line_step, abandon_line_step, idle_line_step}
+use Rattle.rh_engine.specs.Engine.{EngineState, command_step, begin_line_step, shade_line_step, deal_line_step, deal_unless, deal_done, tray_refusal, give_line_step, give_found, join_line_step, flip_line_step, recall_line_step, abandon_line_step, idle_line_step, resize_line_step}
 use Rattle.rh_syntax.specs.declared.fault.TraceFault.{TraceFault}
 use Rattle.rh_trace.specs.declared.run_fault.RunFault.{RunFault}
 use Rattle.rh_trace.specs.declared.run_fault.RunFault.TheVariants as faults
@@ -37,6 +37,7 @@ use Rattle.rh_trace.specs.Answers as answers
 use Rattle.rh_trace.specs.Answers.{Answered, answered_text, total_line}
 use Rattle.rh_trace.specs.Run.{config_of, request_step, answers_to, new_run, answers_of, summary_of, output_of, run_of_script, run_of_trace, text_of, StopsBeforeTotal, Ends, IsPlainAnswer, plain_after, AreTransparent, IsPlainRun}
 use Rattle.rh_syntax.specs.lemmas.ReadIsSpelled.{trace_of-means}
+use Rattle.rh_trace.proofs.ResizedHeaps.{resize-well_formed, resize-stands}
 
 -- a new heap stands for the empty plain heap
 abbrev pub Begins : Type 0
@@ -94,6 +95,7 @@ module _ {A : Type 0} (keeps : StaysWellFormed A) (steps : Steps A) where
   request-answer dumps requests.Recall e p plain = ((recall_line_step e).1, refl)
   request-answer dumps requests.Abandon e p plain = ((abandon_line_step e).1, refl)
   request-answer dumps (requests.Idle words) e p plain = ((idle_line_step e words).1, refl)
+  request-answer dumps (requests.Resize words) e p plain = ((resize_line_step e words).1, refl)
   request-answer dumps requests.Trays e p plain = (e.trays, refl)
   request-answer dumps requests.Stat e p plain = (stat_of e.heap, refl)
   request-answer dumps requests.Dump e p plain = ap answers.Dump (dumps e.heap p plain.1)
@@ -110,6 +112,7 @@ module _ {A : Type 0} (keeps : StaysWellFormed A) (steps : Steps A) where
   request-plain requests.Recall e p plain = event-plain e.heap p plain happenings.Recall
   request-plain requests.Abandon e p plain = event-plain e.heap p plain happenings.Abandon
   request-plain (requests.Idle words) e p plain = event-plain e.heap p plain (happenings.Idle words)
+  request-plain (requests.Resize words) e p plain = (resize-well_formed e words plain.0, resize-stands e words p plain.1)
   request-plain requests.Trays e p plain = plain
   request-plain requests.Stat e p plain = plain
   request-plain requests.Dump e p plain = plain

@@ -1,5 +1,5 @@
 -- After each request the trays are at most 64, with their entries in order of place.
-use Rattle.std.proofs.Common.{◌≡◌, ℕ, ◌+◌, ◌≤◌, subst, Bool, true, false, not, cond, ◌==◌, ◌&&◌, if◌then◌else◌, List, [], ◌∷◌, length, Option, Some, None, is_none, unwrap_or, Result, Ok, Err, refl, arith}
+use Rattle.std.proofs.Common.{◌≡◌, ℕ, ◌+◌, ◌≤◌, subst, Bool, true, false, not, cond, ◌==◌, ◌&&◌, if◌then◌else◌, List, [], ◌∷◌, length, Option, Some, None, is_none, unwrap_or, Result, Ok, Err, refl, sym, arith}
 use Rattle.std.specs.Prelude.{nat_le, nat_lt}
 use Rattle.std.specs.List.Sorted.{IsStrictlySortedBy}
 use Rattle.std.specs.Str.{bytes_eq}
@@ -20,6 +20,7 @@ use Rattle.rh_engine.specs.declared.trays.JoinRefusal.TheVariants as join_refusa
 use Rattle.rh_engine.specs.Engine.{EngineState, tray_refusal, deal_done, deal_unless, give_found}
 use Rattle.rh_trace.specs.Run.{request_step, engine_after}
 use Rattle.rh_engine.specs.Trays.{Tray, Trays, tray_named, trays_with, tray_with, tray_or_empty, empty_tray, is_beyond, joined_into, join_found, with_join, IsInOrder, AreInOrder, AreFewInOrder}
+use Rattle.rh_engine.proofs.ResizeOrder.{resize-trays}
 use Rattle.rh_engine.proofs.TrayEntries.{rises-with_all}
 
 named_by : (b : Bool) (t u : Tray) (rest : Option Tray) → IsInOrder t → (rest ≡ Some u → IsInOrder u) → cond b (Some t) rest ≡ Some u → IsInOrder u
@@ -122,6 +123,7 @@ order-request e requests.Flip were = were
 order-request e requests.Recall were = were
 order-request e requests.Abandon were = were
 order-request e (requests.Idle words) were = were
+order-request e (requests.Resize words) were = subst AreFewInOrder (sym (resize-trays e words)) were
 order-request e requests.Trays were = were
 order-request e requests.Stat were = were
 order-request e requests.Dump were = were

@@ -15,16 +15,17 @@ use Rattle.rh_core.specs.declared.stat as stats
 use Rattle.rh_dump.specs.Dump.{GraphState}
 use Rattle.rh_dump.specs.texts.Line.{dump_text}
 use Rattle.rh_syntax.specs.CommandAnswers.{answer_text, IsU128}
-use Rattle.rh_engine.specs.CycleAnswers.{begin_text, shade_text, deal_text, give_text, join_text, flip_text, recall_text, abandon_text, idle_text, tray_text, stat_text}
+use Rattle.rh_engine.specs.CycleAnswers.{begin_text, shade_text, deal_text, give_text, join_text, flip_text, recall_text, abandon_text, idle_text, resize_text, tray_text, stat_text}
 use Rattle.rh_engine.specs.Trays as trays
 use Rattle.rh_engine.specs.declared.engine.TrayDeal.{TrayDeal}
 use Rattle.rh_engine.specs.declared.engine.DealRefusal.{DealRefusal}
 use Rattle.rh_engine.specs.declared.engine.GiveRefusal.{GiveRefusal}
+use Rattle.rh_engine.specs.declared.engine.ResizeRefusal.{ResizeRefusal}
 use Rattle.rh_trace.specs.declared.summary.Summary.{Summary}
 use Rattle.rh_engine.specs.declared.trays.JoinRefusal.{JoinRefusal}
 
 -- what is answered to a line: a reply or a refusal to a command, an outcome or a refusal to a step
--- of a cycle, the trays, the numbers of a heap, or the dump of a graph
+-- of a cycle, the words of a space or a refusal to a resize, the trays, the numbers of a heap, or the dump of a graph
 pub data Answered : Type 0 where
   Answer : (answer : Result Reply Refusal) → Answered
   Begin : (answer : Result ℕ BeginError) → Answered
@@ -36,6 +37,7 @@ pub data Answered : Type 0 where
   Recall : (answer : Result ℕ RecallError) → Answered
   Abandon : (answer : Result ℕ NoCycle) → Answered
   Idle : (answer : Result ℕ IdleError) → Answered
+  Resize : (answer : Result ℕ ResizeRefusal) → Answered
   Listing : (listed : trays.Trays) → Answered
   Numbers : (stat : stats.Stat.Stat) → Answered
   Dump : (graph : GraphState) → Answered
@@ -64,6 +66,7 @@ answered_text (Flip answer) = with_line_end (flip_text answer)
 answered_text (Recall answer) = with_line_end (recall_text answer)
 answered_text (Abandon answer) = with_line_end (abandon_text answer)
 answered_text (Idle answer) = with_line_end (idle_text answer)
+answered_text (Resize answer) = with_line_end (resize_text answer)
 answered_text (Listing listed) = trays_text listed
 answered_text (Numbers stat) = with_line_end (stat_text stat)
 answered_text (Dump graph) = dump_text graph

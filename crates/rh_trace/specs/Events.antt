@@ -47,11 +47,16 @@ module _ {A : Type 0} where
   request_events e (requests.Idle words) = events.Idle words ∷ []
   request_events e other = []
 
-  -- the events that requests are to the heap, in order
+  -- the events that requests are to the heap, in order; a resize is none
   abbrev pub events_of : EngineState → List Request → List (Event A)
   events_of e [] = []
   events_of e (request ∷ others) =
       request_events e request ++ events_of (request_step e request).0 others
+
+-- the request leaves the sizes of the heap: it is no resize
+abbrev pub LeavesSizes : Request → Type 0
+LeavesSizes (requests.Resize words) = ⊥
+LeavesSizes other = Unit {0}
 
 -- the request is an owner's command
 abbrev pub is_command : Request → Bool

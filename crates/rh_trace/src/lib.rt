@@ -14,7 +14,9 @@ mod summary;
 
 pub use answers::put_total;
 pub use heap_dump::graph;
-pub use rh_engine::{DealRefusal, Engine, GiveRefusal, JoinRefusal, TrayDeal, Trays};
+pub use rh_engine::{
+    DealRefusal, Engine, GiveRefusal, JoinRefusal, ResizeRefusal, TrayDeal, Trays,
+};
 pub use rh_syntax::{
     Header, Kind, Line, ParseError, Request, Trace, TraceFault, TrayName, command_of, parse, print,
     print_logged, tray_name_of, write_answer, write_answer_logged, write_command,

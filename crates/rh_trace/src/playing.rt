@@ -22,7 +22,7 @@ use rh_core::Heap;
 use rh_dump::write_dump_logged;
 use rh_engine::{
     Engine, Trays, put_abandon, put_begin, put_deal, put_flip, put_give, put_idle, put_join,
-    put_recall, put_shade, put_stat, put_tray,
+    put_recall, put_resize, put_shade, put_stat, put_tray,
 };
 use rh_layout::Command;
 use rh_layout::limits::MAX_CALLS;
@@ -190,6 +190,7 @@ fn play_request<A: Allocator + Copy, W: io::Write>(
         Request::Recall => put_recall(text, engine.recall()),
         Request::Abandon => put_abandon(text, engine.abandon()),
         Request::Idle { words } => put_idle(text, engine.idle(words.into())),
+        Request::Resize { words } => put_resize(text, engine.resize(words)?),
         Request::Trays => return write_trays(engine.trays(), text, writer, writes),
         Request::Stat => put_numbers(engine.heap(), text),
         Request::Dump => return write_heap_dump(alloc, engine.heap(), writer, writes),

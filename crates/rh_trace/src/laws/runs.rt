@@ -1,16 +1,21 @@
 //! Laws of the requests of a trace, run one after the other.
 
-ghost use Rattle.std.specs.Prelude.{◌≡◌, ℕ, ◌^◌, List, [], Some};
+ghost use Rattle.std.specs.Prelude.{◌≡◌, ℕ, ◌^◌, List, [], ◌++◌, Some};
+ghost use Rattle.std.specs.List.{AllByRecursion};
+ghost use Rattle.rh_layout.specs.declared.item.Item.{Item};
 ghost use Rattle.rh_layout.specs.declared.kind.Kind.{Kind as PieceKind};
 ghost use Rattle.rh_core.specs.Giving.{HaveDistinctPlaces};
-ghost use Rattle.rh_core.specs.Heap.{new_heap};
+ghost use Rattle.rh_model.specs.Plain.{PlainHeap};
+ghost use Rattle.rh_core.specs.Mutator.{StandsFor};
+ghost use Rattle.rh_core.specs.Heap.{new_heap, IsWellFormed};
+ghost use Rattle.rh_core.specs.runs.Stores.{IsStoreList};
 ghost use Rattle.rh_core.specs.runs.Run.{answers_of, heap_after};
 ghost use Rattle.rh_core.specs.Stat.{stat_of};
 ghost use Rattle.rh_trace.specs.Answers as answers;
-ghost use Rattle.rh_engine.specs.Engine.{EngineState, deal_line_step, give_line_step, join_line_step};
-ghost use Rattle.rh_trace.specs.Events.{events_of, request_events, MayChangeTrays, TellsAnswer};
+ghost use Rattle.rh_engine.specs.Engine.{EngineState, deal_line_step, give_line_step, join_line_step, resize_line_step};
+ghost use Rattle.rh_trace.specs.Events.{events_of, request_events, LeavesSizes, MayChangeTrays, TellsAnswer};
 ghost use Rattle.rh_trace.specs.HeapDump.{dump_of};
-ghost use Rattle.rh_trace.specs.Run.{config_of, engine_after, new_run, request_step};
+ghost use Rattle.rh_trace.specs.Run.{config_of, answers_to, engine_after, new_run, request_step};
 ghost use Rattle.rh_syntax.specs.Spelling.{Script};
 ghost use Rattle.rh_engine.specs.Trays.{Tray, tray_named, AreFewInOrder};
 ghost use Rattle.rh_syntax.specs.declared.line.Header.{Header as HeaderOf};
@@ -19,17 +24,51 @@ ghost use Rattle.rh_syntax.specs.declared.request.Request.TheVariants as forms;
 
 use std::alloc::Allocator;
 
-/// The heap after the requests of a trace is the heap after the events that they are to it, and
-/// what is answered to such a request is what the heap answers to its event. So what is promised of
-/// every run of events holds of every trace, and a promise that asks of a replica that no two of
-/// its entries are of one place holds too: see [`the_trays_of_a_trace_stand_in_order`].
+/// Where no request of a trace is a resize, the heap after them is the heap after the events that
+/// they are to it. What is answered to a request that is an event is what the heap answers to its
+/// event. So what is promised of every run of events holds of every trace that has no `resize`
+/// line, and of the parts of any other: see [`a_trace_stands_in_parts`]. A promise that asks of a
+/// replica that no two of its entries are of one place holds too: see
+/// [`the_trays_of_a_trace_stand_in_order`].
 pub fn the_lines_of_a_trace_are_events<A: Allocator + Copy>()
     ensures heap { (e : EngineState) (requests : List RequestOf)
+        → AllByRecursion LeavesSizes requests
         → (engine_after e requests).heap
         ≡ heap_after {A = A} e.heap (events_of {A = A} e requests) }
     ensures answer { (e : EngineState) (request : RequestOf)
         → TellsAnswer (answers_of {A = A} e.heap (request_events {A = A} e request))
         (request_step e request).1 }
+{}
+
+/// The requests of a trace may be taken in two parts: the second goes on from the heap and the trays
+/// that the first leaves. So a trace with `resize` lines is runs of events, each from the heap that
+/// the resize before it leaves.
+pub fn a_trace_stands_in_parts()
+    ensures engine { (e : EngineState) (before after : List RequestOf)
+        → engine_after e (before ++ after) ≡ engine_after (engine_after e before) after }
+    ensures answered { (e : EngineState) (before after : List RequestOf)
+        → answers_to e (before ++ after)
+        ≡ answers_to e before ++ answers_to (engine_after e before) after }
+{}
+
+/// A resize is the engine's step, and no event: whether there is memory for it isn't told by the
+/// heap, and where there is none the run ends. It leaves a well-formed heap well formed, and the
+/// heap goes on to stand for each plain heap that it stands for, and to have each of its store
+/// lists. So what is promised of every run from such a heap holds of the requests after it.
+pub fn a_resize_leaves_what_a_heap_stands_for()
+    ensures step { (e : EngineState) (words : ℕ)
+        → request_step e (forms.Resize words) ≡ (
+          (resize_line_step e words).0,
+          answers.Resize (resize_line_step e words).1,
+        ) }
+    ensures heap { (e : EngineState) (words : ℕ) → IsWellFormed e.heap
+        → IsWellFormed (request_step e (forms.Resize words)).0.heap }
+    ensures stands { (e : EngineState) (words : ℕ) (p : PlainHeap)
+        → StandsFor e.heap.mutators p
+        → StandsFor (request_step e (forms.Resize words)).0.heap.mutators p }
+    ensures stores { (e : EngineState) (words : ℕ) (stores : List Item)
+        → IsStoreList e.heap stores
+        → IsStoreList (request_step e (forms.Resize words)).0.heap stores }
 {}
 
 /// A trace begins with a new heap of the sizes of its first line, 2^62 store numbers and 2^62
