@@ -34,6 +34,9 @@ Lines of a cycle                 Answer
   abandon                        abandoned OBJECTS: the cycle ends without a flip
   idle N                         idle WORDS: units that the cycle has beside those of allocation
 
+Sizes                            Answer
+  resize WORDS                   words WORDS: so many in each space from then on, in a cycle too
+
 Listings                         Answer
   trays                          tray NAME epoch E entries N, for each tray
   stat                           stat used U free F cycle on epoch E ..: the numbers of the heap
@@ -42,16 +45,16 @@ Listings                         Answer
 
 ROOT, DST, SRC, OBJ, A and B are roots, OWNER.SLOT, as 1.0; owner 0's slots are shared. OPERAND is
 nil, a root, or a whole number from -2^63 to 2^63 - 1 (any other is the fault Number), of which one
-that isn't from -2^61 to 2^61 - 1 is refused IntRange. FIELD, from 0, FIELDS, MOST and the N of
-`idle` are 0 to 4294967295; an object of more than 4095 FIELDS is refused FieldsRange. A number has
-no leading zero and no +, and -0 is none. TRAY is a letter a to z and at most 15 of a to z, 0 to 9
-and _. What can't be done is answered `refused NAME`, changes nothing, and the run goes on. Two
-heaps are the same graph exactly where their dumps are the same text: cut them out, from `rheap 2`
-to `end`, and use cmp.
+that isn't from -2^61 to 2^61 - 1 is refused IntRange. FIELD, from 0, FIELDS, MOST, the N of
+`idle` and the WORDS of `resize` are 0 to 4294967295; an object of more than 4095 FIELDS is refused
+FieldsRange. A number has no leading zero and no +, and -0 is none. TRAY is a letter a to z and at
+most 15 of a to z, 0 to 9 and _. What can't be done is answered `refused NAME`, changes nothing, and
+the run goes on. Two heaps are the same graph exactly where their dumps are the same text: cut them
+out, from `rheap 2` to `end`, and use cmp.
 
 With --paced the heap collects by itself, an increment of a cycle after each accepted allocation,
-and in a cycle after each accepted store. The trace has commands alone: once it has been read a line
-of a cycle or a listing is the fault Word. A cycle begins where fewer than N words are free, as
+and in a cycle after each accepted store. The trace has commands alone: once it has been read any
+other line is the fault Word. A cycle begins where fewer than N words are free, as
 --mark N says; 0 begins none. Without it the program takes the lowest mark that keeps up with the
 biggest object that the trace asks for, also where it is refused. While no more is reached, as a
 cycle begins, than about 45, 68, 83 or 91 % of WORDS at RATIO 8, 16, 32 or 64, where objects are
@@ -128,7 +131,7 @@ Statuses:
 
 On failure standard error has one line, as `rheap: line 3: Word`; where the command line isn't
 understood it may have several. Faults are those of `run`, and
-  line L: Word     the line is of a cycle or a listing
+  line L: Word     the line is no command
   line L: Root     the line's owner isn't below OWNERS
   history differs  the status is 4
 
