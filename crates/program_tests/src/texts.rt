@@ -77,6 +77,15 @@ pub const JOINED_ANSWERS: &[u8] =
         given joined 0 repeated 2 stale 0 placed 0\nflipped roots 1 live 4\n\
         total commands 4 refused 0 flips 1 rootwords 1\n";
 
+/// Spaces that get fewer words, and more than they had at first.
+pub const RESIZED: &[u8] =
+    b"heap 16 8 4 2 2\n1 alloc 1.0 2\nresize 16\nresize 8\nresize 4096\nresize 3\n\
+        1 alloc 1.1 4000\nresize 4000\n";
+
+pub const RESIZED_ANSWERS: &[u8] =
+    b"object 2\nwords 16\nwords 8\nwords 4096\nrefused BadSpace\nobject 4000\n\
+        refused Used 4006\ntotal commands 2 refused 0 flips 0 rootwords 0\n";
+
 /// A tray of 65 entries, for which credit is short too.
 pub const TOO_MANY: &[u8] =
     b"heap 1024 56 8 2 2\n1 alloc 1.0 65\nbegin\n1 alloc 1.1 5\nshade 1.0\ndeal copies 64 a\n\

@@ -15,7 +15,7 @@ const KEYWORDS: &[u8] =
     b"heap 16 8 4 2 2\n1 alloc 1.0 2\n1 raw 1.1 3\n1 load 1.1 1.0 0\n1 store 1.0 0 5\n1 copy 1.1 0.0\n\
         1 same 1.0 1.1\n1 drop 1.0\nbegin\nshade 1.0\ndeal copies 4294967295 t\n\
         deal entries 0 a_2z9\ngive abcdefghijklmnop\njoin t a_2z9\nflip\nrecall\nabandon\n\
-        idle 4294967295\ntrays\nstat\ndump\n";
+        idle 4294967295\nresize 4294967295\ntrays\nstat\ndump\n";
 
 /// Stores of each kind of operand, and lines of the greatest numbers.
 const OPERANDS: &[u8] =
@@ -55,6 +55,7 @@ const SHOWN: &[(&[u8], &str, &[&str])] = &[
             "Recall",
             "Abandon",
             "Idle { words: 4294967295 }",
+            "Resize { words: 4294967295 }",
             "Trays",
             "Stat",
             "Dump",
@@ -96,7 +97,7 @@ fn reads_each_keyword(rt: HostRuntime) {
             lines = lines.saturating_add(1);
         }
     }
-    expect_equal(&rt, lines, 26);
+    expect_equal(&rt, lines, 27);
     assert!(rt; size_of::<Line>() <= 40 && size_of::<Request>() <= 40);
 }
 

@@ -5,8 +5,9 @@ use crate::expectations::{Row, expect_bytes, expect_equal, expect_prefix, expect
 use crate::texts::{
     DUMPS, DUMPS_ANSWERS, FOUR_CYCLES, FOUR_CYCLES_ANSWERS, JOINED, JOINED_ANSWERS, LARGE_TRAYS,
     LARGE_TRAYS_ANSWERS, LONG_ANSWER, LONG_HEADER, LONG_LINE, RAW_OBJECT, RAW_OBJECT_ANSWERS,
-    TOO_MANY, TOO_MANY_ANSWERS, TWO_EPOCHS, TWO_EPOCHS_ANSWERS, WHOLE_CYCLE, WHOLE_CYCLE_ANSWERS,
-    WITHOUT_FIELDS, WITHOUT_FIELDS_ANSWERS, add_numbered, repeated, without_last_line,
+    RESIZED, RESIZED_ANSWERS, TOO_MANY, TOO_MANY_ANSWERS, TWO_EPOCHS, TWO_EPOCHS_ANSWERS,
+    WHOLE_CYCLE, WHOLE_CYCLE_ANSWERS, WITHOUT_FIELDS, WITHOUT_FIELDS_ANSWERS, add_numbered,
+    repeated, without_last_line,
 };
 use refusing::refused_in_turn;
 use rh_trace::{RunFault, Summary, run_trace};
@@ -213,9 +214,9 @@ fn refused_memory(rt: HostRuntime) -> Result<(), Fail> {
     Ok(())
 }
 
-/// Traces that use trays, with their answers, how many refusals there are at least, and the numbers
-/// of writes before them: none, or those before a join, or before a deal for which the tray has no
-/// room.
+/// Traces that use trays, and one whose spaces get other sizes, with their answers, how many
+/// refusals there are at least, and the numbers of writes before them: none, or those before a join,
+/// before a deal for which the tray has no room, or before a space that was never so large.
 const TRAYS: &[(&[u8], &[u8], u64, u32)] = &[
     (JOINED, JOINED_ANSWERS, 20, 0b1_1110_1010_0001),
     (TWO_EPOCHS, TWO_EPOCHS_ANSWERS, 18, 0b1111_0000_0010_0001),
@@ -225,6 +226,7 @@ const TRAYS: &[(&[u8], &[u8], u64, u32)] = &[
         25,
         0b11_1100_1011_1101_1100_0001,
     ),
+    (RESIZED, RESIZED_ANSWERS, 8, 0b1001),
 ];
 
 #[test]
