@@ -1,0 +1,9 @@
+//! Tests of the rule by which heaps grow, and of heaps that grow.
+#![tactic(auto)]
+
+#[cfg(test)]
+mod growing;
+#[cfg(test)]
+mod numbers;
+#[cfg(test)]
+mod rule;
