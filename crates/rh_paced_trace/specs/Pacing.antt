@@ -13,8 +13,8 @@ abbrev pub pace_at : ℕ → Header → Pace
 pace_at mark header = record { mark = mark; store_units = header.ratio; log_limit = header.log }
 
 -- The filling pace of a space of so many words: the lowest that keeps up with all words that it
--- leaves, with a log for its lag. Or why there is none: the ratio is less than 4, or else the space has fewer words than are
--- needed, which are told.
+-- leaves, with a log for its lag. Or why there is none: the ratio is less than 4, or else the space
+-- has fewer words than are needed, which are told.
 abbrev pub IsFilling : ℕ → ℕ → ℕ → Result Pace PaceError → Type 0
 IsFilling words biggest ratio (Ok pace) =
     KeepsUp words (words_left words pace) biggest ratio pace

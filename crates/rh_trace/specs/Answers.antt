@@ -25,7 +25,8 @@ use Rattle.rh_trace.specs.declared.summary.Summary.{Summary}
 use Rattle.rh_engine.specs.declared.trays.JoinRefusal.{JoinRefusal}
 
 -- what is answered to a line: a reply or a refusal to a command, an outcome or a refusal to a step
--- of a cycle, the words of a space or a refusal to a resize, the trays, the numbers of a heap, or the dump of a graph
+-- of a cycle, the words of a space or a refusal to a resize, the trays, the numbers of a heap, or the
+-- dump of a graph
 pub data Answered : Type 0 where
   Answer : (answer : Result Reply Refusal) → Answered
   Begin : (answer : Result ℕ BeginError) → Answered
