@@ -2,6 +2,7 @@
 
 mod cycle;
 mod giving;
+mod headline;
 mod heap;
 mod raw_objects;
 mod resizing;
