@@ -36,6 +36,7 @@ use Rattle.rh_pace.proofs.kept_up.Collections.{IsPaced-collect_step, IsWellForme
 use Rattle.rh_pace.proofs.kept_up.Room.{TakesNone-collect_step, pace-collect_step}
 use Rattle.rh_pace.proofs.in_time.Calls.{IsInTime-paced_heap, IsInTime-paced_step}
 use Rattle.rh_pace.proofs.in_time.Collected.{IsInTime-collect_step, IsInTime-with_increment, insisted-in_time}
+use Rattle.rh_pace.proofs.in_time.Ends.{ends_of}
 use Rattle.rh_pace.proofs.in_time.Epochs.{config-paced_step, pace-paced_step}
 use Rattle.rh_pace.proofs.in_time.Lists.{config-after_increment}
 use Rattle.rh_pace.proofs.in_time.Room.{full-paced_step, room-paced_step}
@@ -359,7 +360,7 @@ module _ (laws : StepLaws) (live biggest : ℕ) where
     pub insisted-same : (owner : ℕ) (command : Command) → words_made command ≤ biggest → HasLog biggest s
         → insist_step s owner command ≡ paced_step s owner command
     insisted-same owner command fits log =
-        insisted-in_time laws live biggest s keeps.well keeps.paced keeps.in_time owner command fits log
+        insisted-in_time laws live biggest s keeps.well keeps.paced (ends_of keeps.in_time) owner command fits log
 
     KeepsTime-insist_step : (owner : ℕ) (command : Command) → StaysWithin live biggest s owner command → HasLog biggest s
         → KeepsTime live biggest (insist_step s owner command).0
@@ -459,7 +460,7 @@ module _ (laws : StepLaws) (live biggest : ℕ) where
       spent-told : (owner : ℕ) (command : Command) → words_made command ≤ biggest → (told : Result Reply Refusal)
           → told ≡ (paced_step s owner command).1 → wants_room told ≡ true → AreEpochsSpent s.heap
       spent-told owner command fits told is wants =
-          elim (room-paced_step live biggest s keeps.well keeps.paced keeps.in_time owner command fits log) [
+          elim (room-paced_step live biggest s keeps.well keeps.paced (ends_of keeps.in_time) owner command fits log) [
             | inl quiet ↦ absurd (true≢false (sym wants ∙ ap wants_room is ∙ quiet))
             | inr spent ↦ spent
           ]
@@ -503,7 +504,7 @@ module _ (laws : StepLaws) (live biggest : ℕ) where
         → told ≡ (paced_step s owner command).1 → 8 ≡ status_of told → AreEpochsSpent s.heap
     no_space-told owner command fits told is status =
         let full = full_told told status in
-        full-paced_step live biggest s keeps.well keeps.paced keeps.in_time owner command fits full.0 full.1 (sym is ∙ full.2)
+        full-paced_step live biggest s keeps.well keeps.paced (ends_of keeps.in_time) owner command fits full.0 full.1 (sym is ∙ full.2)
 
     no_space-answer_to : (call : Call) → CallStaysWithin live biggest s call → InsistsOnNothing call → 8 ≡ (answer_to s call).status → AreEpochsSpent s.heap
     no_space-answer_to (Does owner command) within nothing status = no_space-told owner command within.words _ refl status
