@@ -31,4 +31,4 @@ returns-clause-worked c = λ rounds few.
     let same : commands_in script.requests ≡ queue_calls 248 rounds = commands_in-map (queue_calls 248 rounds) in
     let count = ap (λ (calls : Commands). length calls) same ∙ length-queue rounds in
     let bounded = subst (AreBounded 1000 4 (empty_plain 2 3)) (sym same) (c.a_queue_in_45_percent_of_the_space_has_room.ensures.bounded 248 rounds 1000 (omega arith)) in
-    (returns-clause-commands c script refl 1000 4 (pace_at 609 script.header) (record { room = omega arith; enough = omega arith; fits = omega arith; store_units = refl }) (omega arith) bounded (omega (arith, count, few))).0
+    (returns-clause-commands c script refl 1000 4 (pace_at 609 script.header) (record { paces = record { room = omega arith; enough = omega arith; store_units = refl }; fits = omega arith }) (omega arith) bounded (omega (arith, count, few))).0
