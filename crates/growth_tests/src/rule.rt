@@ -59,7 +59,7 @@ impl Trial {
 
     /// The fields of the next object.
     fn fields(self, numbers: &mut Numbers) -> u32 {
-        let most = self.biggest - 2;
+        let most = self.biggest.saturating_sub(2).max(1);
         match self.kind {
             0 | 1 => most,
             2 => 1,
