@@ -167,7 +167,7 @@ fn is_refused<R: AllocGlobal + Abort>(rt: &R, trial: Trial) -> bool {
 
 /// How many of the trials are refused for room, where the mark is lower by so many words.
 fn refused<R: AllocGlobal + Abort>(rt: &R, lower: u32) -> u32 {
-    let mut refused = 0;
+    let mut refused = 0u32;
     for seed in 0..200u32 {
         let trial = Trial {
             seed,
@@ -178,7 +178,7 @@ fn refused<R: AllocGlobal + Abort>(rt: &R, lower: u32) -> u32 {
             lower,
         };
         if is_refused(rt, trial) {
-            refused += 1;
+            refused = refused.saturating_add(1);
         }
     }
     refused
