@@ -18,6 +18,8 @@ pub use Rattle.rh_core.specs.declared.errors.HeapError
 pub use Rattle.rh_core.specs.Commands
 pub use Rattle.rh_core.specs.Heap
 pub use Rattle.rh_core.specs.StoringAll
+pub use Rattle.rh_core.specs.Watching
+pub use Rattle.rh_core.specs.runs.Progress
 pub use Rattle.rh_pace.specs.declared.errors.PaceError
 pub use Rattle.rh_pace.specs.declared.errors.SizesError
 pub use Rattle.rh_pace.specs.Calls
@@ -32,3 +34,11 @@ pub use Rattle.rh_pace.specs.Programs
 pub use Rattle.rh_pace.specs.Reachable
 pub use Rattle.rh_pace.specs.Reaching
 pub use Rattle.rh_pace.specs.Sizes
+pub use Rattle.rh_growing.specs.declared.errors.GrowingError
+pub use Rattle.rh_growing.specs.declared.errors.Short
+pub use Rattle.rh_growing.specs.Growth
+pub use Rattle.rh_growing.specs.Growing
+-- These are of the heap that grows: their own names are those of modules of the paced heap.
+pub use Rattle.rh_growing.specs.Calls as GrowingCalls
+pub use Rattle.rh_growing.specs.KeepingUp as GrowingKeepsUp
+pub use Rattle.rh_growing.specs.Programs as GrowingPrograms

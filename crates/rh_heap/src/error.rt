@@ -2,9 +2,10 @@
 
 ghost use Rattle.std.specs.Prelude.{◌≡◌};
 ghost use Rattle.rh_heap.specs.declared.error.Error.TheVariants as errors;
-ghost use Rattle.rh_heap.specs.Error.{error_of_sizes, out_of_memory};
+ghost use Rattle.rh_heap.specs.Error.{error_of_growing, error_of_sizes, out_of_memory};
 
-use rh_core::HeapError;
+use rh_core::{HeapError, RoomError, WatchError};
+use rh_growing::GrowingError;
 use rh_layout::{OutOfMemory, Refusal};
 use rh_pace::{EpochsSpent, PaceError, SizesError};
 use std::alloc::{AllocError, AllocFailed};
@@ -19,12 +20,24 @@ pub enum Error {
     /// The sizes make no heap, or memory was refused for it.
     #[error("no heap: {0}")]
     Heap(HeapError),
+    /// The factor of a growth isn't 100 to 1,000 percent.
+    #[error("no heap: BadFactor")]
+    BadFactor,
+    /// The least words of a growth are above its most, or these above 16,777,216.
+    #[error("no heap: BadLimits")]
+    BadLimits,
     /// A call was refused.
     #[error("refused: {0}")]
     Refused(Refusal),
     /// Nothing was collected, since no epoch is left.
     #[error("nothing collected: {0}")]
     EpochsSpent(EpochsSpent),
+    /// There is no room for so many tickets.
+    #[error("no tickets: {0}")]
+    Room(RoomError),
+    /// An object isn't watched.
+    #[error("not watched: {0}")]
+    Watch(WatchError),
     /// Memory was refused for the answers to a list of commands, or for a collection of the
     /// runtime's own; not for the heap itself, which is `Heap`.
     #[error("{0}")]
@@ -58,6 +71,19 @@ impl From<SizesError> for Error {
     }
 }
 
+impl From<GrowingError> for Error {
+    ghost from_gives = { λ why error. error ≡ error_of_growing why };
+
+    fn from(why: GrowingError) -> Error {
+        match why {
+            GrowingError::BadFactor => Error::BadFactor,
+            GrowingError::BadLimits => Error::BadLimits,
+            GrowingError::Pace(why) => Error::Pace(why),
+            GrowingError::Heap(why) => Error::Heap(why),
+        }
+    }
+}
+
 impl From<Refusal> for Error {
     ghost from_gives = { λ why error. error ≡ errors.Refused why };
 
@@ -71,6 +97,22 @@ impl From<EpochsSpent> for Error {
 
     fn from(why: EpochsSpent) -> Error {
         Error::EpochsSpent(why)
+    }
+}
+
+impl From<RoomError> for Error {
+    ghost from_gives = { λ why error. error ≡ errors.Room why };
+
+    fn from(why: RoomError) -> Error {
+        Error::Room(why)
+    }
+}
+
+impl From<WatchError> for Error {
+    ghost from_gives = { λ why error. error ≡ errors.Watch why };
+
+    fn from(why: WatchError) -> Error {
+        Error::Watch(why)
     }
 }
 

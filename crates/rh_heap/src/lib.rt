@@ -3,24 +3,25 @@
 //! it, whose contracts hold as they stand there.
 //!
 //! ```rust
-//! use rh_heap::{Error, Operand, PacedHeap, Reply, RootId, Sizes};
+//! use rh_heap::{Error, GrowingHeap, Operand, Reply, RootId};
 //! use std::alloc::Allocator;
 //!
-//! const SIZES: Sizes = Sizes { words: 65_536, biggest: 4, ratio: 32, owners: 2, slots: 4 };
 //! const LIST: RootId = RootId { owner: 1, slot: 0 };
 //!
 //! fn first<A: Allocator + Copy>(alloc: A) -> Result<Reply, Error> {
-//!     let mut heap = PacedHeap::sized(alloc, SIZES)?;   // the only call that takes memory
-//!     heap.alloc(1, LIST, 2)?;                          // owner 1: its slot 0 names a new object
-//!     heap.store(1, LIST, 0, Operand::Int(7))?;         // with 7 in its first field
-//!     Ok(heap.peek(1, LIST, 0)?)                        // Reply::Int(7)
+//!     let mut heap = GrowingHeap::new(alloc, 4_000_000)?;   // of at most so many words
+//!     heap.alloc(1, LIST, 2)?;                              // owner 1: its slot 0 names an object
+//!     heap.store(1, LIST, 0, Operand::Int(7))?;             // with 7 in its first field
+//!     Ok(heap.peek(1, LIST, 0)?)                            // Reply::Int(7)
 //! }
 //! ```
 //!
+//! `PacedHeap::sized` makes a heap of fixed sizes, with a guarantee within them.
+//!
 //! A contract of your own may cite definitions. `specs/Lib.antt` passes on those of the crates below
 //! that such contracts need, under names as `Rattle.rh_heap.specs.InTime`; for any other list the
-//! crate that defines it. `laws` are the laws of the heap that collects by itself, `heap_laws` those
-//! of the heap below it.
+//! crate that defines it. `growing_laws` are the laws of the heap that grows, `laws` those of the
+//! heap that collects by itself, and `heap_laws` those of the heap below it.
 //!
 //! `CALLING.md` has a proved caller and the contracts in short. The crate `first_runtime` is a small
 //! runtime, whole, to be copied.
@@ -29,7 +30,14 @@
 mod error;
 
 pub use error::Error;
-pub use rh_core::{Config, ConfigFault, Flipped, Heap, HeapError, Stat, laws as heap_laws};
+pub use rh_core::{
+    Config, ConfigFault, Flipped, Heap, HeapError, ReleaseError, ResizeError, RoomError, Stat,
+    WatchError, laws as heap_laws,
+};
+pub use rh_growing::{
+    DEFAULT_AT_LEAST, DEFAULT_FACTOR, GrowingError, GrowingHeap, Growth, MAX_FACTOR, MIN_FACTOR,
+    Short, laws as growing_laws,
+};
 pub use rh_layout::{
     Command, MAX_FIELDS, MAX_INT, MAX_OWNERS, MAX_SLOTS, MIN_INT, Operand, OutOfMemory, Refusal,
     Reply, RootId, Value,
