@@ -6,14 +6,13 @@
 //! first number, and the list of the others. A text is a raw object with a character a field.
 #![tactic(auto)]
 
-ghost use Rattle.std.specs.Prelude.{◌≢◌, ◌≡◌, ◌↔◌, IfErr, IfOk, IsOk};
-ghost use Rattle.rh_heap.specs.Collecting.{insist_step};
-ghost use Rattle.rh_heap.specs.InTime.{IsInTime};
-ghost use Rattle.rh_heap.specs.Pace.{words_left};
+ghost use Rattle.std.specs.Prelude.{◌≢◌, ◌≡◌, ◌↔◌, ◌≤◌, ℕ, Bool, IfErr, IfOk, IsOk};
+ghost use Rattle.rh_heap.specs.Growing.{IsGrowingInTime, growing_insist};
+ghost use Rattle.rh_heap.specs.Progress.{words_made};
 ghost use Rattle.rh_heap.specs.Refusal.TheVariants.{LogFull};
 ghost use Rattle.rh_heap.specs.declared.error.Error.TheVariants as errors;
 
-use rh_heap::{Command, Error, Operand, PacedHeap, Reply, RootId, Sizes, Value};
+use rh_heap::{Command, Error, GrowingHeap, Operand, Reply, RootId, Value};
 use std::alloc::Allocator;
 use std::io;
 use std::process::ExitCode;
@@ -35,14 +34,9 @@ const NEW: RootId = RootId { owner: 1, slot: 3 };
 /// The most characters of a text.
 const LONGEST: u32 = 16;
 
-/// What the heap is made with. An object takes a word for each field, and 2 more.
-const SIZES: Sizes = Sizes {
-    words: 1024,
-    biggest: LONGEST + 2,
-    ratio: 32,
-    owners: 2,
-    slots: 4,
-};
+/// The most words that the heap may grow to, in each of its two spaces: 16 bytes a word. An object
+/// takes a word for each field, and 2 more.
+const AT_MOST: u32 = 1_000_000;
 
 /// An instruction.
 #[derive(Clone, Copy)]
@@ -67,17 +61,16 @@ const PROGRAM: &[Op] = &[
 /// The machine: all that it keeps is in its heap.
 #[derive(Drop)]
 struct Machine<A: Allocator + Copy> {
-    heap: PacedHeap<A>,
+    heap: GrowingHeap<A>,
 }
 
 impl<A: Allocator + Copy> Machine<A> {
-    /// A machine whose registers are all nil. Its heap collects in time, with as many live words as
-    /// `SIZES.live()` answers.
+    /// A machine whose registers are all nil. Its heap grows as its program needs it, and collects
+    /// in time whatever lives.
     fn new(alloc: A) -> Result<Machine<A>, Error>
-        ensures { IfOk result (λ machine.
-            IsInTime (words_left SIZES.words machine.heap.pace) SIZES.biggest machine.heap) }
+        ensures { IfOk result (λ machine. IsGrowingInTime machine.heap) }
     {
-        let heap = PacedHeap::sized(alloc, SIZES)?;
+        let heap = GrowingHeap::new(alloc, AT_MOST)?;
         Ok(Machine { heap })
     }
 
@@ -105,8 +98,8 @@ impl<A: Allocator + Copy> Machine<A> {
 
     fn turn(&mut self, to: RootId, from: RootId) -> Result<(), Error> {
         self.heap.drop(MACHINE, to)?;
-        // A list has fewer cells than the space has words.
-        for _ in 0..SIZES.words {
+        // A list has fewer cells than a space has words.
+        for _ in 0..AT_MOST {
             match self.pop(from)? {
                 Some(number) => self.push(to, number)?,
                 None => break,
@@ -144,10 +137,10 @@ impl<A: Allocator + Copy> Machine<A> {
     /// The character of the text in the register; `None` past its end, and where the register holds
     /// no text.
     fn character(&self, text: RootId, field: u32) -> Option<char> {
-        let Some(Value::Ref(address)) = self.heap.root(text) else {
+        let Some(Value::Ref(address)) = self.heap.paced().root(text) else {
             return None;
         };
-        if self.heap.raw(address) != Some(true) {
+        if self.heap.paced().raw(address) != Some(true) {
             return None;
         }
         match self.heap.peek(MACHINE, text, field) {
@@ -166,17 +159,22 @@ impl<A: Allocator + Copy> Machine<A> {
         })
     }
 
-    /// Does a command that may need room. Where there is none, the heap collects at once. For lack of
-    /// space it refuses only where what the registers reach and the new object don't fit together,
-    /// unless the epochs are spent. It never refuses for lack of room in the log. A number outside
-    /// -2^61 to 2^61 - 1 is refused too.
+    /// Does a command that may need room. Where there is none, the heap collects at once, and grows.
+    /// For lack of space it then refuses only where it has the most words, memory for more was
+    /// refused, or the epochs are spent. It never refuses for lack of room in the log. A number
+    /// outside -2^61 to 2^61 - 1 is refused too.
     fn insist(&mut self, command: Command) -> Result<(), Error>
-        ensures done { self.new.heap ≡ (insist_step self.old.heap MACHINE command).0 }
-        ensures answer { IsOk result ↔ IsOk (insist_step self.old.heap MACHINE command).1 }
+        ensures done { (given : ℕ → Bool)
+            × (self.new.heap ≡ (growing_insist given self.old.heap MACHINE command).0)
+            × (IsOk result ↔ IsOk (growing_insist given self.old.heap MACHINE command).1) }
+        ensures in_time { IsGrowingInTime self.old.heap
+            → words_made command ≤ self.old.heap.growth.biggest → IsGrowingInTime self.new.heap }
         ensures log { IfErr result (λ error. error ≢ errors.Refused LogFull) }
     {
-        self.heap.insist(MACHINE, &command)?;
-        Ok(())
+        match self.heap.insist(MACHINE, &command) {
+            Ok(_) => Ok(()),
+            Err(refusal) => Err(Error::Refused(refusal)),
+        }
     }
 }
 
@@ -191,10 +189,10 @@ enum Problem {
     Write(#[from] io::Error),
 }
 
-/// Runs the program a thousand times, and prints what the registers hold then, and how many cycles
-/// there were.
+/// Runs the program three thousand times, and prints what the registers hold then, and how many
+/// cycles there were.
 fn play<A: Allocator + Copy>(rt: &impl Print, machine: &mut Machine<A>) -> Result<(), Problem> {
-    for _ in 0..1000u32 {
+    for _ in 0..3_000u32 {
         machine.run(PROGRAM)?;
     }
     for field in 0..LONGEST {
@@ -202,13 +200,14 @@ fn play<A: Allocator + Copy>(rt: &impl Print, machine: &mut Machine<A>) -> Resul
             print!(rt; "{character}")?;
         }
     }
-    for _ in 0..SIZES.words {
+    for _ in 0..AT_MOST {
         let Some(number) = machine.pop(TURNED)? else {
             break;
         };
         print!(rt; " {number}")?;
     }
-    println!(rt; ", in {} cycles", machine.heap.stat().flips)?;
+    let stat = machine.heap.paced().stat();
+    println!(rt; ", in {} cycles", stat.flips)?;
     Ok(())
 }
 
