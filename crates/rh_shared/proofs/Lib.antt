@@ -9,3 +9,4 @@ pub mod OneReason
 pub mod Partings
 pub mod NewKept
 pub mod ComingAnswers
+pub mod CommandReplies

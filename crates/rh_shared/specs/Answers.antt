@@ -7,7 +7,7 @@ use Rattle.rh_layout.specs.declared.refusal.Refusal.{Refusal}
 use Rattle.rh_model.specs.Plain.{step}
 use Rattle.rh_mutator.specs.Commands.{LimitHolds}
 use Rattle.rh_mutator.specs.Mutator.{IsMutator, MutatorState, StandsFor}
-use Rattle.rh_core.specs.Heap.{IsWellFormed}
+use Rattle.rh_core.specs.Heap.{HeapState, IsWellFormed}
 use Rattle.rh_replay.specs.History.{HistoryState}
 use Rattle.rh_replay.specs.Legal.{IsLegal, replay}
 use Rattle.rh_increment.specs.declared.did.Did.{Did}
@@ -45,6 +45,13 @@ pub record DoesUnderLock (A : Type 0) (did : Did) : Type 0 where
   pub does : did ≡ (kept_increment met held).1
   pub collected : IsCollected A (most_units held.collector.config.replicators held.collector.heap)
       held.collector.heap (kept_increment met held).0.collector.heap
+
+-- The heap of something that may lie under a lock tells this.
+pub record TellsUnderLock (A : Type 0) {X : Type 0} (tells : HeapState → X) (told : X)
+    : Type 0 where
+  pub held : KeptState A
+  pub under : IsUnderLock held
+  pub same : told ≡ tells held.collector.heap
 
 -- a refusal after a history is the plain heap's; one for a limit refuses what the plain heap
 -- accepts, and the heap is at that limit

@@ -66,6 +66,10 @@ module _ {A : Type 0} where
     last = did_nothing;
   }
 
+  -- the same of another heap
+  abbrev pub of_heap : KeptState A → HeapState → KeptState A
+  of_heap k h = record k { collector = with_heap k.collector h }
+
   -- one increment, which is the last one then
   unfoldable pub kept_increment : Met → KeptState A → KeptState A × Did
   kept_increment met k = (

@@ -1,32 +1,41 @@
 //! Laws of calls, of new mutators and of closing. Each function does nothing: its contract is the
 //! law.
 
-ghost use Rattle.std.specs.Prelude.{◌≡◌, ℕ, ◌+◌, ◌<◌, ◌++◌, true, false, List, length, Some, Result, Ok, Err};
+ghost use Rattle.std.specs.Prelude.{◌≡◌, ◌↔◌, ℕ, ◌+◌, ◌<◌, ◌++◌, Bool, true, false, List, length, Some, Result, Ok, Err, IsOk};
 ghost use Rattle.rh_layout.specs.Command.{made_by};
 ghost use Rattle.rh_layout.specs.Refusal.{is_limit};
 ghost use Rattle.rh_layout.specs.declared.command.Command.{Command};
+ghost use Rattle.rh_layout.specs.declared.command.Command.TheVariants as commands;
+ghost use Rattle.rh_layout.specs.declared.command.Operand.{Operand};
 ghost use Rattle.rh_layout.specs.declared.command.Reply.{Reply};
+ghost use Rattle.rh_layout.specs.declared.command.Reply.TheVariants as replies;
 ghost use Rattle.rh_layout.specs.declared.command.RootId.{RootId};
 ghost use Rattle.rh_layout.specs.declared.refusal.Refusal.{Refusal};
 ghost use Rattle.rh_layout.specs.declared.refusal.Refusal.TheVariants.{LogFull, NumbersSpent, SpaceFull};
 ghost use Rattle.rh_layout.specs.declared.shape.Shape.{Shape};
+ghost use Rattle.rh_model.specs.Plain.{step};
 ghost use Rattle.rh_mutator.specs.Commands.{IsStoring};
 ghost use Rattle.rh_core.specs.Commands.{heap_step};
+ghost use Rattle.rh_core.specs.Stat.{stat_of};
 ghost use Rattle.rh_replay.specs.declared.call.Call.{Call};
+ghost use Rattle.rh_replay.specs.Legal.{replay};
 ghost use Rattle.rh_shared.specs.declared.closing.CloseError.{CloseError as CloseErrorOf};
 ghost use Rattle.rh_shared.specs.declared.closing.CloseError.TheVariants as close_errors;
 ghost use Rattle.rh_shared.specs.declared.kept.CallError.{CallError as CallErrorOf};
 ghost use Rattle.rh_shared.specs.declared.kept.CallError.TheVariants as call_errors;
-ghost use Rattle.rh_shared.specs.Answers.{AnswersUnderLock, ComesAfterHistory};
+ghost use Rattle.rh_shared.specs.Answers.{AnswersUnderLock, ComesAfterHistory, DoesUnderLock};
 ghost use Rattle.rh_shared.specs.Kept.{CallMeets, KeptState, kept_call, with_noted};
 ghost use Rattle.rh_shared.specs.Shares.{HasShares, IsOneEach, MutatorState, PartAt, WhyNotClosed, calls_of, first_mutators, share_of, with_answer};
 ghost use Rattle.rh_increment.specs.Collector.{with_heap};
+ghost use Rattle.rh_increment.specs.declared.did.Did.{Did as DidOf};
+ghost use Rattle.rh_increment.specs.Did.{did_nothing};
 ghost use Rattle.rh_increment.specs.Increment.{increment, Meets, Met};
 
 use rh_core::laws::{
     heaps_answer_as_plain_heaps, limits_refuse_exactly_where_they_are_met,
     refused_commands_change_nothing,
 };
+use rh_increment::laws::an_increment_begins_a_cycle_below_the_mark;
 use std::alloc::Allocator;
 
 /// A call of a full history changes nothing. Else a call that the heap accepts is followed by one
@@ -93,6 +102,49 @@ pub fn limits_refuse_only_what_they_can()
         → ComesAfterHistory owner command (Err (call_errors.Heap NumbersSpent))
         → IsStoring command }
 {}
+
+/// What a reply of a shared heap says of the command alone, before the heap is closed; and that a
+/// limit refuses what a plain heap accepts.
+///
+/// - `made` and `raw`: an allocation answers that an object of that many fields was made.
+/// - `stored` and `dropped`: a store and a drop answer that they are done.
+/// - `compared`: a comparison answers yes or no.
+/// - `limited`: a plain heap accepts a command that a limit refuses, after the same history.
+pub fn replies_are_of_the_command()
+    ensures made { (owner fields : ℕ) (dst : RootId) (reply : Reply)
+        → ComesAfterHistory owner (commands.Alloc dst fields) (Ok reply)
+        → reply ≡ replies.Object fields }
+    ensures raw { (owner fields : ℕ) (dst : RootId) (reply : Reply)
+        → ComesAfterHistory owner (commands.Raw dst fields) (Ok reply)
+        → reply ≡ replies.Raw fields }
+    ensures stored { (owner field : ℕ) (obj : RootId) (operand : Operand) (reply : Reply)
+        → ComesAfterHistory owner (commands.Store obj field operand) (Ok reply)
+        → reply ≡ replies.Done }
+    ensures dropped { (owner : ℕ) (root : RootId) (reply : Reply)
+        → ComesAfterHistory owner (commands.Drop root) (Ok reply) → reply ≡ replies.Done }
+    ensures compared { (owner : ℕ) (a b : RootId) (reply : Reply)
+        → ComesAfterHistory owner (commands.Same a b) (Ok reply)
+        → (equal : Bool) × (reply ≡ replies.Same equal) }
+    ensures limited { (owner : ℕ) (command : Command) (limit : Refusal) → is_limit limit ≡ true
+        → (comes : ComesAfterHistory owner command (Err (call_errors.Heap limit)))
+        → IsOk (step (replay comes.history) owner command).1 }
+{}
+
+/// An increment of something that may lie under a lock begins a cycle exactly where none is on,
+/// fewer words are free than the mark, and the epoch isn't the last. Where none is on and none
+/// begins, it does nothing.
+pub fn an_increment_under_a_lock_begins_a_cycle_below_the_mark<A: Allocator + Copy>()
+    ensures began { (did : DidOf) → (does : DoesUnderLock A did)
+        → (let s = does.held.collector in
+        (did.began ≡ true) ↔ ((s.heap.mutators.cycle ≡ false)
+        × ((stat_of s.heap).free < s.config.mark)
+        × (s.heap.epoch < s.heap.mutators.config.last_epoch))) }
+    ensures outside { (did : DidOf) → (does : DoesUnderLock A did)
+        → does.held.collector.heap.mutators.cycle ≡ false → did.began ≡ false
+        → did ≡ did_nothing }
+{
+    an_increment_begins_a_cycle_below_the_mark::<A>();
+}
 
 /// A mutator's share grows as the history does: by each call of its owner that is noted, with the
 /// answer that is noted, and by no other.
