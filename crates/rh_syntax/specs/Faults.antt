@@ -25,7 +25,7 @@ pub data Sort : Type 0 where
 abbrev pub header_form : List Sort
 header_form = keyword ∷ number ∷ number ∷ number ∷ number ∷ number ∷ []
 
--- each keyword that stands after an owner, with the sorts of its line's parts
+-- each keyword of a command, which stands after an owner, with the sorts of its line's parts
 abbrev pub command_forms : List (List ℕ × List Sort)
 command_forms =
     (codes "alloc", number ∷ keyword ∷ root ∷ number ∷ [])
@@ -36,6 +36,11 @@ command_forms =
     ∷ (codes "same", number ∷ keyword ∷ root ∷ root ∷ [])
     ∷ (codes "drop", number ∷ keyword ∷ root ∷ [])
     ∷ []
+
+-- each keyword that stands after an owner in a trace, with the sorts of its line's parts: `watch`,
+-- and those of the commands
+abbrev pub owned_forms : List (List ℕ × List Sort)
+owned_forms = (codes "watch", number ∷ keyword ∷ root ∷ []) ∷ command_forms
 
 -- each keyword that begins a line, with the sorts of its line's parts
 abbrev pub keyword_forms : List (List ℕ × List Sort)
@@ -50,6 +55,9 @@ keyword_forms =
     ∷ (codes "abandon", keyword ∷ [])
     ∷ (codes "idle", keyword ∷ number ∷ [])
     ∷ (codes "resize", keyword ∷ number ∷ [])
+    ∷ (codes "tickets", keyword ∷ number ∷ [])
+    ∷ (codes "unwatch", keyword ∷ number ∷ [])
+    ∷ (codes "gone", keyword ∷ [])
     ∷ (codes "trays", keyword ∷ [])
     ∷ (codes "stat", keyword ∷ [])
     ∷ (codes "dump", keyword ∷ [])
@@ -114,19 +122,22 @@ LacksKeyword [] = ⊤
 LacksKeyword (first ∷ []) = IsDigitFirst first
 LacksKeyword (first ∷ second ∷ rest) = ⊥
 
--- the form that the part after an owner names
-abbrev pub form_of : List (List ℕ) → Option (List Sort)
-form_of [] = None
-form_of (owner ∷ []) = None
-form_of (owner ∷ word ∷ args) = lookup word command_forms
+-- the form that a table gives the part after an owner
+abbrev pub form_of : List (List ℕ × List Sort) → List (List ℕ) → Option (List Sort)
+form_of forms [] = None
+form_of forms (owner ∷ []) = None
+form_of forms (owner ∷ word ∷ args) = lookup word forms
 
--- the faults of the parts of a command line: the commands' keywords alone are in the table, and
--- each stands after an owner
-abbrev pub command_part_faults : List (List ℕ) → ℕ → Kind → Type 0
-command_part_faults parts =
+-- the faults of the parts of a line whose keyword is in this table and stands after an owner
+abbrev pub owned_part_faults : List (List ℕ × List Sort) → List (List ℕ) → ℕ → Kind → Type 0
+owned_part_faults forms parts =
     Form when LacksKeyword parts
-    ▸ Word when ((¬ BeginsWithOwner parts) ⊎ (form_of parts ≡ None))
-    ▸ form_faults (form_of parts) parts
+    ▸ Word when ((¬ BeginsWithOwner parts) ⊎ (form_of forms parts ≡ None))
+    ▸ form_faults (form_of forms parts) parts
+
+-- the faults of the parts of a command line
+abbrev pub command_part_faults : List (List ℕ) → ℕ → Kind → Type 0
+command_part_faults parts = owned_part_faults command_forms parts
 
 -- the faults of a single command line, without its line end
 abbrev pub command_faults : List ℕ → ℕ → Kind → Type 0
@@ -144,11 +155,11 @@ keyword_part_faults parts =
     ▸ Word when (keyword_form_of parts ≡ None)
     ▸ form_faults (keyword_form_of parts) parts
 
--- the faults of the parts of a line after the first: those of a command line where it begins with
--- an owner, and else those of a line that begins with its keyword
+-- the faults of the parts of a line after the first: those of a line of an owner where it begins
+-- with one, and else those of a line that begins with its keyword
 abbrev pub line_part_faults : List (List ℕ) → ℕ → Kind → Type 0
 line_part_faults parts position kind =
-    (BeginsWithOwner parts × command_part_faults parts position kind)
+    (BeginsWithOwner parts × owned_part_faults owned_forms parts position kind)
     ⊎ ((¬ BeginsWithOwner parts) × keyword_part_faults parts position kind)
 
 -- the first part is this word

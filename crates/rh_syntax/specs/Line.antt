@@ -1,7 +1,7 @@
 -- The line of a request.
 use Rattle.rh_layout.specs.declared.command.Command.TheVariants as commands
 use Rattle.rh_syntax.specs.declared.line.Line.{Line}
-use Rattle.rh_syntax.specs.declared.line.Line.TheVariants.{Alloc, Raw, Load, Store, Copy, Same, Drop, Begin, Shade, Deal, Give, Join, Flip, Recall, Abandon, Idle, Resize, Trays, Stat, Dump}
+use Rattle.rh_syntax.specs.declared.line.Line.TheVariants.{Alloc, Raw, Load, Store, Copy, Same, Drop, Begin, Shade, Deal, Give, Join, Flip, Recall, Abandon, Idle, Resize, Tickets, Watch, Unwatch, Gone, Trays, Stat, Dump}
 use Rattle.rh_syntax.specs.declared.request.Request.{Request}
 use Rattle.rh_syntax.specs.declared.request.Request.TheVariants as requests
 
@@ -24,6 +24,10 @@ line_of requests.Recall = Recall
 line_of requests.Abandon = Abandon
 line_of (requests.Idle words) = Idle words
 line_of (requests.Resize words) = Resize words
+line_of (requests.Tickets tickets) = Tickets tickets
+line_of (requests.Watch owner root) = Watch owner root
+line_of (requests.Unwatch ticket) = Unwatch ticket
+line_of requests.Gone = Gone
 line_of requests.Trays = Trays
 line_of requests.Stat = Stat
 line_of requests.Dump = Dump

@@ -201,6 +201,20 @@ read_resize args = do
   words ← number_or_fault part
   Ok (requests.Resize words)
 
+-- tickets N
+unfoldable pub read_tickets : List (List ℕ) → Result Request Kind
+read_tickets args = do
+  part ← or_fault (one_part args) Form
+  tickets ← number_or_fault part
+  Ok (requests.Tickets tickets)
+
+-- unwatch T
+unfoldable pub read_unwatch : List (List ℕ) → Result Request Kind
+read_unwatch args = do
+  part ← or_fault (one_part args) Form
+  ticket ← number_or_fault part
+  Ok (requests.Unwatch ticket)
+
 -- the request of a line that asks what is there
 unfoldable pub listing_request : List ℕ → List (List ℕ) → Result Request Kind
 listing_request keyword args =
@@ -208,6 +222,14 @@ listing_request keyword args =
     else if bytes_eq keyword (codes "stat") then alone args requests.Stat
     else if bytes_eq keyword (codes "dump") then alone args requests.Dump
     else Err Word
+
+-- the request of a line of watches, or else of a line that asks what is there
+unfoldable pub watching_request : List ℕ → List (List ℕ) → Result Request Kind
+watching_request keyword args =
+    if bytes_eq keyword (codes "tickets") then read_tickets args
+    else if bytes_eq keyword (codes "unwatch") then read_unwatch args
+    else if bytes_eq keyword (codes "gone") then alone args requests.Gone
+    else listing_request keyword args
 
 -- the request of a line that begins with its keyword
 unfoldable pub keyword_request : List ℕ → List (List ℕ) → Result Request Kind
@@ -222,16 +244,31 @@ keyword_request keyword args =
     else if bytes_eq keyword (codes "abandon") then alone args requests.Abandon
     else if bytes_eq keyword (codes "idle") then read_idle args
     else if bytes_eq keyword (codes "resize") then read_resize args
-    else listing_request keyword args
+    else watching_request keyword args
 
--- the request of a line after the first: a command where it begins with an owner, and else by its
--- keyword
+-- OWNER watch ROOT
+unfoldable pub read_watch : List ℕ → List (List ℕ) → Result Request Kind
+read_watch owner args = do
+  part ← or_fault (one_part args) Form
+  owner ← number_or_fault owner
+  root ← root_or_fault part
+  Ok (requests.Watch owner root)
+
+-- the request of a line that begins with an owner: a watch or a command, by the keyword after it
+unfoldable pub owned_request : List ℕ → List (List ℕ) → Result Request Kind
+owned_request owner [] = Err Form
+owned_request owner (keyword ∷ args) =
+    if bytes_eq keyword (codes "watch") then read_watch owner args
+    else
+    (command_or_fault owner (keyword ∷ args)
+    >>= λ owned. Ok (requests.Command owned.0 owned.1))
+
+-- the request of a line after the first, by the keyword after its owner where it begins with one,
+-- and else by its first part
 unfoldable pub request_of_parts : List (List ℕ) → Result Request Kind
 request_of_parts [] = Err Form
 request_of_parts (first ∷ rest) =
-    if begins_with_digit first
-    then (command_or_fault first rest >>= λ owned. Ok (requests.Command owned.0 owned.1))
-    else keyword_request first rest
+    if begins_with_digit first then owned_request first rest else keyword_request first rest
 
 -- WORDS RATIO LOG OWNERS SLOTS
 unfoldable pub sizes_of : List ℕ → List ℕ → List ℕ → List ℕ → List ℕ

@@ -62,6 +62,11 @@ request_parts requests.Recall = codes "recall" ∷ []
 request_parts requests.Abandon = codes "abandon" ∷ []
 request_parts (requests.Idle words) = codes "idle" ∷ decimal words ∷ []
 request_parts (requests.Resize words) = codes "resize" ∷ decimal words ∷ []
+request_parts (requests.Tickets tickets) = codes "tickets" ∷ decimal tickets ∷ []
+request_parts (requests.Watch owner root) =
+    decimal owner ∷ codes "watch" ∷ root_text root ∷ []
+request_parts (requests.Unwatch ticket) = codes "unwatch" ∷ decimal ticket ∷ []
+request_parts requests.Gone = codes "gone" ∷ []
 request_parts requests.Trays = codes "trays" ∷ []
 request_parts requests.Stat = codes "stat" ∷ []
 request_parts requests.Dump = codes "dump" ∷ []
@@ -109,8 +114,8 @@ CommandFits owner (Copy dst src) = IsU32 owner × RootFits dst × RootFits src
 CommandFits owner (Same a b) = IsU32 owner × RootFits a × RootFits b
 CommandFits owner (Drop root) = IsU32 owner × RootFits root
 
--- what a request names fits: an owner and a command that do, roots and numbers of items and of
--- words that are below 2^32, and names of trays
+-- what a request names fits: an owner and a command that do, roots and numbers of items, of words
+-- and of tickets that are below 2^32, and names of trays
 abbrev pub RequestFits : Request → Type 0
 RequestFits (requests.Command owner command) = CommandFits owner command
 RequestFits requests.Begin = ⊤
@@ -123,6 +128,10 @@ RequestFits requests.Recall = ⊤
 RequestFits requests.Abandon = ⊤
 RequestFits (requests.Idle words) = IsU32 words
 RequestFits (requests.Resize words) = IsU32 words
+RequestFits (requests.Tickets tickets) = IsU32 tickets
+RequestFits (requests.Watch owner root) = IsU32 owner × RootFits root
+RequestFits (requests.Unwatch ticket) = IsU32 ticket
+RequestFits requests.Gone = ⊤
 RequestFits requests.Trays = ⊤
 RequestFits requests.Stat = ⊤
 RequestFits requests.Dump = ⊤

@@ -138,6 +138,25 @@ pub enum Line {
         /// How many words.
         words: u32,
     },
+    /// `tickets N`: the heap has room for so many tickets from then on.
+    Tickets {
+        /// How many tickets.
+        tickets: u32,
+    },
+    /// `OWNER watch ROOT`: a ticket watches the object that the root holds.
+    Watch {
+        /// Whose line it is.
+        owner: u32,
+        /// The root.
+        root: RootId,
+    },
+    /// `unwatch T`: the ticket watches no object from then on.
+    Unwatch {
+        /// The number of the ticket.
+        ticket: u32,
+    },
+    /// `gone`: the tickets whose objects are gone and that weren't told yet.
+    Gone,
     /// `trays`: the trays, each with its name, its epoch and how many entries it has.
     Trays,
     /// `stat`: the numbers of the heap.
@@ -164,6 +183,10 @@ impl Line {
             Request::Abandon => Line::Abandon,
             Request::Idle { words } => Line::Idle { words },
             Request::Resize { words } => Line::Resize { words },
+            Request::Tickets { tickets } => Line::Tickets { tickets },
+            Request::Watch { owner, root } => Line::Watch { owner, root },
+            Request::Unwatch { ticket } => Line::Unwatch { ticket },
+            Request::Gone => Line::Gone,
             Request::Trays => Line::Trays,
             Request::Stat => Line::Stat,
             Request::Dump => Line::Dump,

@@ -5,3 +5,4 @@ pub mod header;
 pub mod keywords;
 pub mod leading;
 pub mod single;
+pub mod watching;

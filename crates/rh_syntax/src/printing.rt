@@ -12,6 +12,7 @@ use crate::lines::keywords::{
     put_alone, put_deal_line, put_give_line, put_idle_line, put_join_line, put_resize_line,
     put_shade_line,
 };
+use crate::lines::watching::{put_tickets_line, put_unwatch_line, put_watch_line};
 use crate::request::Request;
 use crate::trace::Trace;
 use rh_text::{IoLog, LineText, Write, send};
@@ -34,6 +35,10 @@ fn put_request(text: &mut LineText, request: &Request)
         Request::Abandon => put_alone(text, b"abandon"),
         Request::Idle { words } => put_idle_line(text, words),
         Request::Resize { words } => put_resize_line(text, words),
+        Request::Tickets { tickets } => put_tickets_line(text, tickets),
+        Request::Watch { owner, root } => put_watch_line(text, owner, root),
+        Request::Unwatch { ticket } => put_unwatch_line(text, ticket),
+        Request::Gone => put_alone(text, b"gone"),
         Request::Trays => put_alone(text, b"trays"),
         Request::Stat => put_alone(text, b"stat"),
         Request::Dump => put_alone(text, b"dump"),

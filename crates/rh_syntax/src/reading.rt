@@ -3,16 +3,17 @@
 ghost use Rattle.std.specs.Prelude.{◌≡◌};
 ghost use Rattle.rh_text.specs.Parts.{parts_left};
 ghost use Rattle.rh_text.specs.Steps.{Shows, with_fault};
-ghost use Rattle.rh_syntax.specs.Reading.{request_of_parts, checked_parts, fault_at, request_or_kind, header_or_kind, request_or_fault, header_or_fault};
+ghost use Rattle.rh_syntax.specs.Reading.{owned_request, request_of_parts, checked_parts, fault_at, request_or_kind, header_or_kind, request_or_fault, header_or_fault};
 
 use crate::fault::{Kind, TraceFault};
 use crate::line::Header;
 use crate::lines::commands::command_or_fault;
 use crate::lines::header::header_of_parts;
 use crate::lines::keywords::keyword_request;
+use crate::lines::watching::read_watch;
 use crate::request::Request;
 use rh_layout::limits::{MAX_LINE_BYTES, MAX_LINES};
-use rh_text::{begins_with_digit, is_formed, next_part};
+use rh_text::{begins_with_digit, is_formed, is_text, next_part};
 
 /// The line's parts, where the line of this number (from 1) is within the limits, ended and well
 /// formed.
@@ -42,6 +43,21 @@ pub fn checked_parts(number: u32, bytes: &[u8], ended: bool) -> Result<Option<&[
     Ok(Some(bytes))
 }
 
+/// The request of a line that begins with an owner, by the keyword after it.
+#[tactic(auto, unfolding(crate::specs::Reading::owned_request))]
+fn owned_request(owner: &[u8], rest: Option<&[u8]>) -> Result<Request, Kind>
+    ensures { result ≡ owned_request owner.now (parts_left rest.entry) }
+{
+    let Some((keyword, after)) = next_part(rest) else {
+        return Err(Kind::Form);
+    };
+    if is_text(keyword, b"watch") {
+        return read_watch(owner, after);
+    }
+    let (owner, command) = command_or_fault(owner, rest)?;
+    Ok(Request::Command { owner, command })
+}
+
 /// The request of a line after the first, from its parts.
 #[tactic(auto, unfolding(crate::specs::Reading::request_of_parts))]
 fn request_of_parts(rest: Option<&[u8]>) -> Result<Request, Kind>
@@ -51,8 +67,7 @@ fn request_of_parts(rest: Option<&[u8]>) -> Result<Request, Kind>
         return Err(Kind::Form);
     };
     if begins_with_digit(first) {
-        let (owner, command) = command_or_fault(first, rest)?;
-        return Ok(Request::Command { owner, command });
+        return owned_request(first, rest);
     }
     keyword_request(first, rest)
 }

@@ -58,6 +58,25 @@ pub enum Request {
         /// How many words.
         words: u32,
     },
+    /// The heap has room for so many tickets from then on.
+    Tickets {
+        /// How many tickets.
+        tickets: u32,
+    },
+    /// A ticket watches the object that a root holds.
+    Watch {
+        /// Whose root it is.
+        owner: u32,
+        /// The root.
+        root: RootId,
+    },
+    /// A ticket watches no object from then on.
+    Unwatch {
+        /// The number of the ticket.
+        ticket: u32,
+    },
+    /// The tickets whose objects are gone and that weren't told yet.
+    Gone,
     /// The trays, each with its name, its epoch and how many entries it has.
     Trays,
     /// The numbers of the heap.

@@ -31,8 +31,8 @@ use Rattle.rh_syntax.specs.declared.fault.TraceFault.{TraceFault}
 use Rattle.rh_syntax.specs.declared.line as declared
 use Rattle.rh_syntax.specs.declared.request.Request.{Request}
 use Rattle.rh_syntax.specs.declared.request.Request.TheVariants as requests
-use Rattle.rh_syntax.specs.Faults.{Sort, keyword, number, root, operand, copies_or_entries, tray, header_form, command_forms, keyword_forms, lookup, IsNumber, IsRoot, IsInteger, HasDot, IsDigitFirst, each_part, form_faults, BeginsWithOwner, LacksKeyword, form_of, command_part_faults, command_faults, keyword_part_faults, line_part_faults, IsFirstPart, header_part_faults, raw_line_faults, header_faults, line_faults, trace_faults}
-use Rattle.rh_syntax.specs.Reading.{number_or_fault, integer_or_fault, root_or_fault, operand_or_fault, read_alloc, read_raw, read_load, read_store, read_copy, read_same, read_drop, command_or_fault, owned_command, single_command, alone, tray_or_fault, kind_or_fault, read_shade, read_deal, read_give, read_join, read_idle, read_resize, listing_request, keyword_request, request_of_parts, sizes_of, header_of_parts, checked_parts, fault_at, request_or_kind, header_or_kind, requests_from, script_or_fault, trace_of}
+use Rattle.rh_syntax.specs.Faults.{Sort, keyword, number, root, operand, copies_or_entries, tray, header_form, command_forms, owned_forms, keyword_forms, lookup, IsNumber, IsRoot, IsInteger, HasDot, IsDigitFirst, each_part, form_faults, BeginsWithOwner, LacksKeyword, form_of, owned_part_faults, command_part_faults, command_faults, keyword_part_faults, line_part_faults, IsFirstPart, header_part_faults, raw_line_faults, header_faults, line_faults, trace_faults}
+use Rattle.rh_syntax.specs.Reading.{number_or_fault, integer_or_fault, root_or_fault, operand_or_fault, read_alloc, read_raw, read_load, read_store, read_copy, read_same, read_drop, command_or_fault, owned_command, single_command, alone, tray_or_fault, kind_or_fault, read_shade, read_deal, read_give, read_join, read_idle, read_resize, read_tickets, read_unwatch, listing_request, watching_request, keyword_request, read_watch, owned_request, request_of_parts, sizes_of, header_of_parts, checked_parts, fault_at, request_or_kind, header_or_kind, requests_from, script_or_fault, trace_of}
 use Rattle.rh_syntax.specs.Spelling.{Script, spell_request, spell_header, RequestFits, HeaderFits}
 use Rattle.rh_syntax.specs.TrayName.{tray_name_of, IsTrayName}
 use Rattle.rh_syntax.specs.lemmas.ReadIsSpelled.{request_or_fault-means, header_or_fault-means}
@@ -264,8 +264,8 @@ no_keyword first (word ∷ args) bare h = h
 judges-no_owner : (first : List ℕ) (rest : List (List ℕ)) → ¬ IsDigitFirst first → Judges {A = ℕ × Command} (command_part_faults (first ∷ rest)) (Err Word)
 judges-no_owner first rest bare =
     let parts = first ∷ rest in
-    judges-later Form (LacksKeyword parts) (word_faults (LacksCommand parts) parts (form_of parts)) (Err Word) (no_keyword first rest bare)
-    (judges-here Word (LacksCommand parts (form_of parts)) (form_faults (form_of parts) parts) (inl bare))
+    judges-later Form (LacksKeyword parts) (word_faults (LacksCommand parts) parts (form_of command_forms parts)) (Err Word) (no_keyword first rest bare)
+    (judges-here Word (LacksCommand parts (form_of command_forms parts)) (form_faults (form_of command_forms parts) parts) (inl bare))
 
 begins_with_digit-Decides : (part : List ℕ) → Decides (begins_with_digit part) (IsDigitFirst part)
 begins_with_digit-Decides [] = (λ e. false≢true e, λ h. absurd h)
@@ -315,12 +315,20 @@ judges-resize : (word : List ℕ) (args : List (List ℕ)) → Judges (form_faul
 unfolding read_resize
 judges-resize word args = judges-one (keyword ∷ []) (word ∷ []) refl number args _ (λ a. judges-number a _ _ (λ n. judges-end _))
 
+judges-tickets : (word : List ℕ) (args : List (List ℕ)) → Judges (form_faults (Some (keyword ∷ number ∷ [])) (word ∷ args)) (read_tickets args)
+unfolding read_tickets
+judges-tickets word args = judges-one (keyword ∷ []) (word ∷ []) refl number args _ (λ a. judges-number a _ _ (λ n. judges-end _))
+
+judges-unwatch : (word : List ℕ) (args : List (List ℕ)) → Judges (form_faults (Some (keyword ∷ number ∷ [])) (word ∷ args)) (read_unwatch args)
+unfolding read_unwatch
+judges-unwatch word args = judges-one (keyword ∷ []) (word ∷ []) refl number args _ (λ a. judges-number a _ _ (λ n. judges-end _))
+
 -- the keyword names no form
 abbrev LacksForm : Option (List Sort) → Type 0
 LacksForm form = form ≡ None
 
 judges-keyword_request : (word : List ℕ) (args : List (List ℕ)) → Judges (keyword_part_faults (word ∷ args)) (keyword_request word args)
-unfolding keyword_request listing_request
+unfolding keyword_request watching_request listing_request
 judges-keyword_request word args =
     let parts = word ∷ args in
     judges-later Form (parts ≡ []) (word_faults LacksForm parts (lookup word keyword_forms)) (keyword_request word args) (cons_nil word args)
@@ -334,10 +342,29 @@ judges-keyword_request word args =
     (by_keyword LacksForm parts some_none (bytes_eq word (codes "abandon")) _ _ _ _ (judges-alone word args requests.Abandon)
     (by_keyword LacksForm parts some_none (bytes_eq word (codes "idle")) _ _ _ _ (judges-idle word args)
     (by_keyword LacksForm parts some_none (bytes_eq word (codes "resize")) _ _ _ _ (judges-resize word args)
+    (by_keyword LacksForm parts some_none (bytes_eq word (codes "tickets")) _ _ _ _ (judges-tickets word args)
+    (by_keyword LacksForm parts some_none (bytes_eq word (codes "unwatch")) _ _ _ _ (judges-unwatch word args)
+    (by_keyword LacksForm parts some_none (bytes_eq word (codes "gone")) _ _ _ _ (judges-alone word args requests.Gone)
     (by_keyword LacksForm parts some_none (bytes_eq word (codes "trays")) _ _ _ _ (judges-alone word args requests.Trays)
     (by_keyword LacksForm parts some_none (bytes_eq word (codes "stat")) _ _ _ _ (judges-alone word args requests.Stat)
     (by_keyword LacksForm parts some_none (bytes_eq word (codes "dump")) _ _ _ _ (judges-alone word args requests.Dump)
-    (unknown LacksForm parts refl))))))))))))))
+    (unknown LacksForm parts refl)))))))))))))))))
+
+-- ---- the lines that begin with an owner, in a trace
+
+judges-watch : (owner word : List ℕ) (args : List (List ℕ)) → Judges (form_faults (Some (number ∷ keyword ∷ root ∷ [])) (owner ∷ word ∷ args)) (read_watch owner args)
+unfolding read_watch
+judges-watch owner word args = judges-one owner_and_keyword (owner ∷ word ∷ []) refl root args _ (λ a.
+    judges-number owner _ _ (λ o. judges-root a _ _ (λ r. judges-end _)))
+
+judges-owned_request : (owner : List ℕ) (rest : List (List ℕ)) → IsDigitFirst owner → Judges (owned_part_faults owned_forms (owner ∷ rest)) (owned_request owner rest)
+unfolding owned_request
+judges-owned_request owner [] owned = judges-here Form (LacksKeyword (owner ∷ [])) (word_faults (LacksCommand (owner ∷ [])) (owner ∷ []) None) owned
+judges-owned_request owner (word ∷ args) owned =
+    let parts = owner ∷ word ∷ args in
+    let commands = judges-step (command_or_fault owner (word ∷ args)) (λ o. requests.Command o.0 o.1) (judges-keyword owner word args owned) in
+    judges-later Form (LacksKeyword parts) (word_faults (LacksCommand parts) parts (lookup word owned_forms)) (owned_request owner (word ∷ args)) (λ h. h)
+    (by_keyword (LacksCommand parts) parts (owned_form parts owned) (bytes_eq word (codes "watch")) _ _ _ _ (judges-watch owner word args) commands)
 
 -- ---- all lines
 
@@ -348,14 +375,14 @@ judges-alike faults others r to from judged = record {
   least = λ kind e. let l = judged.least kind e in record { stage = l.stage; holds = to l.stage kind l.holds; least = λ p k h. l.least p k (from p k h) };
 }
 
-judges-with_owner : {A : Type 0} (parts : List (List ℕ)) (r : Result A Kind) → BeginsWithOwner parts → Judges (command_part_faults parts) r → Judges (line_part_faults parts) r
-judges-with_owner parts r owned judged = judges-alike (command_part_faults parts) (line_part_faults parts) r (λ p k h. inl (owned, h)) (λ p k h. elim h [ inl command ↦ command.1 | inr other ↦ absurd (other.0 owned) ]) judged
+judges-with_owner : {A : Type 0} (parts : List (List ℕ)) (r : Result A Kind) → BeginsWithOwner parts → Judges (owned_part_faults owned_forms parts) r → Judges (line_part_faults parts) r
+judges-with_owner parts r owned judged = judges-alike (owned_part_faults owned_forms parts) (line_part_faults parts) r (λ p k h. inl (owned, h)) (λ p k h. elim h [ inl command ↦ command.1 | inr other ↦ absurd (other.0 owned) ]) judged
 
 judges-without_owner : {A : Type 0} (parts : List (List ℕ)) (r : Result A Kind) → ¬ BeginsWithOwner parts → Judges (keyword_part_faults parts) r → Judges (line_part_faults parts) r
 judges-without_owner parts r bare judged = judges-alike (keyword_part_faults parts) (line_part_faults parts) r (λ p k h. inr (bare, h)) (λ p k h. elim h [ inl command ↦ absurd (bare command.0) | inr other ↦ other.1 ]) judged
 
-by_owner : (t : Bool) (first : List ℕ) (rest : List (List ℕ)) → Decides t (IsDigitFirst first) → Judges (line_part_faults (first ∷ rest)) (cond t (command_or_fault first rest >>= λ owned. Ok (requests.Command owned.0 owned.1)) (keyword_request first rest))
-by_owner true first rest decides = judges-with_owner (first ∷ rest) (command_or_fault first rest >>= λ owned. Ok (requests.Command owned.0 owned.1)) (decides.0 refl) (judges-step (command_or_fault first rest) (λ owned. requests.Command owned.0 owned.1) (judges-command first rest (decides.0 refl)))
+by_owner : (t : Bool) (first : List ℕ) (rest : List (List ℕ)) → Decides t (IsDigitFirst first) → Judges (line_part_faults (first ∷ rest)) (cond t (owned_request first rest) (keyword_request first rest))
+by_owner true first rest decides = judges-with_owner (first ∷ rest) (owned_request first rest) (decides.0 refl) (judges-owned_request first rest (decides.0 refl))
 by_owner false first rest decides = judges-without_owner (first ∷ rest) (keyword_request first rest) (not_from_Decides false decides refl) (judges-keyword_request first rest)
 
 judges-request_parts : (parts : List (List ℕ)) → Judges (line_part_faults parts) (request_of_parts parts)

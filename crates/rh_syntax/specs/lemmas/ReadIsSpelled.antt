@@ -35,7 +35,7 @@ use Rattle.rh_syntax.specs.declared.request.Request.{Request}
 use Rattle.rh_syntax.specs.declared.request.Request.TheVariants as requests
 use Rattle.rh_syntax.specs.TrayName.{tray_name_of, IsTrayName}
 use Rattle.rh_syntax.specs.Spelling.{Script, operand_text, kind_text, command_parts, command_text, request_parts, header_parts, spell_request, spell_header, spelling, OperandFits, CommandFits, RequestFits, HeaderFits, IsScript}
-use Rattle.rh_syntax.specs.Reading.{number_or_fault, integer_or_fault, root_or_fault, operand_or_fault, tray_or_fault, kind_or_fault, read_alloc, read_raw, read_load, read_store, read_copy, read_same, read_drop, command_or_fault, owned_command, single_command, alone, read_shade, read_deal, read_give, read_join, read_idle, read_resize, listing_request, keyword_request, request_of_parts, sizes_of, header_of_parts, checked_parts, fault_at, request_or_kind, header_or_kind, request_or_fault, header_or_fault, requests_from, script_or_fault, trace_of, Gives}
+use Rattle.rh_syntax.specs.Reading.{number_or_fault, integer_or_fault, root_or_fault, operand_or_fault, tray_or_fault, kind_or_fault, read_alloc, read_raw, read_load, read_store, read_copy, read_same, read_drop, command_or_fault, owned_command, single_command, alone, read_shade, read_deal, read_give, read_join, read_idle, read_resize, read_tickets, read_unwatch, listing_request, watching_request, keyword_request, read_watch, owned_request, request_of_parts, sizes_of, header_of_parts, checked_parts, fault_at, request_or_kind, header_or_kind, request_or_fault, header_or_fault, requests_from, script_or_fault, trace_of, Gives}
 use Rattle.rh_syntax.specs.lemmas.LinesInTurn.{number_within}
 use Rattle.rh_syntax.specs.lemmas.TrayNames.{name-from_read}
 
@@ -381,13 +381,51 @@ read_resize-means args request e =
     let whole : codes "resize" ∷ args ≡ request_parts (requests.Resize b.0) = ap (λ (ps : List (List ℕ)). codes "resize" ∷ ps) (args_1 a.0 (decimal b.0) args args_are words_is.0) in
     subst (ReadsRequest (codes "resize" ∷ args)) (ok_is (requests.Resize b.0) request b.2) (whole, words_is.1)
 
-keyword_request-means : (word : List ℕ) (args : List (List ℕ)) (request : Request) → keyword_request word args ≡ Ok request → ReadsRequest (word ∷ args) request
-unfolding keyword_request listing_request
-keyword_request-means word args request e =
+read_tickets-means : (args : List (List ℕ)) (request : Request) → read_tickets args ≡ Ok request → ReadsRequest (codes "tickets" ∷ args) request
+unfolding read_tickets
+read_tickets-means args request e =
+    let a = bind_ok (or_fault (one_part args) Form) (λ part. number_or_fault part >>= λ n. Ok (requests.Tickets n)) request e in
+    let b = bind_ok (number_or_fault a.0) (λ n. Ok (requests.Tickets n)) request a.2 in
+    let args_are = one_part-means args a.0 (or_fault_ok (one_part args) Form a.0 a.1) in
+    let tickets_is = number_or_fault-means a.0 b.0 b.1 in
+    let whole : codes "tickets" ∷ args ≡ request_parts (requests.Tickets b.0) = ap (λ (ps : List (List ℕ)). codes "tickets" ∷ ps) (args_1 a.0 (decimal b.0) args args_are tickets_is.0) in
+    subst (ReadsRequest (codes "tickets" ∷ args)) (ok_is (requests.Tickets b.0) request b.2) (whole, tickets_is.1)
+
+read_unwatch-means : (args : List (List ℕ)) (request : Request) → read_unwatch args ≡ Ok request → ReadsRequest (codes "unwatch" ∷ args) request
+unfolding read_unwatch
+read_unwatch-means args request e =
+    let a = bind_ok (or_fault (one_part args) Form) (λ part. number_or_fault part >>= λ n. Ok (requests.Unwatch n)) request e in
+    let b = bind_ok (number_or_fault a.0) (λ n. Ok (requests.Unwatch n)) request a.2 in
+    let args_are = one_part-means args a.0 (or_fault_ok (one_part args) Form a.0 a.1) in
+    let ticket_is = number_or_fault-means a.0 b.0 b.1 in
+    let whole : codes "unwatch" ∷ args ≡ request_parts (requests.Unwatch b.0) = ap (λ (ps : List (List ℕ)). codes "unwatch" ∷ ps) (args_1 a.0 (decimal b.0) args args_are ticket_is.0) in
+    subst (ReadsRequest (codes "unwatch" ∷ args)) (ok_is (requests.Unwatch b.0) request b.2) (whole, ticket_is.1)
+
+listing_request-means : (word : List ℕ) (args : List (List ℕ)) (request : Request) → listing_request word args ≡ Ok request → ReadsRequest (word ∷ args) request
+unfolding listing_request
+listing_request-means word args request e =
     let dumps : Result Request Kind = cond (bytes_eq word (codes "dump")) (alone args requests.Dump) (Err Word) in
     let stats : Result Request Kind = cond (bytes_eq word (codes "stat")) (alone args requests.Stat) dumps in
-    let trays : Result Request Kind = cond (bytes_eq word (codes "trays")) (alone args requests.Trays) stats in
-    let resizes : Result Request Kind = cond (bytes_eq word (codes "resize")) (read_resize args) trays in
+    let says : List ℕ → Request → Type 0 = λ w l. ReadsRequest (w ∷ args) l in
+    by_keyword says word (codes "trays") (alone args requests.Trays) stats request (alone-means (codes "trays") args requests.Trays request (refl, tt))
+    (by_keyword says word (codes "stat") (alone args requests.Stat) dumps request (alone-means (codes "stat") args requests.Stat request (refl, tt))
+    (by_keyword says word (codes "dump") (alone args requests.Dump) (Err Word) request (alone-means (codes "dump") args requests.Dump request (refl, tt)) (λ no. absurd cc))) e
+
+watching_request-means : (word : List ℕ) (args : List (List ℕ)) (request : Request) → watching_request word args ≡ Ok request → ReadsRequest (word ∷ args) request
+unfolding watching_request
+watching_request-means word args request e =
+    let gone : Result Request Kind = cond (bytes_eq word (codes "gone")) (alone args requests.Gone) (listing_request word args) in
+    let unwatches : Result Request Kind = cond (bytes_eq word (codes "unwatch")) (read_unwatch args) gone in
+    let says : List ℕ → Request → Type 0 = λ w l. ReadsRequest (w ∷ args) l in
+    by_keyword says word (codes "tickets") (read_tickets args) unwatches request (read_tickets-means args request)
+    (by_keyword says word (codes "unwatch") (read_unwatch args) gone request (read_unwatch-means args request)
+    (by_keyword says word (codes "gone") (alone args requests.Gone) (listing_request word args) request (alone-means (codes "gone") args requests.Gone request (refl, tt)) (listing_request-means word args request))) e
+
+keyword_request-means : (word : List ℕ) (args : List (List ℕ)) (request : Request) → keyword_request word args ≡ Ok request → ReadsRequest (word ∷ args) request
+unfolding keyword_request
+keyword_request-means word args request e =
+    let watches : Result Request Kind = watching_request word args in
+    let resizes : Result Request Kind = cond (bytes_eq word (codes "resize")) (read_resize args) watches in
     let idles : Result Request Kind = cond (bytes_eq word (codes "idle")) (read_idle args) resizes in
     let abandons : Result Request Kind = cond (bytes_eq word (codes "abandon")) (alone args requests.Abandon) idles in
     let recalls : Result Request Kind = cond (bytes_eq word (codes "recall")) (alone args requests.Recall) abandons in
@@ -406,13 +444,31 @@ keyword_request-means word args request e =
     (by_keyword says word (codes "recall") (alone args requests.Recall) abandons request (alone-means (codes "recall") args requests.Recall request (refl, tt))
     (by_keyword says word (codes "abandon") (alone args requests.Abandon) idles request (alone-means (codes "abandon") args requests.Abandon request (refl, tt))
     (by_keyword says word (codes "idle") (read_idle args) resizes request (read_idle-means args request)
-    (by_keyword says word (codes "resize") (read_resize args) trays request (read_resize-means args request)
-    (by_keyword says word (codes "trays") (alone args requests.Trays) stats request (alone-means (codes "trays") args requests.Trays request (refl, tt))
-    (by_keyword says word (codes "stat") (alone args requests.Stat) dumps request (alone-means (codes "stat") args requests.Stat request (refl, tt))
-    (by_keyword says word (codes "dump") (alone args requests.Dump) (Err Word) request (alone-means (codes "dump") args requests.Dump request (refl, tt)) (λ no. absurd cc))))))))))))) e
+    (by_keyword says word (codes "resize") (read_resize args) watches request (read_resize-means args request) (watching_request-means word args request)))))))))) e
 
-by_owner : (t : Bool) (first : List ℕ) (rest : List (List ℕ)) (request : Request) → cond t (command_or_fault first rest >>= λ owned. Ok (requests.Command owned.0 owned.1)) (keyword_request first rest) ≡ Ok request → ReadsRequest (first ∷ rest) request
-by_owner true first rest request e = command_request-means first rest request e
+-- a line that begins with an owner
+read_watch-means : (owner : List ℕ) (args : List (List ℕ)) (request : Request) → read_watch owner args ≡ Ok request → ReadsRequest (owner ∷ codes "watch" ∷ args) request
+unfolding read_watch
+read_watch-means owner args request e =
+    let a = bind_ok (or_fault (one_part args) Form) (λ part. number_or_fault owner >>= λ o. root_or_fault part >>= λ r. Ok (requests.Watch o r)) request e in
+    let b = bind_ok (number_or_fault owner) (λ o. root_or_fault a.0 >>= λ r. Ok (requests.Watch o r)) request a.2 in
+    let c = bind_ok (root_or_fault a.0) (λ r. Ok (requests.Watch b.0 r)) request b.2 in
+    let args_are = one_part-means args a.0 (or_fault_ok (one_part args) Form a.0 a.1) in
+    let owner_is = number_or_fault-means owner b.0 b.1 in
+    let root_is = root_or_fault-means a.0 c.0 c.1 in
+    let whole : owner ∷ codes "watch" ∷ args ≡ request_parts (requests.Watch b.0 c.0) = after_owner owner (decimal b.0) (codes "watch") args (root_text c.0 ∷ []) owner_is.0 (args_1 a.0 (root_text c.0) args args_are root_is.0) in
+    subst (ReadsRequest (owner ∷ codes "watch" ∷ args)) (ok_is (requests.Watch b.0 c.0) request c.2) (whole, (owner_is.1, root_is.1))
+
+owned_request-means : (first : List ℕ) (rest : List (List ℕ)) (request : Request) → owned_request first rest ≡ Ok request → ReadsRequest (first ∷ rest) request
+unfolding owned_request
+owned_request-means first [] request e = absurd cc
+owned_request-means first (word ∷ args) request e =
+    let commands : Result Request Kind = command_or_fault first (word ∷ args) >>= λ owned. Ok (requests.Command owned.0 owned.1) in
+    let says : List ℕ → Request → Type 0 = λ w l. ReadsRequest (first ∷ w ∷ args) l in
+    by_keyword says word (codes "watch") (read_watch first args) commands request (read_watch-means first args request) (command_request-means first (word ∷ args) request) e
+
+by_owner : (t : Bool) (first : List ℕ) (rest : List (List ℕ)) (request : Request) → cond t (owned_request first rest) (keyword_request first rest) ≡ Ok request → ReadsRequest (first ∷ rest) request
+by_owner true first rest request e = owned_request-means first rest request e
 by_owner false first rest request e = keyword_request-means first rest request e
 
 request_of_parts-means : (parts : List (List ℕ)) (request : Request) → request_of_parts parts ≡ Ok request → ReadsRequest parts request

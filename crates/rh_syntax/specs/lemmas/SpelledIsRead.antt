@@ -1,5 +1,5 @@
 -- What a trace is spelled as is read as that trace.
-use Rattle.std.proofs.Common.{◌≡◌, ℕ, ℤ, pos, negsuc, suc, ◌+◌, ◌^◌, ◌<◌, ◌≤◌, Bool, true, false, inl, inr, cond, leb, ltb, eqb, not, List, [], ◌∷◌, ◌++◌, length, Option, Result, Ok, Err, refl, sym, ap, ◌∙◌, append_assoc, arith}
+use Rattle.std.proofs.Common.{◌≡◌, ℕ, ℤ, pos, negsuc, suc, ◌+◌, ◌^◌, ◌<◌, ◌≤◌, Bool, true, false, inl, inr, cond, leb, ltb, eqb, not, List, [], ◌∷◌, ◌++◌, length, Option, Result, Ok, Err, refl, sym, ap, subst, ◌∙◌, append_assoc, arith}
 use Rattle.std.specs.Prelude.{codes, decimal}
 use Rattle.std.specs.Fmt.{signed_decimal}
 use Rattle.std.specs.List.{flat_map, join_with_byte, AllByRecursion, list_all}
@@ -31,7 +31,7 @@ use Rattle.rh_syntax.specs.declared.request.Request.{Request}
 use Rattle.rh_syntax.specs.declared.request.Request.TheVariants as requests
 use Rattle.rh_syntax.specs.TrayName.{IsNameByte, IsTrayName}
 use Rattle.rh_syntax.specs.Spelling.{Script, operand_text, kind_text, command_parts, command_text, request_parts, header_parts, spell_request, spelling, OperandFits, CommandFits, RequestFits, HeaderFits, IsScript}
-use Rattle.rh_syntax.specs.Reading.{number_or_fault, integer_or_fault, root_or_fault, operand_or_fault, tray_or_fault, kind_or_fault, read_alloc, read_raw, read_load, read_store, read_copy, read_same, read_drop, command_or_fault, owned_command, single_command, read_shade, read_deal, read_give, read_join, read_idle, read_resize, listing_request, keyword_request, request_of_parts, sizes_of, header_of_parts, checked_parts, fault_at, request_or_kind, header_or_kind, request_or_fault, header_or_fault, requests_from, script_or_fault, trace_of}
+use Rattle.rh_syntax.specs.Reading.{number_or_fault, integer_or_fault, root_or_fault, operand_or_fault, tray_or_fault, kind_or_fault, read_alloc, read_raw, read_load, read_store, read_copy, read_same, read_drop, command_or_fault, owned_command, single_command, read_shade, read_deal, read_give, read_join, read_idle, read_resize, read_tickets, read_unwatch, listing_request, watching_request, keyword_request, read_watch, owned_request, request_of_parts, sizes_of, header_of_parts, checked_parts, fault_at, request_or_kind, header_or_kind, request_or_fault, header_or_fault, requests_from, script_or_fault, trace_of}
 use Rattle.rh_syntax.specs.lemmas.TrayNames.{read-from_name}
 
 -- ---- what the parts of a spelled line are like
@@ -244,14 +244,35 @@ single_command-text owner command fits =
     ∙ ap owned_command (parts_of-join a.first a.others a.are.each)
     ∙ a.read
 
+-- the keyword of a command isn't `watch`
+no_watch : (first word : List ℕ) (args : List (List ℕ)) (owner : ℕ) (command : Command) → word ≡ codes "watch" → command_or_fault first (word ∷ args) ≡ Ok (owner, command) → ⊥
+unfolding command_or_fault
+no_watch first word args owner command is e =
+    let watched : command_or_fault first (codes "watch" ∷ args) ≡ Ok (owner, command) = subst (λ (w : List ℕ). command_or_fault first (w ∷ args) ≡ Ok (owner, command)) is e in
+    absurd cc
+
+by_watch : (t : Bool) (first word : List ℕ) (args : List (List ℕ)) (owner : ℕ) (command : Command) → (t ≡ true → word ≡ codes "watch") → command_or_fault first (word ∷ args) ≡ Ok (owner, command)
+    → cond t (read_watch first args) (command_or_fault first (word ∷ args) >>= λ o. Ok (requests.Command o.0 o.1)) ≡ Ok (requests.Command owner command)
+by_watch true first word args owner command is e = absurd (no_watch first word args owner command (is refl) e)
+by_watch false first word args owner command is e = ap (λ (r : Result (ℕ × Command) Kind). r >>= λ o. Ok (requests.Command o.0 o.1)) e
+
+no_rest : (first : List ℕ) (owner : ℕ) (command : Command) → command_or_fault first [] ≡ Ok (owner, command) → ⊥
+unfolding command_or_fault
+no_rest first owner command e = absurd cc
+
+owned_request-command : (first : List ℕ) (rest : List (List ℕ)) (owner : ℕ) (command : Command) → command_or_fault first rest ≡ Ok (owner, command) → owned_request first rest ≡ Ok (requests.Command owner command)
+unfolding owned_request
+owned_request-command first [] owner command e = absurd (no_rest first owner command e)
+owned_request-command first (word ∷ args) owner command e = by_watch (bytes_eq word (codes "watch")) first word args owner command (bytes_eq-Decides word (codes "watch")).0 e
+
 -- the request of a command that is read after an owner
-by_owner : (t : Bool) (owned : Result (ℕ × Command) Kind) (other : Result Request Kind) (owner : ℕ) (command : Command) → cond t owned (Err Word) ≡ Ok (owner, command) → cond t (owned >>= λ o. Ok (requests.Command o.0 o.1)) other ≡ Ok (requests.Command owner command)
-by_owner true owned other owner command e = ap (λ (r : Result (ℕ × Command) Kind). r >>= λ o. Ok (requests.Command o.0 o.1)) e
-by_owner false owned other owner command e = absurd cc
+by_owner : (t : Bool) (first : List ℕ) (rest : List (List ℕ)) (other : Result Request Kind) (owner : ℕ) (command : Command) → cond t (command_or_fault first rest) (Err Word) ≡ Ok (owner, command) → cond t (owned_request first rest) other ≡ Ok (requests.Command owner command)
+by_owner true first rest other owner command e = owned_request-command first rest owner command e
+by_owner false first rest other owner command e = absurd cc
 
 pub request_of_parts-owned : (first : List ℕ) (rest : List (List ℕ)) (owner : ℕ) (command : Command) → owned_command (first ∷ rest) ≡ Ok (owner, command) → request_of_parts (first ∷ rest) ≡ Ok (requests.Command owner command)
 unfolding owned_command request_of_parts
-request_of_parts-owned first rest owner command e = by_owner (begins_with_digit first) (command_or_fault first rest) (keyword_request first rest) owner command e
+request_of_parts-owned first rest owner command e = by_owner (begins_with_digit first) first rest (keyword_request first rest) owner command e
 
 -- the parts of a request's line are parts, and the request is read from them
 record IsRequestReadFrom (request : Request) : Type 0 where
@@ -305,16 +326,32 @@ resize-read : (words : ℕ) → IsU32 words → request_of_parts (codes "resize"
 unfolding request_of_parts keyword_request read_resize one_part
 resize-read words small = rw (number_or_fault-decimal words small) refl
 
+tickets-read : (tickets : ℕ) → IsU32 tickets → request_of_parts (codes "tickets" ∷ decimal tickets ∷ []) ≡ Ok (requests.Tickets tickets)
+unfolding request_of_parts keyword_request watching_request read_tickets one_part
+tickets-read tickets small = rw (number_or_fault-decimal tickets small) refl
+
+watch-read : (owner : ℕ) (root : RootId) → IsU32 owner → RootFits root → request_of_parts (decimal owner ∷ codes "watch" ∷ root_text root ∷ []) ≡ Ok (requests.Watch owner root)
+unfolding request_of_parts owned_request read_watch one_part
+watch-read owner root small fits = rw (starts_with_digit (decimal owner) (filled-decimal owner small) (decimal_digits owner small), number_or_fault-decimal owner small, root_or_fault-text root fits) refl
+
+unwatch-read : (ticket : ℕ) → IsU32 ticket → request_of_parts (codes "unwatch" ∷ decimal ticket ∷ []) ≡ Ok (requests.Unwatch ticket)
+unfolding request_of_parts keyword_request watching_request read_unwatch one_part
+unwatch-read ticket small = rw (number_or_fault-decimal ticket small) refl
+
+gone-read : request_of_parts (codes "gone" ∷ []) ≡ Ok requests.Gone
+unfolding request_of_parts keyword_request watching_request
+gone-read = refl
+
 trays-read : request_of_parts (codes "trays" ∷ []) ≡ Ok requests.Trays
-unfolding request_of_parts keyword_request listing_request
+unfolding request_of_parts keyword_request watching_request listing_request
 trays-read = refl
 
 stat-read : request_of_parts (codes "stat" ∷ []) ≡ Ok requests.Stat
-unfolding request_of_parts keyword_request listing_request
+unfolding request_of_parts keyword_request watching_request listing_request
 stat-read = refl
 
 dump-read : request_of_parts (codes "dump" ∷ []) ≡ Ok requests.Dump
-unfolding request_of_parts keyword_request listing_request
+unfolding request_of_parts keyword_request watching_request listing_request
 dump-read = refl
 
 request-read : (line : Request) → RequestFits line → IsRequestReadFrom line
@@ -373,6 +410,28 @@ request-read (requests.Resize words) fits = record {
   are = record { each = (keyword_part (codes "resize") refl refl refl, (number_part words fits, tt)); few = omega arith };
   read = resize-read words fits;
 }
+request-read (requests.Tickets tickets) fits = record {
+  first = codes "tickets";
+  others = decimal tickets ∷ [];
+  spelled = refl;
+  are = record { each = (keyword_part (codes "tickets") refl refl refl, (number_part tickets fits, tt)); few = omega arith };
+  read = tickets-read tickets fits;
+}
+request-read (requests.Watch owner root) fits = record {
+  first = decimal owner;
+  others = codes "watch" ∷ root_text root ∷ [];
+  spelled = refl;
+  are = record { each = (number_part owner fits.0, (keyword_part (codes "watch") refl refl refl, (root_part root fits.1, tt))); few = omega arith };
+  read = watch-read owner root fits.0 fits.1;
+}
+request-read (requests.Unwatch ticket) fits = record {
+  first = codes "unwatch";
+  others = decimal ticket ∷ [];
+  spelled = refl;
+  are = record { each = (keyword_part (codes "unwatch") refl refl refl, (number_part ticket fits, tt)); few = omega arith };
+  read = unwatch-read ticket fits;
+}
+request-read requests.Gone fits = alone-read requests.Gone (codes "gone") (keyword_part (codes "gone") refl refl refl) refl gone-read
 request-read requests.Trays fits = alone-read requests.Trays (codes "trays") (keyword_part (codes "trays") refl refl refl) refl trays-read
 request-read requests.Stat fits = alone-read requests.Stat (codes "stat") (keyword_part (codes "stat") refl refl refl) refl stat-read
 request-read requests.Dump fits = alone-read requests.Dump (codes "dump") (keyword_part (codes "dump") refl refl refl) refl dump-read

@@ -7,6 +7,7 @@ ghost use Rattle.rh_syntax.specs.Spelling.{kind_text, spell_request};
 ghost use Rattle.rh_syntax.specs.declared.request.Request.TheVariants as requests;
 
 use crate::fault::Kind;
+use crate::lines::watching::watching_request;
 use crate::request::Request;
 use crate::tray_name::{TrayName, tray_name_of};
 use crate::values::{number_or_fault, root_or_fault};
@@ -57,7 +58,7 @@ fn put_kind(text: &mut LineText, kind: PieceKind)
 }
 
 /// The request, where nothing stands after its keyword.
-fn alone(rest: Option<&[u8]>, request: Request) -> Result<Request, Kind>
+pub fn alone(rest: Option<&[u8]>, request: Request) -> Result<Request, Kind>
     ensures { result ≡ alone (parts_left rest.entry) request }
 {
     match next_part(rest) {
@@ -216,7 +217,7 @@ pub fn put_resize_line(text: &mut LineText, words: u32)
 
 /// The request of a line that asks what is there, from what stands after its keyword.
 #[tactic(auto, unfolding(crate::specs::Reading::listing_request))]
-fn listing_request(keyword: &[u8], rest: Option<&[u8]>) -> Result<Request, Kind>
+pub fn listing_request(keyword: &[u8], rest: Option<&[u8]>) -> Result<Request, Kind>
     ensures { result ≡ listing_request keyword.now (parts_left rest.entry) }
 {
     if is_text(keyword, b"trays") {
@@ -266,5 +267,5 @@ pub fn keyword_request(keyword: &[u8], rest: Option<&[u8]>) -> Result<Request, K
     if is_text(keyword, b"resize") {
         return read_resize(rest);
     }
-    listing_request(keyword, rest)
+    watching_request(keyword, rest)
 }
