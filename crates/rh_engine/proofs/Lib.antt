@@ -1,4 +1,5 @@
 pub mod WorkedAnswers
+pub mod WorkedWatchAnswers
 pub mod TrayEntries
 pub mod NamedTrays
 pub mod EngineLemmas
@@ -7,7 +8,10 @@ pub mod PutTrays
 pub mod SetTrays
 pub mod LineOrder
 pub mod ResizeOrder
+pub mod TicketOrder
+pub mod TellAll
 pub mod TrayChanges
 pub mod OneCycleAnswer
+pub mod OneWatchAnswer
 pub mod OneListing
 pub mod TrayLimit

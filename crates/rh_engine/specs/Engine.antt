@@ -1,5 +1,5 @@
 -- What the lines of a trace make of a heap and the trays, and what they are answered.
-use Rattle.std.specs.Prelude.{◌≡◌, ◌≢◌, ℕ, ◌<◌, ◌≤◌, ◌⊎◌, ◌==◌, nat_lt, ◌||◌, not, false, if◌then◌else◌, List, length, Option, Some, None, Result, Ok, Err}
+use Rattle.std.specs.Prelude.{◌≡◌, ◌≢◌, ℕ, ◌<◌, ◌≤◌, ◌⊎◌, ◌==◌, nat_lt, ◌||◌, not, Bool, false, if◌then◌else◌, List, [], ◌∷◌, length, slice_set, Option, Some, None, Result, Ok, Err}
 use Rattle.rh_layout.specs.Refusing.{unless}
 use Rattle.rh_layout.specs.declared.command.Command.{Command}
 use Rattle.rh_layout.specs.declared.command.Reply.{Reply}
@@ -19,6 +19,7 @@ use Rattle.rh_core.specs.declared.errors.IdleError.{IdleError}
 use Rattle.rh_core.specs.declared.errors.NoCycle.{NoCycle}
 use Rattle.rh_core.specs.declared.errors.RecallError.{RecallError}
 use Rattle.rh_core.specs.declared.errors.ShadeError.{ShadeError}
+use Rattle.rh_core.specs.declared.errors.WatchError.{WatchError}
 use Rattle.rh_text.specs.Stages.{◌when◌, ◌▸◌, no_fault}
 use Rattle.rh_core.specs.Heap.{HeapState}
 use Rattle.rh_core.specs.Commands.{heap_step}
@@ -30,6 +31,10 @@ use Rattle.rh_core.specs.Shading.{shade_step}
 use Rattle.rh_core.specs.Stat.{stat_of}
 use Rattle.rh_core.specs.Dealing.{deal_step}
 use Rattle.rh_core.specs.Giving.{give_step}
+use Rattle.rh_core.specs.Watching.{unwatch_step, watch_step, with_watch_room, with_watches}
+use Rattle.rh_watches.specs.declared.watch.Watch.{Watch}
+use Rattle.rh_watches.specs.declared.watch.Watch.TheVariants.{Free}
+use Rattle.rh_watches.specs.Watches.{WatchTable}
 use Rattle.rh_engine.specs.declared.engine.TrayDeal.{TrayDeal}
 use Rattle.rh_engine.specs.declared.engine.DealRefusal.{DealRefusal}
 use Rattle.rh_engine.specs.declared.engine.DealRefusal.TheVariants as deal_refusals
@@ -37,6 +42,8 @@ use Rattle.rh_engine.specs.declared.engine.GiveRefusal.{GiveRefusal}
 use Rattle.rh_engine.specs.declared.engine.GiveRefusal.TheVariants as give_refusals
 use Rattle.rh_engine.specs.declared.engine.ResizeRefusal.{ResizeRefusal}
 use Rattle.rh_engine.specs.declared.engine.ResizeRefusal.TheVariants as resize_refusals
+use Rattle.rh_engine.specs.declared.engine.TicketsRefusal.{TicketsRefusal}
+use Rattle.rh_engine.specs.declared.engine.TicketsRefusal.TheVariants as tickets_refusals
 use Rattle.rh_engine.specs.declared.trays.JoinRefusal.{JoinRefusal}
 use Rattle.rh_engine.specs.declared.trays.JoinRefusal.TheVariants as join_refusals
 use Rattle.rh_engine.specs.Trays.{Trays, Tray, tray_named, trays_with, tray_with, tray_or_empty, replica_of, is_beyond, join_step, IsFoldedInto}
@@ -102,6 +109,50 @@ resize_unless refusal e words = unless refusal e (with_space e words, Ok words)
 -- Both spaces have so many words.
 abbrev pub resize_line_step : EngineState → ℕ → EngineState × Result ℕ ResizeRefusal
 resize_line_step e words = resize_unless (resize_line_refusal e words) e words
+
+-- Watches.
+
+-- why there isn't room for so many tickets
+abbrev pub tickets_line_refusal : EngineState → ℕ → Option TicketsRefusal
+tickets_line_refusal e tickets =
+    let now = length e.heap.watches.tickets in
+    if nat_lt tickets now then Some (tickets_refusals.Fewer now)
+    else if nat_lt 65536 tickets then Some tickets_refusals.TooMany
+    else None
+
+-- the engine and the answer, unless it is refused
+abbrev pub tickets_unless : Option TicketsRefusal → EngineState → ℕ
+    → EngineState × Result ℕ TicketsRefusal
+tickets_unless refusal e tickets =
+    unless refusal e (record e { heap = with_watch_room e.heap tickets }, Ok tickets)
+
+-- There is room for so many tickets in all.
+abbrev pub tickets_line_step : EngineState → ℕ → EngineState × Result ℕ TicketsRefusal
+tickets_line_step e tickets = tickets_unless (tickets_line_refusal e tickets) e tickets
+
+-- a ticket watches the object that a root holds
+abbrev pub watch_line_step : EngineState → ℕ → RootId → EngineState × Result ℕ WatchError
+watch_line_step e owner root =
+    (record e { heap = (watch_step e.heap owner root).0 }, (watch_step e.heap owner root).1)
+
+-- a ticket watches no object
+abbrev pub unwatch_line_step : EngineState → ℕ → EngineState × Bool
+unwatch_line_step e ticket =
+    (record e { heap = (unwatch_step e.heap ticket).0 }, (unwatch_step e.heap ticket).1)
+
+-- what tickets are once these are free
+abbrev pub freed : List Watch → List ℕ → List Watch
+freed ws [] = ws
+freed ws (ticket ∷ tickets) = freed (slice_set ws ticket Free) tickets
+
+-- the table whose tickets to be told were told, and are free
+abbrev pub table_told : WatchTable → WatchTable
+table_told t = record { tickets = freed t.tickets t.gone; gone = [] }
+
+-- All tickets to be told are told, in their order.
+abbrev pub gone_line_step : EngineState → EngineState × List ℕ
+gone_line_step e =
+    (record e { heap = with_watches e.heap (table_told e.heap.watches) }, e.heap.watches.gone)
 
 -- Deal.
 
@@ -221,6 +272,14 @@ refusals_of_resize e words =
     let used = (stat_of e.heap).used in
     (resize_refusals.BadSpace when ((words < 8) ⊎ (16777216 < words)))
     ▸ (resize_refusals.Used used when (words < used))
+    ▸ no_fault
+
+-- the refusals of room for tickets, in their order, each with when it holds
+abbrev pub refusals_of_tickets : EngineState → ℕ → ℕ → TicketsRefusal → Type 0
+refusals_of_tickets e tickets =
+    let now = length e.heap.watches.tickets in
+    (tickets_refusals.Fewer now when (tickets < now))
+    ▸ (tickets_refusals.TooMany when (65536 < tickets))
     ▸ no_fault
 
 -- The heap dealt a piece, which was folded into the tray of this name. Its items, and the entries

@@ -1,7 +1,8 @@
 //! Laws of trays, and of the lines that deal into them. Each function does nothing: its contract is
 //! the law.
 
-ghost use Rattle.std.specs.Prelude.{◌≡◌, ◌≢◌, ◌↔◌, ◌≤◌, ◌+◌, ◌-◌, ◌++◌, ◌∷◌, [], ℕ, List, length, true, Some, Result, Ok, Err, is_some, map, None, if◌then◌else◌};
+ghost use Rattle.std.specs.Prelude.{◌≡◌, ◌≢◌, ◌↔◌, ◌≤◌, ◌+◌, ◌-◌, ◌++◌, ◌∷◌, [], ℕ, Bool, List, length, true, Some, Result, Ok, Err, is_some, map, None, if◌then◌else◌};
+ghost use Rattle.std.specs.List.{AllByRecursion};
 ghost use Rattle.std.specs.List.Sorted.{IsStrictlySortedBy};
 ghost use Rattle.std.specs.Map.{keys_of};
 ghost use Rattle.rh_layout.specs.Item.{place_cmp, place_of};
@@ -15,6 +16,7 @@ ghost use Rattle.rh_engine.specs.declared.engine.DealRefusal.{DealRefusal};
 ghost use Rattle.rh_engine.specs.declared.engine.DealRefusal.TheVariants.{TooManyTrays};
 ghost use Rattle.rh_engine.specs.declared.engine.GiveRefusal.{GiveRefusal};
 ghost use Rattle.rh_engine.specs.declared.engine.ResizeRefusal.{ResizeRefusal};
+ghost use Rattle.rh_engine.specs.declared.engine.TicketsRefusal.{TicketsRefusal};
 ghost use Rattle.rh_engine.specs.declared.trays.JoinRefusal.{JoinRefusal};
 ghost use Rattle.rh_engine.specs.declared.trays.JoinRefusal.TheVariants as joins;
 ghost use Rattle.rh_core.specs.declared.errors.BeginError.{BeginError};
@@ -23,16 +25,20 @@ ghost use Rattle.rh_core.specs.declared.errors.IdleError.{IdleError};
 ghost use Rattle.rh_core.specs.declared.errors.NoCycle.{NoCycle};
 ghost use Rattle.rh_core.specs.declared.errors.RecallError.{RecallError};
 ghost use Rattle.rh_core.specs.declared.errors.ShadeError.{ShadeError};
+ghost use Rattle.rh_core.specs.declared.errors.WatchError.{WatchError};
 ghost use Rattle.rh_core.specs.declared.outcomes.Flipped.{Flipped};
 ghost use Rattle.rh_core.specs.declared.outcomes.Given.{Given as GivenOf};
 ghost use Rattle.rh_core.specs.declared.outcomes.Shaded.{Shaded};
 ghost use Rattle.rh_core.specs.declared.stat.Stat.{Stat};
 ghost use Rattle.rh_core.specs.Stat.{stat_of};
+ghost use Rattle.rh_watches.specs.declared.watch.Watch.TheVariants.{Free};
+ghost use Rattle.rh_watches.specs.Watches.{ticket_at};
 ghost use Rattle.rh_syntax.specs.TrayName.{IsTrayName};
 ghost use Rattle.rh_engine.specs.CycleAnswers.{begin_text, shade_text, deal_text, give_text, join_text, flip_text, recall_text, abandon_text, idle_text, resize_text, tray_text, stat_text};
 ghost use Rattle.rh_engine.specs.ToldAnswers.{IsToldBegin, IsToldShade, IsToldDeal, IsToldGive, IsToldJoin, IsToldFlip, IsToldRecall, IsToldAbandon, IsToldIdle, IsToldResize, IsToldTray, IsToldStat};
+ghost use Rattle.rh_engine.specs.WatchAnswers.{gone_text, tickets_text, unwatch_text, watch_text, IsToldGone, IsToldTickets, IsToldWatch};
 ghost use Rattle.rh_engine.specs.Trays.{Trays as TraysOf, Tray, tray_named, trays_with, entries_with_all, replica_of, tray_of, IsJoinedInto};
-ghost use Rattle.rh_engine.specs.Engine.{EngineState, deal_line_step, refusals_of_deal, join_line_step, refusals_of_join, give_line_step, refusals_of_give, IsDealtInto, resize_line_step, refusals_of_resize};
+ghost use Rattle.rh_engine.specs.Engine.{EngineState, deal_line_step, refusals_of_deal, join_line_step, refusals_of_join, give_line_step, refusals_of_give, IsDealtInto, resize_line_step, refusals_of_resize, tickets_line_step, refusals_of_tickets, gone_line_step};
 
 /// Entries with items joined in have at each place what they had, joined with the newest of the
 /// items, and stand in order of place where they did before.
@@ -139,6 +145,34 @@ pub fn resizes_are_refused_in_order()
         → (resize_line_step e words).0.trays ≡ e.trays }
 {}
 
+/// Room for tickets is refused by the first of its refusals that holds, and nothing changes then.
+/// Where it is made none of them holds, there are so many tickets, and the answer is how many. The
+/// trays stay.
+pub fn room_for_tickets_is_refused_in_order()
+    ensures refused { (e : EngineState) (tickets : ℕ) (why : TicketsRefusal)
+        → (tickets_line_step e tickets).1 ≡ Err why
+        → IsLeast (refusals_of_tickets e tickets) why
+        × ((tickets_line_step e tickets).0 ≡ e) }
+    ensures made { (e : EngineState) (tickets n : ℕ) → (tickets_line_step e tickets).1 ≡ Ok n
+        → IsFaultless (refusals_of_tickets e tickets) × (n ≡ tickets)
+        × (length (tickets_line_step e tickets).0.heap.watches.tickets ≡ tickets) }
+    ensures trays { (e : EngineState) (tickets : ℕ)
+        → (tickets_line_step e tickets).0.trays ≡ e.trays }
+{}
+
+/// A line `gone` tells the tickets that are to be told, in their order. Each of them is free from
+/// then on, all others stay as they are, and none is to be told any more.
+pub fn what_a_line_tells_is_free()
+    ensures told { (e : EngineState) → (gone_line_step e).1 ≡ e.heap.watches.gone }
+    ensures free { (e : EngineState) (ticket : ℕ) (before after : List ℕ) → (gone_line_step e).1 ≡ before ++ ticket ∷ after
+        → ticket_at (gone_line_step e).0.heap.watches ticket ≡ Free }
+    ensures others { (e : EngineState) (ticket : ℕ)
+        → AllByRecursion (λ n. n ≢ ticket) (gone_line_step e).1
+        → ticket_at (gone_line_step e).0.heap.watches ticket
+        ≡ ticket_at e.heap.watches ticket }
+    ensures once { (e : EngineState) → (gone_line_step (gone_line_step e).0).1 ≡ [] }
+{}
+
 /// There are at most 64 trays: in a cycle a deal into a tray is refused with TooManyTrays, and
 /// changes nothing, exactly where there is none of its name and there are 64 others, and so is a
 /// join of a tray that is there into one. A name that is new makes one tray more, and one that is
@@ -181,6 +215,13 @@ pub fn each_text_is_of_one_answer_to_its_line()
         → idle_text a ≡ idle_text b → a ≡ b }
     ensures resize { (a b : Result ℕ ResizeRefusal) → IsToldResize a → IsToldResize b
         → resize_text a ≡ resize_text b → a ≡ b }
+    ensures tickets { (a b : Result ℕ TicketsRefusal) → IsToldTickets a → IsToldTickets b
+        → tickets_text a ≡ tickets_text b → a ≡ b }
+    ensures watch { (a b : Result ℕ WatchError) → IsToldWatch a → IsToldWatch b
+        → watch_text a ≡ watch_text b → a ≡ b }
+    ensures unwatch { (a b : Bool) → unwatch_text a ≡ unwatch_text b → a ≡ b }
+    ensures gone { (a b : List ℕ) → IsToldGone a → IsToldGone b → gone_text a ≡ gone_text b
+        → a ≡ b }
 {}
 
 /// The line of a tray tells its name, its epoch and how many entries it has, and not which. The
