@@ -13,7 +13,7 @@ use Rattle.rh_syntax.specs.declared.request.Request.{Request}
 use Rattle.rh_syntax.specs.declared.request.Request.TheVariants as requests
 use Rattle.rh_trace.specs.Answers.{is_answer, is_refused}
 use Rattle.rh_engine.specs.Engine.{EngineState, tray_refusal, deal_unless, give_found}
-use Rattle.rh_trace.specs.Events.{event_unless, gives_of, request_events, events_of, LeavesSizes, is_command, is_refused_command}
+use Rattle.rh_trace.specs.Events.{event_unless, gives_of, request_events, events_of, ChangesByEvents, is_command, is_refused_command}
 use Rattle.rh_trace.specs.Run.{request_step, answers_to}
 use Rattle.rh_engine.specs.Trays.{Tray, tray_named, replica_of}
 use Rattle.rh_trace.proofs.CountsByHead.{count_by-head}
@@ -32,6 +32,10 @@ is_answer-request e requests.Recall = refl
 is_answer-request e requests.Abandon = refl
 is_answer-request e (requests.Idle words) = refl
 is_answer-request e (requests.Resize words) = refl
+is_answer-request e (requests.Tickets tickets) = refl
+is_answer-request e (requests.Watch owner root) = refl
+is_answer-request e (requests.Unwatch ticket) = refl
+is_answer-request e requests.Gone = refl
 is_answer-request e requests.Trays = refl
 is_answer-request e requests.Stat = refl
 is_answer-request e requests.Dump = refl
@@ -67,7 +71,7 @@ module _ (A : Type 0) where
   refusals-give (Some t) e rest = refusals-first e (events.Give (replica_of t)) rest
 
   -- the heap refuses a command where its request is answered a refusal
-  refusals-request : (e : EngineState) (request : Request) → LeavesSizes request → (rest : List (Event A))
+  refusals-request : (e : EngineState) (request : Request) → ChangesByEvents request → (rest : List (Event A))
       → refusals e.heap (request_events e request ++ rest) ≡ cond (is_refused (request_step e request).1) 1 0 + refusals (request_step e request).0.heap rest
   refusals-request e (requests.Command owner command) leaves rest = refusals-first e (events.Command owner command) rest
   refusals-request e requests.Begin leaves rest = refusals-first e events.Begin rest
@@ -80,11 +84,15 @@ module _ (A : Type 0) where
   refusals-request e requests.Abandon leaves rest = refusals-first e events.Abandon rest
   refusals-request e (requests.Idle words) leaves rest = refusals-first e (events.Idle words) rest
   refusals-request e (requests.Resize words) leaves rest = absurd leaves
+  refusals-request e (requests.Tickets tickets) leaves rest = absurd leaves
+  refusals-request e (requests.Watch owner root) leaves rest = absurd leaves
+  refusals-request e (requests.Unwatch ticket) leaves rest = absurd leaves
+  refusals-request e requests.Gone leaves rest = absurd leaves
   refusals-request e requests.Trays leaves rest = omega arith
   refusals-request e requests.Stat leaves rest = omega arith
   refusals-request e requests.Dump leaves rest = omega arith
 
-  pub refused_of-requests : (e : EngineState) (requests : List Request) → AllByRecursion LeavesSizes requests → count_by is_refused (answers_to e requests) ≡ refusals e.heap (events_of e requests)
+  pub refused_of-requests : (e : EngineState) (requests : List Request) → AllByRecursion ChangesByEvents requests → count_by is_refused (answers_to e requests) ≡ refusals e.heap (events_of e requests)
   refused_of-requests e [] leave = refl
   refused_of-requests e (request ∷ others) leave =
       let one = request_step e request in

@@ -1,5 +1,5 @@
 -- A heap counts its flips and root words as a summary adds them up.
-use Rattle.std.proofs.Common.{◌≡◌, ℕ, ◌+◌, cond, List, [], ◌∷◌, Option, Some, None, Result, Ok, Err, refl, ap, arith}
+use Rattle.std.proofs.Common.{◌≡◌, ℕ, ◌+◌, cond, List, [], ◌∷◌, Option, Some, None, Result, Ok, Err, refl, sym, subst, ap, arith}
 use Rattle.std.specs.Prelude.{is_some, count_by}
 use Rattle.std.specs.Result.{result_ok}
 use Rattle.rh_layout.specs.declared.command.Command.{Command}
@@ -23,9 +23,11 @@ use Rattle.rh_syntax.specs.declared.request.Request.{Request}
 use Rattle.rh_syntax.specs.declared.request.Request.TheVariants as requests
 use Rattle.rh_trace.specs.Answers.{is_flip, flip_of, words_of, root_words_of}
 use Rattle.rh_engine.specs.Engine.{EngineState, deal_unless, deal_done, tray_refusal, give_found, resize_line_step}
+use Rattle.rh_trace.specs.Events.{IsOfWatches}
 use Rattle.rh_trace.specs.Run.{request_step, answers_to, engine_after}
 use Rattle.rh_engine.specs.Trays.{Trays, Tray, tray_named, replica_of}
 use Rattle.rh_engine.proofs.ResizeOrder.{resize-either}
+use Rattle.rh_trace.proofs.WatchedHeaps.{tickets-alone}
 use Rattle.rh_trace.proofs.CountsByHead.{count_by-head}
 
 -- the counts stay
@@ -72,6 +74,11 @@ give-counts : HeapCounts → (found : Option Tray) (e : EngineState) → CountsS
 give-counts counts None e = (refl, refl)
 give-counts counts (Some t) e = counts.give e.heap (replica_of t)
 
+watched-counts : (e : EngineState) (request : Request) → IsOfWatches request → CountsStay e.heap (request_step e request).0.heap
+watched-counts e request is =
+    let alone = tickets-alone e request is in
+    subst (CountsStay e.heap) (sym alone.1) (refl, refl)
+
 request-counted : HeapCounts → (request : Request) (e : EngineState) → IsCounted e.heap (request_step e request).0.heap (flip_of (request_step e request).1)
 request-counted counts (requests.Command owner command) e = counted-none e.heap (heap_step e.heap owner command).0 (counts.command e.heap owner command)
 request-counted counts requests.Begin e = counted-none e.heap (begin_step e.heap).0 (counts.begin e.heap)
@@ -84,6 +91,10 @@ request-counted counts requests.Recall e = counted-none e.heap (recall_step e.he
 request-counted counts requests.Abandon e = counted-none e.heap (abandon_step e.heap).0 (counts.abandon e.heap)
 request-counted counts (requests.Idle words) e = counted-none e.heap (idle_step e.heap words).0 (counts.idle e.heap words)
 request-counted counts (requests.Resize words) e = counted-none e.heap (resize_line_step e words).0.heap (resize-either e words (λ x. CountsStay e.heap x.heap) (refl, refl) (λ in_range few. (refl, refl)))
+request-counted counts (requests.Tickets tickets) e = counted-none e.heap (request_step e (requests.Tickets tickets)).0.heap (watched-counts e (requests.Tickets tickets) tt)
+request-counted counts (requests.Watch owner root) e = counted-none e.heap (request_step e (requests.Watch owner root)).0.heap (watched-counts e (requests.Watch owner root) tt)
+request-counted counts (requests.Unwatch ticket) e = counted-none e.heap (request_step e (requests.Unwatch ticket)).0.heap (watched-counts e (requests.Unwatch ticket) tt)
+request-counted counts requests.Gone e = counted-none e.heap (request_step e requests.Gone).0.heap (watched-counts e requests.Gone tt)
 request-counted counts requests.Trays e = counted-none e.heap e.heap (refl, refl)
 request-counted counts requests.Stat e = counted-none e.heap e.heap (refl, refl)
 request-counted counts requests.Dump e = counted-none e.heap e.heap (refl, refl)

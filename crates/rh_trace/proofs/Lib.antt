@@ -10,6 +10,7 @@ pub mod WorkedResizes
 pub mod LinesAreEvents
 pub mod TraceParts
 pub mod ResizedHeaps
+pub mod WatchedHeaps
 pub mod TraysInOrder
 pub mod HeapDump
 pub mod OneTotal

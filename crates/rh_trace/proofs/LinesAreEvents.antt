@@ -18,10 +18,11 @@ use Rattle.rh_syntax.specs.declared.request.Request.TheVariants as requests
 use Rattle.rh_trace.specs.Answers as answered
 use Rattle.rh_engine.specs.Engine.{EngineState, tray_refusal, counts_of_dealt, deal_done, deal_unless, given_or_refused, give_found}
 use Rattle.rh_trace.specs.Events as told
-use Rattle.rh_trace.specs.Events.{request_events, events_of, gives_of, LeavesSizes, MayChangeTrays, TellsDealt, TellsGiven, TellsAnswer}
+use Rattle.rh_trace.specs.Events.{request_events, events_of, gives_of, ChangesByEvents, MayChangeTrays, TellsDealt, TellsGiven, TellsAnswer}
 use Rattle.rh_trace.specs.Run.{request_step, engine_after}
 use Rattle.rh_engine.specs.Trays.{Tray, Trays, tray_named, replica_of}
 use Rattle.rh_engine.proofs.ResizeOrder.{resize-trays}
+use Rattle.rh_engine.proofs.TicketOrder.{tickets-trays}
 
 pub heap-of_deal : (heap : HeapState) (answer : Result Dealt DealError) (trays : Trays) (name : List ℕ) → (deal_done heap answer trays name).0.heap ≡ heap
 heap-of_deal heap (Ok dealt) trays name = refl
@@ -52,6 +53,10 @@ trays-of_request e requests.Recall other = refl
 trays-of_request e requests.Abandon other = refl
 trays-of_request e (requests.Idle words) other = refl
 trays-of_request e (requests.Resize words) other = resize-trays e words
+trays-of_request e (requests.Tickets tickets) other = tickets-trays e tickets
+trays-of_request e (requests.Watch owner root) other = refl
+trays-of_request e (requests.Unwatch ticket) other = refl
+trays-of_request e requests.Gone other = refl
 trays-of_request e requests.Trays other = refl
 trays-of_request e requests.Stat other = refl
 trays-of_request e requests.Dump other = refl
@@ -65,7 +70,7 @@ module _ (A : Type 0) where
   heap-of_give None e = refl
   heap-of_give (Some t) e = refl
 
-  heap-of_request : (e : EngineState) (request : Request) → LeavesSizes request → (request_step e request).0.heap ≡ heap_after {A = A} e.heap (request_events e request)
+  heap-of_request : (e : EngineState) (request : Request) → ChangesByEvents request → (request_step e request).0.heap ≡ heap_after {A = A} e.heap (request_events e request)
   heap-of_request e (requests.Command owner command) leaves = refl
   heap-of_request e requests.Begin leaves = refl
   heap-of_request e (requests.Shade root) leaves = refl
@@ -77,6 +82,10 @@ module _ (A : Type 0) where
   heap-of_request e requests.Abandon leaves = refl
   heap-of_request e (requests.Idle words) leaves = refl
   heap-of_request e (requests.Resize words) leaves = absurd leaves
+  heap-of_request e (requests.Tickets tickets) leaves = absurd leaves
+  heap-of_request e (requests.Watch owner root) leaves = absurd leaves
+  heap-of_request e (requests.Unwatch ticket) leaves = absurd leaves
+  heap-of_request e requests.Gone leaves = absurd leaves
   heap-of_request e requests.Trays leaves = refl
   heap-of_request e requests.Stat leaves = refl
   heap-of_request e requests.Dump leaves = refl
@@ -86,7 +95,7 @@ module _ (A : Type 0) where
   heap_after-append h (event ∷ one) other = heap_after-append (event_step h event).0 one other
 
   -- the heap after requests is the heap after their events
-  pub heap-after_requests : (e : EngineState) (requests : List Request) → AllByRecursion LeavesSizes requests → (engine_after e requests).heap ≡ heap_after {A = A} e.heap (events_of e requests)
+  pub heap-after_requests : (e : EngineState) (requests : List Request) → AllByRecursion ChangesByEvents requests → (engine_after e requests).heap ≡ heap_after {A = A} e.heap (events_of e requests)
   heap-after_requests e [] leave = refl
   heap-after_requests e (request ∷ others) leave =
       let next = (request_step e request).0 in
@@ -115,6 +124,10 @@ module _ (A : Type 0) where
   answer-of_request e requests.Abandon = refl
   answer-of_request e (requests.Idle words) = refl
   answer-of_request e (requests.Resize words) = tt
+  answer-of_request e (requests.Tickets tickets) = tt
+  answer-of_request e (requests.Watch owner root) = tt
+  answer-of_request e (requests.Unwatch ticket) = tt
+  answer-of_request e requests.Gone = tt
   answer-of_request e requests.Trays = tt
   answer-of_request e requests.Stat = tt
   answer-of_request e requests.Dump = tt

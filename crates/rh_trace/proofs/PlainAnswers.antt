@@ -21,7 +21,7 @@ use Rattle.rh_core.specs.runs.Run.{event_step}
 use Rattle.rh_core.specs.Stat.{stat_of}
 use Rattle.rh_engine.specs.declared.engine.DealRefusal.{DealRefusal}
 use Rattle.rh_engine.specs.Trays.{Trays, Tray, tray_named, replica_of}
-use Rattle.rh_engine.specs.Engine.{EngineState, command_step, begin_line_step, shade_line_step, deal_line_step, deal_unless, deal_done, tray_refusal, give_line_step, give_found, join_line_step, flip_line_step, recall_line_step, abandon_line_step, idle_line_step, resize_line_step}
+use Rattle.rh_engine.specs.Engine.{EngineState, command_step, begin_line_step, shade_line_step, deal_line_step, deal_unless, deal_done, tray_refusal, give_line_step, give_found, join_line_step, flip_line_step, recall_line_step, abandon_line_step, idle_line_step, resize_line_step, tickets_line_step, watch_line_step, unwatch_line_step, gone_line_step}
 use Rattle.rh_syntax.specs.declared.fault.TraceFault.{TraceFault}
 use Rattle.rh_trace.specs.declared.run_fault.RunFault.{RunFault}
 use Rattle.rh_trace.specs.declared.run_fault.RunFault.TheVariants as faults
@@ -38,6 +38,7 @@ use Rattle.rh_trace.specs.Answers.{Answered, answered_text, total_line}
 use Rattle.rh_trace.specs.Run.{config_of, request_step, answers_to, new_run, answers_of, summary_of, output_of, run_of_script, run_of_trace, text_of, StopsBeforeTotal, Ends, IsPlainAnswer, plain_after, AreTransparent, IsPlainRun}
 use Rattle.rh_syntax.specs.lemmas.ReadIsSpelled.{trace_of-means}
 use Rattle.rh_trace.proofs.ResizedHeaps.{resize-well_formed, resize-stands}
+use Rattle.rh_trace.proofs.WatchedHeaps.{watched-well_formed, watched-stands}
 
 -- a new heap stands for the empty plain heap
 abbrev pub Begins : Type 0
@@ -96,6 +97,10 @@ module _ {A : Type 0} (keeps : StaysWellFormed A) (steps : Steps A) where
   request-answer dumps requests.Abandon e p plain = ((abandon_line_step e).1, refl)
   request-answer dumps (requests.Idle words) e p plain = ((idle_line_step e words).1, refl)
   request-answer dumps (requests.Resize words) e p plain = ((resize_line_step e words).1, refl)
+  request-answer dumps (requests.Tickets tickets) e p plain = ((tickets_line_step e tickets).1, refl)
+  request-answer dumps (requests.Watch owner root) e p plain = ((watch_line_step e owner root).1, refl)
+  request-answer dumps (requests.Unwatch ticket) e p plain = ((unwatch_line_step e ticket).1, refl)
+  request-answer dumps requests.Gone e p plain = ((gone_line_step e).1, refl)
   request-answer dumps requests.Trays e p plain = (e.trays, refl)
   request-answer dumps requests.Stat e p plain = (stat_of e.heap, refl)
   request-answer dumps requests.Dump e p plain = ap answers.Dump (dumps e.heap p plain.1)
@@ -113,6 +118,10 @@ module _ {A : Type 0} (keeps : StaysWellFormed A) (steps : Steps A) where
   request-plain requests.Abandon e p plain = event-plain e.heap p plain happenings.Abandon
   request-plain (requests.Idle words) e p plain = event-plain e.heap p plain (happenings.Idle words)
   request-plain (requests.Resize words) e p plain = (resize-well_formed e words plain.0, resize-stands e words p plain.1)
+  request-plain (requests.Tickets tickets) e p plain = (watched-well_formed e (requests.Tickets tickets) tt plain.0, watched-stands e (requests.Tickets tickets) tt p plain.1)
+  request-plain (requests.Watch owner root) e p plain = (watched-well_formed e (requests.Watch owner root) tt plain.0, watched-stands e (requests.Watch owner root) tt p plain.1)
+  request-plain (requests.Unwatch ticket) e p plain = (watched-well_formed e (requests.Unwatch ticket) tt plain.0, watched-stands e (requests.Unwatch ticket) tt p plain.1)
+  request-plain requests.Gone e p plain = (watched-well_formed e requests.Gone tt plain.0, watched-stands e requests.Gone tt p plain.1)
   request-plain requests.Trays e p plain = plain
   request-plain requests.Stat e p plain = plain
   request-plain requests.Dump e p plain = plain

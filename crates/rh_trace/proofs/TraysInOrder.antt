@@ -21,6 +21,7 @@ use Rattle.rh_engine.specs.Engine.{EngineState, tray_refusal, deal_done, deal_un
 use Rattle.rh_trace.specs.Run.{request_step, engine_after}
 use Rattle.rh_engine.specs.Trays.{Tray, Trays, tray_named, trays_with, tray_with, tray_or_empty, empty_tray, is_beyond, joined_into, join_found, with_join, IsInOrder, AreInOrder, AreFewInOrder}
 use Rattle.rh_engine.proofs.ResizeOrder.{resize-trays}
+use Rattle.rh_engine.proofs.TicketOrder.{tickets-trays}
 use Rattle.rh_engine.proofs.TrayEntries.{rises-with_all}
 
 named_by : (b : Bool) (t u : Tray) (rest : Option Tray) → IsInOrder t → (rest ≡ Some u → IsInOrder u) → cond b (Some t) rest ≡ Some u → IsInOrder u
@@ -124,6 +125,10 @@ order-request e requests.Recall were = were
 order-request e requests.Abandon were = were
 order-request e (requests.Idle words) were = were
 order-request e (requests.Resize words) were = subst AreFewInOrder (sym (resize-trays e words)) were
+order-request e (requests.Tickets tickets) were = subst AreFewInOrder (sym (tickets-trays e tickets)) were
+order-request e (requests.Watch owner root) were = were
+order-request e (requests.Unwatch ticket) were = were
+order-request e requests.Gone were = were
 order-request e requests.Trays were = were
 order-request e requests.Stat were = were
 order-request e requests.Dump were = were

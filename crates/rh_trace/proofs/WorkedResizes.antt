@@ -15,7 +15,7 @@ use Rattle.rh_model.specs.Graph.{refusal_of, fault_in, reply_to}
 use Rattle.rh_text.specs.Number.{number_of}
 use Rattle.rh_text.specs.Parts.{is_formed, one_part, two_parts, three_parts, six_parts}
 use Rattle.rh_text.specs.Root.{root_of}
-use Rattle.rh_syntax.specs.Reading.{read_alloc, read_drop, command_or_fault, kind_or_fault, read_shade, read_deal, read_give, read_idle, read_resize, keyword_request, listing_request, request_of_parts, sizes_of, header_of_parts, checked_parts, request_or_kind, header_or_kind, requests_from, script_or_fault}
+use Rattle.rh_syntax.specs.Reading.{read_alloc, read_drop, command_or_fault, kind_or_fault, read_shade, read_deal, read_give, read_idle, read_resize, keyword_request, watching_request, listing_request, owned_request, request_of_parts, sizes_of, header_of_parts, checked_parts, request_or_kind, header_or_kind, requests_from, script_or_fault}
 use Rattle.rh_trace.specs.Run.{run_of, text_of}
 use Rattle.rh_syntax.specs.TrayName.{is_tray_name}
 
@@ -59,5 +59,5 @@ answers : List ℕ
 answers = text (map (λ (row : List ℕ × List ℕ). row.1) rows ++ codes "total commands 7 refused 2 flips 1 rootwords 2" ∷ [])
 
 run : text_of (run_of trace) ≡ answers
-unfolding digits script_or_fault header_or_kind request_or_kind requests_from checked_parts is_formed header_of_parts six_parts sizes_of number_of request_of_parts command_or_fault read_alloc read_drop keyword_request listing_request read_shade read_deal read_give read_idle read_resize kind_or_fault is_tray_name one_part two_parts three_parts root_of heap_step heap_after_command limit_of mutators_after refusal_of fault_in reply_to begin_step flip_step idle_step shade_step deal_step give_step class_of text rows trace answers
+unfolding digits script_or_fault header_or_kind request_or_kind requests_from checked_parts is_formed header_of_parts six_parts sizes_of number_of request_of_parts owned_request command_or_fault read_alloc read_drop keyword_request watching_request listing_request read_shade read_deal read_give read_idle read_resize kind_or_fault is_tray_name one_part two_parts three_parts root_of heap_step heap_after_command limit_of mutators_after refusal_of fault_in reply_to begin_step flip_step idle_step shade_step deal_step give_step class_of text rows trace answers
 run = refl

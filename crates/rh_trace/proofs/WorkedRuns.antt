@@ -28,7 +28,7 @@ use Rattle.rh_trace.specs.Answers as told
 use Rattle.rh_trace.specs.Answers.{Answered}
 use Rattle.rh_syntax.specs.declared.request.Request.{Request}
 use Rattle.rh_syntax.specs.declared.request.Request.TheVariants.{Command, Dump}
-use Rattle.rh_syntax.specs.Reading.{operand_or_fault, read_alloc, read_store, command_or_fault, kind_or_fault, read_shade, read_deal, read_give, read_join, read_idle, keyword_request, listing_request, request_of_parts, sizes_of, header_of_parts, checked_parts, request_or_kind, header_or_kind, requests_from, script_or_fault}
+use Rattle.rh_syntax.specs.Reading.{operand_or_fault, read_alloc, read_store, command_or_fault, kind_or_fault, read_shade, read_deal, read_give, read_join, read_idle, keyword_request, watching_request, listing_request, owned_request, request_of_parts, sizes_of, header_of_parts, checked_parts, request_or_kind, header_or_kind, requests_from, script_or_fault}
 use Rattle.rh_trace.specs.Run.{run_of, text_of, AreTransparent}
 use Rattle.rh_syntax.specs.TrayName.{is_tray_name}
 
@@ -84,7 +84,7 @@ answers : List ℕ
 answers = text (flat_map (λ row. row.1) rows ++ codes "total commands 6 refused 0 flips 1 rootwords 3" ∷ [])
 
 run : text_of (run_of trace) ≡ answers
-unfolding digits script_or_fault header_or_kind request_or_kind requests_from checked_parts is_formed header_of_parts six_parts sizes_of number_of integer_of request_of_parts command_or_fault read_alloc read_store operand_or_fault keyword_request listing_request read_shade read_deal read_give read_join read_idle kind_or_fault is_tray_name one_part two_parts three_parts root_of heap_step heap_after_command limit_of mutators_after refusal_of fault_in reply_to begin_step flip_step recall_step abandon_step idle_step shade_step deal_step give_step class_of text rows trace answers
+unfolding digits script_or_fault header_or_kind request_or_kind requests_from checked_parts is_formed header_of_parts six_parts sizes_of number_of integer_of request_of_parts owned_request command_or_fault read_alloc read_store operand_or_fault keyword_request watching_request listing_request read_shade read_deal read_give read_join read_idle kind_or_fault is_tray_name one_part two_parts three_parts root_of heap_step heap_after_command limit_of mutators_after refusal_of fault_in reply_to begin_step flip_step recall_step abandon_step idle_step shade_step deal_step give_step class_of text rows trace answers
 run = refl
 
 -- ---- what isn't the answer of a plain heap

@@ -11,22 +11,25 @@ use Rattle.rh_core.specs.declared.errors.IdleError.{IdleError}
 use Rattle.rh_core.specs.declared.errors.NoCycle.{NoCycle}
 use Rattle.rh_core.specs.declared.errors.RecallError.{RecallError}
 use Rattle.rh_core.specs.declared.errors.ShadeError.{ShadeError}
+use Rattle.rh_core.specs.declared.errors.WatchError.{WatchError}
 use Rattle.rh_core.specs.declared.stat as stats
 use Rattle.rh_dump.specs.Dump.{GraphState}
 use Rattle.rh_dump.specs.texts.Line.{dump_text}
 use Rattle.rh_syntax.specs.CommandAnswers.{answer_text, IsU128}
 use Rattle.rh_engine.specs.CycleAnswers.{begin_text, shade_text, deal_text, give_text, join_text, flip_text, recall_text, abandon_text, idle_text, resize_text, tray_text, stat_text}
+use Rattle.rh_engine.specs.WatchAnswers.{tickets_text, watch_text, unwatch_text, gone_text}
 use Rattle.rh_engine.specs.Trays as trays
 use Rattle.rh_engine.specs.declared.engine.TrayDeal.{TrayDeal}
 use Rattle.rh_engine.specs.declared.engine.DealRefusal.{DealRefusal}
 use Rattle.rh_engine.specs.declared.engine.GiveRefusal.{GiveRefusal}
 use Rattle.rh_engine.specs.declared.engine.ResizeRefusal.{ResizeRefusal}
+use Rattle.rh_engine.specs.declared.engine.TicketsRefusal.{TicketsRefusal}
 use Rattle.rh_trace.specs.declared.summary.Summary.{Summary}
 use Rattle.rh_engine.specs.declared.trays.JoinRefusal.{JoinRefusal}
 
 -- what is answered to a line: a reply or a refusal to a command, an outcome or a refusal to a step
--- of a cycle, the words of a space or a refusal to a resize, the trays, the numbers of a heap, or the
--- dump of a graph
+-- of a cycle, the words of a space or a refusal to a resize, tickets or a refusal to a line of
+-- watches, the trays, the numbers of a heap, or the dump of a graph
 pub data Answered : Type 0 where
   Answer : (answer : Result Reply Refusal) → Answered
   Begin : (answer : Result ℕ BeginError) → Answered
@@ -39,6 +42,10 @@ pub data Answered : Type 0 where
   Abandon : (answer : Result ℕ NoCycle) → Answered
   Idle : (answer : Result ℕ IdleError) → Answered
   Resize : (answer : Result ℕ ResizeRefusal) → Answered
+  Tickets : (answer : Result ℕ TicketsRefusal) → Answered
+  Watch : (answer : Result ℕ WatchError) → Answered
+  Unwatch : (watched : Bool) → Answered
+  Gone : (tickets : List ℕ) → Answered
   Listing : (listed : trays.Trays) → Answered
   Numbers : (stat : stats.Stat.Stat) → Answered
   Dump : (graph : GraphState) → Answered
@@ -68,6 +75,10 @@ answered_text (Recall answer) = with_line_end (recall_text answer)
 answered_text (Abandon answer) = with_line_end (abandon_text answer)
 answered_text (Idle answer) = with_line_end (idle_text answer)
 answered_text (Resize answer) = with_line_end (resize_text answer)
+answered_text (Tickets answer) = with_line_end (tickets_text answer)
+answered_text (Watch answer) = with_line_end (watch_text answer)
+answered_text (Unwatch watched) = with_line_end (unwatch_text watched)
+answered_text (Gone tickets) = with_line_end (gone_text tickets)
 answered_text (Listing listed) = trays_text listed
 answered_text (Numbers stat) = with_line_end (stat_text stat)
 answered_text (Dump graph) = dump_text graph

@@ -47,16 +47,28 @@ module _ {A : Type 0} where
   request_events e (requests.Idle words) = events.Idle words ∷ []
   request_events e other = []
 
-  -- the events that requests are to the heap, in order; a resize is none
+  -- the events that requests are to the heap, in order; a resize is none, and no line of watches is
   abbrev pub events_of : EngineState → List Request → List (Event A)
   events_of e [] = []
   events_of e (request ∷ others) =
       request_events e request ++ events_of (request_step e request).0 others
 
--- the request leaves the sizes of the heap: it is no resize
-abbrev pub LeavesSizes : Request → Type 0
-LeavesSizes (requests.Resize words) = ⊥
-LeavesSizes other = Unit {0}
+-- the request changes the heap by its events alone: it is no resize, and no line of watches
+abbrev pub ChangesByEvents : Request → Type 0
+ChangesByEvents (requests.Resize words) = ⊥
+ChangesByEvents (requests.Tickets tickets) = ⊥
+ChangesByEvents (requests.Watch owner root) = ⊥
+ChangesByEvents (requests.Unwatch ticket) = ⊥
+ChangesByEvents requests.Gone = ⊥
+ChangesByEvents other = Unit {0}
+
+-- the request is a line of watches
+abbrev pub IsOfWatches : Request → Type 0
+IsOfWatches (requests.Tickets tickets) = Unit {0}
+IsOfWatches (requests.Watch owner root) = Unit {0}
+IsOfWatches (requests.Unwatch ticket) = Unit {0}
+IsOfWatches requests.Gone = Unit {0}
+IsOfWatches other = ⊥
 
 -- the request is an owner's command
 abbrev pub is_command : Request → Bool

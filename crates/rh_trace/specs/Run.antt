@@ -13,6 +13,7 @@ use Rattle.rh_core.specs.declared.errors.IdleError.{IdleError}
 use Rattle.rh_core.specs.declared.errors.NoCycle.{NoCycle}
 use Rattle.rh_core.specs.declared.errors.RecallError.{RecallError}
 use Rattle.rh_core.specs.declared.errors.ShadeError.{ShadeError}
+use Rattle.rh_core.specs.declared.errors.WatchError.{WatchError}
 use Rattle.rh_core.specs.declared.stat.Stat.{Stat}
 use Rattle.rh_core.specs.Config.{fault_of}
 use Rattle.rh_core.specs.Heap.{new_heap}
@@ -25,6 +26,7 @@ use Rattle.rh_engine.specs.declared.engine.TrayDeal.{TrayDeal}
 use Rattle.rh_engine.specs.declared.engine.DealRefusal.{DealRefusal}
 use Rattle.rh_engine.specs.declared.engine.GiveRefusal.{GiveRefusal}
 use Rattle.rh_engine.specs.declared.engine.ResizeRefusal.{ResizeRefusal}
+use Rattle.rh_engine.specs.declared.engine.TicketsRefusal.{TicketsRefusal}
 use Rattle.rh_syntax.specs.declared.fault.TraceFault.{TraceFault}
 use Rattle.rh_trace.specs.declared.run_fault.RunFault.{RunFault}
 use Rattle.rh_trace.specs.declared.run_fault.RunFault.TheVariants as faults
@@ -39,7 +41,7 @@ use Rattle.rh_syntax.specs.Spelling.{Script, IsScript, spelling}
 use Rattle.rh_syntax.specs.Reading.{trace_of}
 use Rattle.rh_trace.specs.Answers as answers
 use Rattle.rh_trace.specs.Answers.{Answered, answered_text, is_answer, is_refused, is_flip, flip_of, words_of, root_words_of, total_line}
-use Rattle.rh_engine.specs.Engine.{EngineState, command_step, begin_line_step, shade_line_step, deal_line_step, give_line_step, join_line_step, flip_line_step, recall_line_step, abandon_line_step, idle_line_step, resize_line_step}
+use Rattle.rh_engine.specs.Engine.{EngineState, command_step, begin_line_step, shade_line_step, deal_line_step, give_line_step, join_line_step, flip_line_step, recall_line_step, abandon_line_step, idle_line_step, resize_line_step, tickets_line_step, watch_line_step, unwatch_line_step, gone_line_step}
 use Rattle.rh_text.specs.Output.{AppendsPrefix, AppendsLess}
 
 -- the heap of a trace: the numbers of its first line, and 2^62 store numbers and epochs
@@ -73,6 +75,13 @@ request_step e requests.Recall = answered_by answers.Recall (recall_line_step e)
 request_step e requests.Abandon = answered_by answers.Abandon (abandon_line_step e)
 request_step e (requests.Idle words) = answered_by answers.Idle (idle_line_step e words)
 request_step e (requests.Resize words) = answered_by answers.Resize (resize_line_step e words)
+request_step e (requests.Tickets tickets) =
+    answered_by answers.Tickets (tickets_line_step e tickets)
+request_step e (requests.Watch owner root) =
+    answered_by answers.Watch (watch_line_step e owner root)
+request_step e (requests.Unwatch ticket) =
+    answered_by answers.Unwatch (unwatch_line_step e ticket)
+request_step e requests.Gone = answered_by answers.Gone (gone_line_step e)
 request_step e requests.Trays = (e, answers.Listing e.trays)
 request_step e requests.Stat = (e, answers.Numbers (stat_of e.heap))
 request_step e requests.Dump = (e, answers.Dump (dump_of e.heap))
@@ -175,7 +184,8 @@ Ends due (Err faults.OutOfMemory) old new = StopsBeforeTotal due old new
 
 -- A request is answered as a plain heap does: a command by its step, or by a limit refusal
 -- where the step is accepted; a dump by that of the plain heap. A plain heap has no cycles, no
--- trays and no sizes: of the other requests it says nothing but which sort of answer they have.
+-- trays, no sizes and no tickets: of the other requests it says nothing but which sort of answer
+-- they have.
 abbrev pub IsPlainAnswer : PlainHeap → Request → Answered → Type 0
 IsPlainAnswer p (requests.Command owner command) answered =
     (answer : Result Reply Refusal) × (answered ≡ answers.Answer answer)
@@ -200,6 +210,13 @@ IsPlainAnswer p (requests.Idle words) answered =
     (answer : Result ℕ IdleError) × (answered ≡ answers.Idle answer)
 IsPlainAnswer p (requests.Resize words) answered =
     (answer : Result ℕ ResizeRefusal) × (answered ≡ answers.Resize answer)
+IsPlainAnswer p (requests.Tickets tickets) answered =
+    (answer : Result ℕ TicketsRefusal) × (answered ≡ answers.Tickets answer)
+IsPlainAnswer p (requests.Watch owner root) answered =
+    (answer : Result ℕ WatchError) × (answered ≡ answers.Watch answer)
+IsPlainAnswer p (requests.Unwatch ticket) answered =
+    (watched : Bool) × (answered ≡ answers.Unwatch watched)
+IsPlainAnswer p requests.Gone answered = (tickets : List ℕ) × (answered ≡ answers.Gone tickets)
 IsPlainAnswer p requests.Trays answered = (listed : Trays) × (answered ≡ answers.Listing listed)
 IsPlainAnswer p requests.Stat answered = (stat : Stat) × (answered ≡ answers.Numbers stat)
 IsPlainAnswer p requests.Dump answered = answered ≡ answers.Dump (plain_dump_of p)

@@ -15,7 +15,7 @@ mod summary;
 pub use answers::put_total;
 pub use heap_dump::graph;
 pub use rh_engine::{
-    DealRefusal, Engine, GiveRefusal, JoinRefusal, ResizeRefusal, TrayDeal, Trays,
+    DealRefusal, Engine, GiveRefusal, JoinRefusal, ResizeRefusal, TicketsRefusal, TrayDeal, Trays,
 };
 pub use rh_syntax::{
     Header, Kind, Line, ParseError, Request, Trace, TraceFault, TrayName, command_of, parse, print,

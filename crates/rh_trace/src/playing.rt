@@ -10,7 +10,8 @@ ghost use Rattle.rh_trace.specs.Answers as answers;
 ghost use Rattle.rh_syntax.specs.CommandAnswers.{answer_text};
 ghost use Rattle.rh_trace.specs.Answers.{answered_text, with_line_end, trays_text};
 ghost use Rattle.rh_engine.specs.CycleAnswers.{flip_text, stat_text};
-ghost use Rattle.rh_engine.specs.Engine.{command_step, flip_line_step};
+ghost use Rattle.rh_engine.specs.Engine.{command_step, flip_line_step, gone_line_step};
+ghost use Rattle.rh_engine.specs.WatchAnswers.{gone_text};
 ghost use Rattle.rh_trace.specs.HeapDump.{dump_of};
 ghost use Rattle.rh_trace.specs.Run.{answers_to, request_step, output_of, summary_of, summary_with, Writes};
 
@@ -21,8 +22,9 @@ use crate::summary::Summary;
 use rh_core::Heap;
 use rh_dump::write_dump_logged;
 use rh_engine::{
-    Engine, Trays, put_abandon, put_begin, put_deal, put_flip, put_give, put_idle, put_join,
-    put_recall, put_resize, put_shade, put_stat, put_tray,
+    Engine, Trays, gone_line, put_abandon, put_begin, put_deal, put_flip, put_give, put_idle,
+    put_join, put_recall, put_resize, put_shade, put_stat, put_tickets, put_tray, put_unwatch,
+    put_watch,
 };
 use rh_layout::Command;
 use rh_layout::limits::MAX_CALLS;
@@ -92,6 +94,28 @@ fn write_trays<A: Allocator + Copy, W: io::Write>(
             write_line(text, writer, writes)?;
         }
     }
+    Ok(())
+}
+
+/// Tells the tickets whose objects are gone, and writes them as one line, in one write.
+fn write_gone<A: Allocator + Copy, W: io::Write>(
+    alloc: A,
+    engine: &mut Engine<A>,
+    writer: &mut W,
+    writes: &mut IoLog,
+) -> Result<(), Stop>
+    requires { writes.old.failed ≡ false }
+    ensures state { OnOk result (engine.new ≡ (gone_line_step engine.old).0) }
+    ensures written { Writes (with_line_end (gone_text (gone_line_step engine.old).1)) result
+        (W.contents writer.old) (W.contents writer.new) }
+    ensures failed { IsErrOf result Stop.Write → AreSpent writes.new }
+    ensures none_failed { ¬ IsErrOf result Stop.Write → writes.new.failed ≡ false }
+    ensures spent { IsErrOf result Stop.Write → AreSpentSince writes.old writes.new }
+    ensures counted { MadeSince 0 writes.old writes.new }
+{
+    let tickets = engine.gone(alloc)?;
+    let line = gone_line(alloc, &tickets)?;
+    send(writer, writes, &line)?;
     Ok(())
 }
 
@@ -191,6 +215,10 @@ fn play_request<A: Allocator + Copy, W: io::Write>(
         Request::Abandon => put_abandon(text, engine.abandon()),
         Request::Idle { words } => put_idle(text, engine.idle(words.into())),
         Request::Resize { words } => put_resize(text, engine.resize(words)?),
+        Request::Tickets { tickets } => put_tickets(text, engine.tickets(tickets)?),
+        Request::Watch { owner, root } => put_watch(text, engine.watch(owner, root)),
+        Request::Unwatch { ticket } => put_unwatch(text, engine.unwatch(ticket)),
+        Request::Gone => return write_gone(alloc, engine, writer, writes),
         Request::Trays => return write_trays(engine.trays(), text, writer, writes),
         Request::Stat => put_numbers(engine.heap(), text),
         Request::Dump => return write_heap_dump(alloc, engine.heap(), writer, writes),

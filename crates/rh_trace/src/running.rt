@@ -118,9 +118,9 @@ pub fn run_bytes<A: Allocator + Copy, W: io::Write>(
 /// Of the faults of an input the first is answered: `Long`, then `Trace`, then `New`. `Read` comes
 /// where, before more than 16,777,216 bytes came, a read failed or was one too many, `Write` where
 /// a write failed or 33,554,432 writes of one line, or of a part of a dump's, didn't come to its
-/// end, `OutOfMemory` where the allocator refused memory, also at a deal, a join, a resize or a
-/// dump; what may be written then, `RunFault` says. `run_trace_logged` says of Read and Write that
-/// they come nowhere else.
+/// end, `OutOfMemory` where the allocator refused memory, also at a deal, a join, a resize, room for
+/// tickets, a `gone` or a dump; what may be written then, `RunFault` says. `run_trace_logged` says of
+/// Read and Write that they come nowhere else.
 pub fn run_trace<A: Allocator + Copy, R: io::Read, W: io::Write>(
     alloc: A,
     reader: &mut R,

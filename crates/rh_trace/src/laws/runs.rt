@@ -2,6 +2,7 @@
 
 ghost use Rattle.std.specs.Prelude.{◌≡◌, ℕ, ◌^◌, List, [], ◌++◌, Some};
 ghost use Rattle.std.specs.List.{AllByRecursion};
+ghost use Rattle.rh_layout.specs.declared.command.RootId.{RootId};
 ghost use Rattle.rh_layout.specs.declared.item.Item.{Item};
 ghost use Rattle.rh_layout.specs.declared.kind.Kind.{Kind as PieceKind};
 ghost use Rattle.rh_core.specs.Giving.{HaveDistinctPlaces};
@@ -11,9 +12,11 @@ ghost use Rattle.rh_core.specs.Heap.{new_heap, IsWellFormed};
 ghost use Rattle.rh_core.specs.runs.Stores.{IsStoreList};
 ghost use Rattle.rh_core.specs.runs.Run.{answers_of, heap_after};
 ghost use Rattle.rh_core.specs.Stat.{stat_of};
+ghost use Rattle.rh_core.specs.Watching.{with_watches};
+ghost use Rattle.rh_watches.specs.Watches.{WatchTable};
 ghost use Rattle.rh_trace.specs.Answers as answers;
-ghost use Rattle.rh_engine.specs.Engine.{EngineState, deal_line_step, give_line_step, join_line_step, resize_line_step};
-ghost use Rattle.rh_trace.specs.Events.{events_of, request_events, LeavesSizes, MayChangeTrays, TellsAnswer};
+ghost use Rattle.rh_engine.specs.Engine.{EngineState, deal_line_step, gone_line_step, give_line_step, join_line_step, resize_line_step, tickets_line_step, unwatch_line_step, watch_line_step};
+ghost use Rattle.rh_trace.specs.Events.{events_of, request_events, ChangesByEvents, IsOfWatches, MayChangeTrays, TellsAnswer};
 ghost use Rattle.rh_trace.specs.HeapDump.{dump_of};
 ghost use Rattle.rh_trace.specs.Run.{config_of, answers_to, engine_after, new_run, request_step};
 ghost use Rattle.rh_syntax.specs.Spelling.{Script};
@@ -24,15 +27,15 @@ ghost use Rattle.rh_syntax.specs.declared.request.Request.TheVariants as forms;
 
 use std::alloc::Allocator;
 
-/// Where no request of a trace is a resize, the heap after them is the heap after the events that
-/// they are to it. What is answered to a request that is an event is what the heap answers to its
-/// event. So what is promised of every run of events holds of every trace that has no `resize`
-/// line, and of the parts of any other: see [`a_trace_stands_in_parts`]. A promise that asks of a
-/// replica that no two of its entries are of one place holds too: see
+/// Where no request of a trace is a resize or a line of watches, the heap after them is the heap
+/// after the events that they are to it. What is answered to a request that is an event is what the
+/// heap answers to its event. So what is promised of every run of events holds of every trace that
+/// has no such line, and of the parts of any other: see [`a_trace_stands_in_parts`]. A promise that
+/// asks of a replica that no two of its entries are of one place holds too: see
 /// [`the_trays_of_a_trace_stand_in_order`].
 pub fn the_lines_of_a_trace_are_events<A: Allocator + Copy>()
     ensures heap { (e : EngineState) (requests : List RequestOf)
-        → AllByRecursion LeavesSizes requests
+        → AllByRecursion ChangesByEvents requests
         → (engine_after e requests).heap
         ≡ heap_after {A = A} e.heap (events_of {A = A} e requests) }
     ensures answer { (e : EngineState) (request : RequestOf)
@@ -41,8 +44,8 @@ pub fn the_lines_of_a_trace_are_events<A: Allocator + Copy>()
 {}
 
 /// The requests of a trace may be taken in two parts: the second goes on from the heap and the trays
-/// that the first leaves. So a trace with `resize` lines is runs of events, each from the heap that
-/// the resize before it leaves.
+/// that the first leaves. So a trace with `resize` lines or lines of watches is runs of events, each
+/// from the heap that the line before it leaves.
 pub fn a_trace_stands_in_parts()
     ensures engine { (e : EngineState) (before after : List RequestOf)
         → engine_after e (before ++ after) ≡ engine_after (engine_after e before) after }
@@ -69,6 +72,39 @@ pub fn a_resize_leaves_what_a_heap_stands_for()
     ensures stores { (e : EngineState) (words : ℕ) (stores : List Item)
         → IsStoreList e.heap stores
         → IsStoreList (request_step e (forms.Resize words)).0.heap stores }
+{}
+
+/// A line of watches is the engine's step, and no event: nothing but tickets changes by it. It leaves
+/// a well-formed heap well formed, and the heap goes on to stand for each plain heap that it stands
+/// for, and to have each of its store lists. So what is promised of every run from such a heap holds
+/// of the requests after it.
+pub fn a_line_of_watches_leaves_what_a_heap_stands_for()
+    ensures step { (e : EngineState) (owner tickets ticket : ℕ) (root : RootId)
+        → (request_step e (forms.Tickets tickets) ≡ (
+          (tickets_line_step e tickets).0,
+          answers.Tickets (tickets_line_step e tickets).1,
+        ))
+        × (request_step e (forms.Watch owner root) ≡ (
+          (watch_line_step e owner root).0,
+          answers.Watch (watch_line_step e owner root).1,
+        ))
+        × (request_step e (forms.Unwatch ticket) ≡ (
+          (unwatch_line_step e ticket).0,
+          answers.Unwatch (unwatch_line_step e ticket).1,
+        ))
+        × (request_step e forms.Gone
+        ≡ ((gone_line_step e).0, answers.Gone (gone_line_step e).1)) }
+    ensures alone { (e : EngineState) (request : RequestOf) → IsOfWatches request
+        → (t : WatchTable)
+        × ((request_step e request).0.heap ≡ with_watches e.heap t) }
+    ensures heap { (e : EngineState) (request : RequestOf) → IsOfWatches request
+        → IsWellFormed e.heap → IsWellFormed (request_step e request).0.heap }
+    ensures stands { (e : EngineState) (request : RequestOf) → IsOfWatches request
+        → (p : PlainHeap) → StandsFor e.heap.mutators p
+        → StandsFor (request_step e request).0.heap.mutators p }
+    ensures stores { (e : EngineState) (request : RequestOf) → IsOfWatches request
+        → (stores : List Item) → IsStoreList e.heap stores
+        → IsStoreList (request_step e request).0.heap stores }
 {}
 
 /// A trace begins with a new heap of the sizes of its first line, 2^62 store numbers and 2^62

@@ -7,7 +7,7 @@ ghost use Rattle.rh_syntax.specs.declared.request.Request.{Request as RequestOf}
 ghost use Rattle.rh_engine.specs.Engine.{EngineState};
 ghost use Rattle.rh_trace.specs.Answers.{total_line, IsToldSummary};
 ghost use Rattle.rh_trace.specs.declared.summary.Summary.{Summary as SummaryOf};
-ghost use Rattle.rh_trace.specs.Events.{events_of, is_command, is_refused_command, LeavesSizes};
+ghost use Rattle.rh_trace.specs.Events.{events_of, is_command, is_refused_command, ChangesByEvents};
 ghost use Rattle.rh_trace.specs.Run.{answers_to, engine_after, summary_of};
 
 use rh_core::laws::a_command_leaves_the_cycle;
@@ -44,13 +44,13 @@ pub fn a_summary_has_what_the_heap_counted()
 }
 
 /// The commands of a summary are as many as the requests that are one. Where none of these is a
-/// resize, its refused ones are as many as the commands that the heap refuses of the events that the
-/// requests are to it.
+/// resize or a line of watches, its refused ones are as many as the commands that the heap refuses
+/// of the events that the requests are to it.
 pub fn a_summary_has_the_commands_of_its_lines<A: Allocator + Copy>()
     ensures commands { (e : EngineState) (requests : List RequestOf)
         → (summary_of (answers_to e requests)).commands ≡ count_by is_command requests }
     ensures refused { (e : EngineState) (requests : List RequestOf)
-        → AllByRecursion LeavesSizes requests
+        → AllByRecursion ChangesByEvents requests
         → (summary_of (answers_to e requests)).refused
         ≡ count_by is_refused_command (answers_of {A = A} e.heap (events_of {A = A} e requests)) }
 {}

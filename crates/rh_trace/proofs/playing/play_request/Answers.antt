@@ -5,7 +5,8 @@ use Rattle.rh_syntax.specs.declared.request.Request.{Request}
 use Rattle.rh_syntax.specs.declared.request.Request.TheVariants as requests
 use Rattle.rh_trace.specs.Answers.{answered_text, with_line_end}
 use Rattle.rh_engine.specs.CycleAnswers.{deal_text, join_text, resize_text}
-use Rattle.rh_engine.specs.Engine.{EngineState, deal_line_step, join_line_step, resize_line_step}
+use Rattle.rh_engine.specs.WatchAnswers.{tickets_text}
+use Rattle.rh_engine.specs.Engine.{EngineState, deal_line_step, join_line_step, resize_line_step, tickets_line_step}
 use Rattle.rh_trace.specs.Run.{request_step}
 use Rattle.rh_trace.proofs.WrittenInTurn.{nothing_of_line}
 use Rattle.rh_trace.proofs.playing.play_request.Goals as goal
@@ -37,6 +38,14 @@ returns-in_err-resize-in-Resize-clause-written g c =
     let it = requests.Resize c.in-Resize.words in
     let answer = (resize_line_step e c.in-Resize.words).1 in
     rw p.1 (unanswered (g.W.Write.contents c.args.writer.now) e c.args.request.now it (resize_text answer) c.in-Resize.is refl)
+
+pub returns-in_err-tickets-in-Tickets-clause-written : goal.returns-in_err-tickets-in-Tickets-clause-written
+returns-in_err-tickets-in-Tickets-clause-written g c =
+    let p = err_from_is_err_and c.from_residual-in_err-tickets-in-Tickets.result c.from_residual-in_err-tickets-in-Tickets.ensures.1 in
+    let e = c.args.engine.now in
+    let it = requests.Tickets c.in-Tickets.tickets in
+    let answer = (tickets_line_step e c.in-Tickets.tickets).1 in
+    rw p.1 (unanswered (g.W.Write.contents c.args.writer.now) e c.args.request.now it (tickets_text answer) c.in-Tickets.is refl)
 
 pub returns-in-Dump-clause-summary : goal.returns-in-Dump-clause-summary
 returns-in-Dump-clause-summary g c = search rules
