@@ -1,8 +1,12 @@
 pub mod CollectorWork
 pub mod PlainAnswers
 pub mod InTurn
+pub mod Played
 pub mod Fillings
 pub mod TraceLines
 pub mod Epochs
 pub mod Programs
 pub mod WithinBounds
+pub mod GrownAnswers
+pub mod GrownRooms
+pub mod GrownFaults

@@ -35,7 +35,7 @@ use Rattle.rh_pace.specs.Paced.{PacedState, after_answer, paced_step, with_comma
 use Rattle.rh_paced_trace.specs.declared.fault.PacedFault.{PacedFault}
 use Rattle.rh_paced_trace.specs.declared.fault.PacedFault.TheVariants as faults
 use Rattle.rh_paced_trace.specs.Lines.{Commands, commands_in}
-use Rattle.rh_paced_trace.specs.Run.{new_run, output_of, sum_of, IsRun, Ends, AreTransparent, IsPlainRun, AreSumsOf}
+use Rattle.rh_paced_trace.specs.Run.{new_run, output_of, sum_of, IsCommandTrace, IsRun, Ends, AreTransparent, IsPlainRun, AreSumsOf}
 use Rattle.rh_paced_trace.proofs.CollectorWork.{WorkLaws, answered}
 
 -- no limit refused by the answer
@@ -104,6 +104,18 @@ alike (owned ∷ others) p (a ∷ left) (b ∷ bs) one other within also =
     let rest = alike others (plain_unless (is_limit_answer a) p owned.0 owned.1) left bs one.1 later (All-tail IsUnlimited a left within) (All-tail IsUnlimited b bs also) in
     ap (λ (answer : Result Reply Refusal). answer ∷ left) same ∙ ap (λ (answers : CommandAnswers). b ∷ answers) rest
 
+-- a trace of commands whose answers are a plain heap's
+pub plain_run_of : (input : List ℕ) (script : Script) (answers : CommandAnswers) (old new : Option (List ℕ)) → IsCommandTrace input script → Consumes old new input
+    → AreTransparent (empty_plain script.header.owners script.header.slots) (commands_in script.requests) answers → IsPlainRun script answers old new
+plain_run_of input script answers old new trace consumed answered =
+    let takes = trace_of-means input script trace.read in
+    record {
+      fits = takes.0;
+      read = subst (Consumes old new) takes.1 consumed;
+      commands = trace.commands;
+      answered = answered;
+    }
+
 module _ {A : Type 0} (laws : PlainLaws A) where
   -- a command is answered as by the plain heap, and the heap goes on to stand for it
   one : (s : PacedState) (p : PlainHeap) → IsPlain s.heap p → (owner : ℕ) (command : Command)
@@ -125,32 +137,27 @@ module _ {A : Type 0} (laws : PlainLaws A) where
       let first = one s p plain owned.0 owned.1 in
       (first.0, transparent others (paced_step s owned.0 owned.1).0 (plain_unless (is_limit_answer (paced_step s owned.0 owned.1).1) p owned.0 owned.1) first.1)
 
+  -- what a run is answered
+  abbrev answers_of : Script → Pace → CommandAnswers
+  answers_of script pace = paced_replies (new_run script pace) (commands_in script.requests)
+
+  pub answered_plainly : (script : Script) → fault_of (config_of script.header) ≡ None → (pace : Pace)
+      → AreTransparent (empty_plain script.header.owners script.header.slots) (commands_in script.requests) (answers_of script pace)
+  answered_plainly script sizes pace =
+      let c = config_of script.header in
+      transparent (commands_in script.requests) (new_run script pace) (empty_plain script.header.owners script.header.slots) (laws.new c sizes, laws.begins c)
+
   -- so two runs at any paces are answered alike, where no limit refused
   pub unseen : (script : Script) → fault_of (config_of script.header) ≡ None → (first second : Pace)
       → AreUnlimited (paced_replies (new_run script first) (commands_in script.requests)) → AreUnlimited (paced_replies (new_run script second) (commands_in script.requests))
       → paced_replies (new_run script first) (commands_in script.requests) ≡ paced_replies (new_run script second) (commands_in script.requests)
   unseen script sizes first second within also =
-      let c = config_of script.header in
-      let p = empty_plain script.header.owners script.header.slots in
-      let plain : IsPlain (new_heap c) p = (laws.new c sizes, laws.begins c) in
-      let commands = commands_in script.requests in
-      alike commands p (paced_replies (new_run script first) commands) (paced_replies (new_run script second) commands)
-      (transparent commands (new_run script first) p plain) (transparent commands (new_run script second) p plain) within also
-
-  -- what a run is answered
-  abbrev answers_of : Script → Pace → CommandAnswers
-  answers_of script pace = paced_replies (new_run script pace) (commands_in script.requests)
+      alike (commands_in script.requests) (empty_plain script.header.owners script.header.slots) (answers_of script first) (answers_of script second)
+      (answered_plainly script sizes first) (answered_plainly script sizes second) within also
 
   plain_run : (mark : Option ℕ) (input : List ℕ) (script : Script) (pace : Pace) (old new : Option (List ℕ)) → IsRun mark input script pace → Consumes old new input → IsPlainRun script (answers_of script pace) old new
   plain_run mark input script pace old new run consumed =
-      let takes = trace_of-means input script run.trace.read in
-      let c = config_of script.header in
-      record {
-        fits = takes.0;
-        read = subst (Consumes old new) takes.1 consumed;
-        commands = run.trace.commands;
-        answered = transparent (commands_in script.requests) (new_run script pace) (empty_plain script.header.owners script.header.slots) (laws.new c run.sizes, laws.begins c);
-      }
+      plain_run_of input script (answers_of script pace) old new run.trace consumed (answered_plainly script run.sizes pace)
 
   sums : (script : Script) (pace : Pace) → AreSumsOf (answers_of script pace) (sum_of script pace)
   sums script pace = record { commands = refl; refused = refl }

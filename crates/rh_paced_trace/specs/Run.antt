@@ -68,7 +68,8 @@ pub record IsRun (mark : Option ℕ) (input : List ℕ) (script : Script) (pace 
 
 -- How a paced run of an input ends: with its whole text written; with the first fault of the input,
 -- or why there is no pace, and nothing written; where a write failed with a prefix of its text
--- written, and not all; and where a read failed or memory was refused with nothing written.
+-- written, and not all; and where a read failed or memory was refused with nothing written. It has
+-- no limits of words, so that these are never bad.
 abbrev pub Ends : Option ℕ → List ℕ → Result Summary PacedFault → Option (List ℕ)
     → Option (List ℕ) → Type 0
 Ends mark input (Ok summary) old new =
@@ -87,6 +88,7 @@ Ends mark input (Err (faults.Pace why)) old new =
     (script : Script) × IsCommandTrace input script
     × (fault_of (config_of script.header) ≡ None) × IsPaceOf mark script (Err why)
     × Keeps old new
+Ends mark input (Err faults.Limits) old new = ⊥
 Ends mark input (Err faults.Read) old new = Keeps old new
 Ends mark input (Err faults.OutOfMemory) old new = Keeps old new
 

@@ -1,13 +1,13 @@
-//! Why a paced run ended early.
+//! Why a paced or a growing run ended early.
 
 use rh_core::ConfigFault;
 use rh_pace::PaceError;
 use rh_syntax::TraceFault;
 use thiserror::Error;
 
-/// Why a paced run ended early. `Long`, `Trace`, `New` and `Pace` are faults of the input, in this
-/// order. Nothing was written, but after `Write`: then a prefix of the text may be written, and not
-/// all of it.
+/// Why a paced or a growing run ended early. `Long`, `Trace`, `New`, `Limits` and `Pace` are faults
+/// of the input, in this order. Nothing was written, but after `Write`: then a prefix of the text
+/// may be written, and not all of it.
 #[derive(Clone, Copy, Debug, PartialEq, Eq, Error)]
 pub enum PacedFault {
     /// A read failed, or 33,554,432 reads didn't come to the end.
@@ -23,6 +23,10 @@ pub enum PacedFault {
     /// The numbers of the first line make no heap.
     #[error("heap: {0}")]
     New(ConfigFault),
+    /// Of a growing run alone: the most words of its heap are fewer than the words of the first
+    /// line, or more than 16,777,216.
+    #[error("grow: BadLimits")]
+    Limits,
     /// No pace keeps up in that heap with what the trace asks for, and no mark was asked for.
     #[error("pace: {0}")]
     Pace(PaceError),

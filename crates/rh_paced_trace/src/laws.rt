@@ -30,6 +30,8 @@ ghost use Rattle.rh_paced_trace.specs.Pacing.{IsPaceOf, pace_at};
 ghost use Rattle.rh_paced_trace.specs.Run.{IsRun, new_run, sum_of, summary_to, text_of};
 ghost use Rattle.rh_paced_trace.specs.Worked.{queue_script};
 
+pub mod growing;
+
 use rh_core::laws::cycles::{
     a_cycle_begins_with_nothing_placed, a_flip_ends_the_cycle,
     a_flip_is_refused_exactly_where_its_cycle_is_not_closed,

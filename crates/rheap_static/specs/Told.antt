@@ -40,6 +40,7 @@ paced_status paced_faults.Read = 3
 paced_status paced_faults.Long = 1
 paced_status (paced_faults.Trace fault) = 1
 paced_status (paced_faults.New fault) = 1
+paced_status paced_faults.Limits = 1
 paced_status (paced_faults.Pace why) = 1
 paced_status paced_faults.Write = 3
 paced_status paced_faults.OutOfMemory = 3

@@ -78,7 +78,8 @@ fn status_of(fault: PacedFault) -> u8
     ensures not_done { result ≢ 0 }
 {
     match fault {
-        PacedFault::Long | PacedFault::Trace(_) | PacedFault::New(_) | PacedFault::Pace(_) => FAULT,
+        PacedFault::Long | PacedFault::Trace(_) | PacedFault::New(_) => FAULT,
+        PacedFault::Limits | PacedFault::Pace(_) => FAULT,
         PacedFault::Read | PacedFault::Write | PacedFault::OutOfMemory => NO_MEMORY,
     }
 }

@@ -12,6 +12,7 @@ use Rattle.rh_pace.specs.Paced.{PacedState, paced_heap}
 use Rattle.rh_paced_trace.specs.Lines.{commands_in, other_fault}
 use Rattle.rh_paced_trace.specs.Pacing.{IsPaceOf}
 use Rattle.rh_paced_trace.specs.Run.{new_run, output_to, summary_to, text_of, IsCommandTrace, IsRun}
+use Rattle.rh_paced_trace.proofs.Played.{output-unaided, summary-unaided}
 use Rattle.rh_paced_trace.proofs.running.run_input.Goals as goal
 
 pub returns-in-Err-Config-clause-ends : goal.returns-in-Err-Config-clause-ends
@@ -37,10 +38,12 @@ returns-in-Ok-play-clause-ends g c =
     (subst (λ (h : Header). IsPaceOf c.args.mark (record { header = h; requests = c.requests-2.result.now }) (Ok pace)) c.header-2.ensures c.in-Ok-pace_of.ensures) in
     let run : IsRun c.args.mark c.args.input.now script pace = record { trace = record { few = c.requires.few; read = c.in-Ok.ensures.exact; commands = none }; sizes = sizes; paced = paced } in
     let heap_is : c.in-Ok-new.heap ≡ new_run script pace = c.in-Ok-new.ensures.made ∙ ap (λ (conf : Config). paced_heap (new_heap conf) pace) config_is in
-    let summary = c.in-Ok-play.ensures.summary ∙ ap (λ (s : PacedState). summary_to s (commands_in c.requests-3.result.now)) heap_is ∙ ap (λ (r : List Request). summary_to (new_run script pace) (commands_in r)) c.requests-3.ensures in
+    let played = c.in-Ok-play.ensures.ok in
+    let commands = commands_in c.requests-3.result.now in
+    let summary = played.1 ∙ summary-unaided played.0 c.in-Ok-new.heap commands ∙ ap (λ (s : PacedState). summary_to s (commands_in c.requests-3.result.now)) heap_is ∙ ap (λ (r : List Request). summary_to (new_run script pace) (commands_in r)) c.requests-3.ensures in
     let text : output_to c.in-Ok-new.heap (commands_in c.requests-3.result.now) ≡ text_of script pace =
     ap (λ (s : PacedState). output_to s (commands_in c.requests-3.result.now)) heap_is ∙ ap (λ (r : List Request). output_to (new_run script pace) (commands_in r)) c.requests-3.ensures in
-    (script, pace, run, summary, subst (Appends (known c.args.writer.now) (known c.play.new.writer)) text c.in-Ok-play.ensures.ok)
+    (script, pace, run, summary, subst (Appends (known c.args.writer.now) (known c.play.new.writer)) (output-unaided played.0 c.in-Ok-new.heap commands ∙ text) played.2)
 
 pub returns-clause-ends : goal.returns-clause-ends
 returns-clause-ends g c =
@@ -57,4 +60,5 @@ returns-clause-ends g c =
     let heap_is : c.in-Ok-new.heap ≡ new_run script pace = c.in-Ok-new.ensures.made ∙ ap (λ (conf : Config). paced_heap (new_heap conf) pace) config_is in
     let text : output_to c.in-Ok-new.heap (commands_in c.requests-3.result.now) ≡ text_of script pace =
     ap (λ (s : PacedState). output_to s (commands_in c.requests-3.result.now)) heap_is ∙ ap (λ (r : List Request). output_to (new_run script pace) (commands_in r)) c.requests-3.ensures in
-    (script, pace, run, subst (AppendsLess (known c.args.writer.now) (known c.play.new.writer)) text c.in-Err-play.ensures.err)
+    let played = c.in-Err-play.ensures.err in
+    (script, pace, run, subst (AppendsLess (known c.args.writer.now) (known c.play.new.writer)) (output-unaided played.0 c.in-Ok-new.heap (commands_in c.requests-3.result.now) ∙ text) played.1)
