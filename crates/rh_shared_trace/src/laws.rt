@@ -17,7 +17,7 @@ ghost use Rattle.rh_shared_trace.specs.declared.options.RunOptions.{RunOptions a
 ghost use Rattle.rh_shared_trace.specs.declared.trace_limits.Limit.{Limit as LimitOf};
 ghost use Rattle.rh_shared_trace.specs.declared.trace_limits.Limit.TheVariants.{Space, Log};
 ghost use Rattle.rh_shared_trace.specs.declared.trace_limits.TraceLimits.{TraceLimits as TraceLimitsOf};
-ghost use Rattle.rh_shared_trace.specs.Limiting.{taken_by, taken_by_all};
+ghost use Rattle.rh_shared_trace.specs.Limiting.{limits_of, taken_by, taken_by_all};
 ghost use Rattle.rh_shared_trace.specs.Matching.{allocates, commands_of, lines_of, stores, takes_nothing, MayLeaveOut};
 ghost use Rattle.rh_shared_trace.specs.Options.{shared_config_of};
 ghost use Rattle.rh_shared_trace.specs.Run.{IsHistoryOf};
@@ -38,6 +38,7 @@ pub fn a_trace_of_one_owner_has_one_whole_history()
 ///
 /// - `space`: to that of the space, if the command asks for more words than are free.
 /// - `stored`: to that of the log, if a store meets a limit.
+/// - `comes`: the definition, in numbers: the lines take more of it than there is.
 pub fn what_a_limit_may_refuse_may_be_left_out()
     ensures only { (limits : TraceLimitsOf) (command : CommandOf)
         → MayLeaveOut limits false command → (m : MutatorState) × IsMutator m
@@ -48,6 +49,9 @@ pub fn what_a_limit_may_refuse_may_be_left_out()
     ensures stored { (command : CommandOf) (m : MutatorState) (limit : RefusalOf) (space : Bool)
         → IsStoring command → LimitHolds m command limit
         → MayLeaveOut (record { space = space; log = true }) false command }
+    ensures comes { (header : HeaderOf) (lines : List RequestOf)
+        → (((limits_of header lines).space ≡ true) ↔ (header.words < taken_by_all Space lines))
+        × (((limits_of header lines).log ≡ true) ↔ (header.log < taken_by_all Log lines)) }
 {}
 
 /// What lines take of what is limited.
