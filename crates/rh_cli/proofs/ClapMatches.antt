@@ -29,6 +29,7 @@ rows_are name rows (Some x) n r e f = cc
 pub record AreHeld (rows : List Row) (given : Options) : Type 0 where
   pub paced : given.paced ≡ first_of (codes "paced") rows
   pub mark : given.mark ≡ first_of (codes "mark") rows
+  pub grow : given.grow ≡ first_of (codes "grow") rows
   pub replicators : given.replicators ≡ first_of (codes "replicators") rows
   pub idle : given.idle ≡ first_of (codes "idle") rows
 
@@ -36,6 +37,7 @@ pub record AreHeld (rows : List Row) (given : Options) : Type 0 where
 pub record AreMatched (values : ArgMatches) (given : Options) : Type 0 where
   pub paced : given.paced ≡ first_value (found_of values) (codes "paced")
   pub mark : given.mark ≡ first_value (found_of values) (codes "mark")
+  pub grow : given.grow ≡ first_value (found_of values) (codes "grow")
   pub replicators : given.replicators ≡ first_value (found_of values) (codes "replicators")
   pub idle : given.idle ≡ first_value (found_of values) (codes "idle")
 
@@ -44,25 +46,27 @@ abbrev pub options_of : ArgMatches → Options
 options_of values = record {
   paced = first_value (found_of values) (codes "paced");
   mark = first_value (found_of values) (codes "mark");
+  grow = first_value (found_of values) (codes "grow");
   replicators = first_value (found_of values) (codes "replicators");
   idle = first_value (found_of values) (codes "idle");
 }
 
 pub all_matched : (values : ArgMatches) → AreMatched values (options_of values)
-all_matched values = record { paced = refl; mark = refl; replicators = refl; idle = refl }
+all_matched values = record { paced = refl; mark = refl; grow = refl; replicators = refl; idle = refl }
 
 held_by_matches : (values : ArgMatches) (given : Options) → AreMatched values given → AreHeld (rows_of (found_of values)) given
 held_by_matches values given m =
     let found = found_of values in record {
       paced = m.paced ∙ first_value-rows found (codes "paced");
       mark = m.mark ∙ first_value-rows found (codes "mark");
+      grow = m.grow ∙ first_value-rows found (codes "grow");
       replicators = m.replicators ∙ first_value-rows found (codes "replicators");
       idle = m.idle ∙ first_value-rows found (codes "idle");
     }
 
 held_options : (rows : List Row) (given : Options) → AreHeld rows given → options_in rows ≡ given
 held_options rows given held =
-    sym (rw held.paced (rw held.mark (rw held.replicators (rw held.idle refl))))
+    sym (rw held.paced (rw held.mark (rw held.grow (rw held.replicators (rw held.idle refl)))))
 
 -- what a file and options of the same matches hold
 from_values : (rows : List Row) (n : Text) (file : Option Text) (given : Options) → file ≡ first_of (codes "FILE") rows → AreHeld rows given

@@ -8,6 +8,7 @@ use Rattle.rh_text.specs.Output.{AppendsLess}
 use Rattle.rh_trace.specs.Run.{StopsBeforeTotal, Ends, text_of, run_of}
 use Rattle.rh_paced_trace.specs.declared.fault.PacedFault.{PacedFault}
 use Rattle.rh_paced_trace.specs.declared.fault.PacedFault.TheVariants as paced_faults
+use Rattle.rh_paced_trace.specs.Growing.{EndsGrowing, growing_text_of}
 use Rattle.rh_paced_trace.specs.Run.{Ends as PacedEnds, text_of as paced_text_of}
 use Rattle.rh_replay.specs.Spelling.{spelling}
 use Rattle.rh_shared_trace.specs.declared.fault.SharedRunFault.{SharedRunFault}
@@ -16,7 +17,7 @@ use Rattle.rh_shared_trace.specs.declared.options.RunOptions.{RunOptions}
 use Rattle.rh_shared_trace.specs.Run.{Ends as SharedEnds}
 use Rattle.rh_cli.specs.Drive.{ConcludesRun, IsRunStatus}
 use Rattle.rh_cli.specs.Shared.{ConcludesShared, IsSharedStatus}
-use Rattle.rh_cli.specs.Paced.{ConcludesPaced, IsPacedStatus}
+use Rattle.rh_cli.specs.Paced.{ConcludesGrowing, ConcludesPaced, IsPacedStatus}
 
 Keeps-kept : (old mid new : Option (List ℕ)) → Keeps old mid → Keeps mid new → Keeps old new
 Keeps-kept None mid new k l = tt
@@ -62,6 +63,7 @@ PacedEnds-flushed mark input (Err paced_faults.Write) old mid new e k =
 PacedEnds-flushed mark input (Err paced_faults.Long) old mid new e k = (e.0, Keeps-kept old mid new e.1 k)
 PacedEnds-flushed mark input (Err (paced_faults.Trace fault)) old mid new e k = (e.0, e.1, Keeps-kept old mid new e.2 k)
 PacedEnds-flushed mark input (Err (paced_faults.New fault)) old mid new e k = (e.0, e.1, e.2, Keeps-kept old mid new e.3 k)
+PacedEnds-flushed mark input (Err paced_faults.Limits) old mid new e k = absurd e
 PacedEnds-flushed mark input (Err (paced_faults.Pace why)) old mid new e k = (e.0, e.1, e.2, e.3, Keeps-kept old mid new e.4 k)
 PacedEnds-flushed mark input (Err paced_faults.Read) old mid new e k = Keeps-kept old mid new e k
 PacedEnds-flushed mark input (Err paced_faults.OutOfMemory) old mid new e k = Keeps-kept old mid new e k
@@ -69,6 +71,24 @@ PacedEnds-flushed mark input (Err paced_faults.OutOfMemory) old mid new e k = Ke
 pub ConcludesPaced-told : (mark : Option ℕ) (known : Option (List ℕ)) (r : Result Summary PacedFault) (status : ℕ) (old mid new : Option (List ℕ)) → IfSome known (λ input. PacedEnds mark input r old mid) → Keeps mid new → IsPacedStatus r status → IfSome known (λ input. ConcludesPaced mark input status old new)
 ConcludesPaced-told mark None r status old mid new e k s = tt
 ConcludesPaced-told mark (Some input) r status old mid new e k s = (r, PacedEnds-flushed mark input r old mid new e k, s)
+
+-- of a growing run
+pub GrowingEnds-flushed : (at_most : ℕ) (input : List ℕ) (r : Result Summary PacedFault) (old mid new : Option (List ℕ)) → EndsGrowing at_most input r old mid → Keeps mid new → EndsGrowing at_most input r old new
+GrowingEnds-flushed at_most input (Ok summary) old mid new e k =
+    (e.0, e.1, e.2, e.3, Appends-kept old mid new (growing_text_of e.0 at_most e.1) e.4 k)
+GrowingEnds-flushed at_most input (Err paced_faults.Write) old mid new e k =
+    (e.0, e.1, e.2, AppendsLess-kept old mid new (growing_text_of e.0 at_most e.1) e.3 k)
+GrowingEnds-flushed at_most input (Err paced_faults.Long) old mid new e k = (e.0, Keeps-kept old mid new e.1 k)
+GrowingEnds-flushed at_most input (Err (paced_faults.Trace fault)) old mid new e k = (e.0, e.1, Keeps-kept old mid new e.2 k)
+GrowingEnds-flushed at_most input (Err (paced_faults.New fault)) old mid new e k = (e.0, e.1, e.2, Keeps-kept old mid new e.3 k)
+GrowingEnds-flushed at_most input (Err paced_faults.Limits) old mid new e k = (e.0, e.1, e.2, e.3, Keeps-kept old mid new e.4 k)
+GrowingEnds-flushed at_most input (Err (paced_faults.Pace why)) old mid new e k = (e.0, e.1, e.2, e.3, Keeps-kept old mid new e.4 k)
+GrowingEnds-flushed at_most input (Err paced_faults.Read) old mid new e k = Keeps-kept old mid new e k
+GrowingEnds-flushed at_most input (Err paced_faults.OutOfMemory) old mid new e k = Keeps-kept old mid new e k
+
+pub ConcludesGrowing-told : (at_most : ℕ) (known : Option (List ℕ)) (r : Result Summary PacedFault) (status : ℕ) (old mid new : Option (List ℕ)) → IfSome known (λ input. EndsGrowing at_most input r old mid) → Keeps mid new → IsPacedStatus r status → IfSome known (λ input. ConcludesGrowing at_most input status old new)
+ConcludesGrowing-told at_most None r status old mid new e k s = tt
+ConcludesGrowing-told at_most (Some input) r status old mid new e k s = (r, GrowingEnds-flushed at_most input r old mid new e k, s)
 
 -- and of a shared run
 pub SharedEnds-flushed : (options : RunOptions) (input : List ℕ) (r : Result (Unit {0}) SharedRunFault) (old mid new : Option (List ℕ)) → SharedEnds options input r old mid → Keeps mid new → SharedEnds options input r old new

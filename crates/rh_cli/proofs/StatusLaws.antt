@@ -1,5 +1,5 @@
 -- What the statuses say of how a subcommand ended.
-use Rattle.std.proofs.Common.{◌≡◌, ◌≢◌, ◌⊎◌, ◌↔◌, inl, inr, ℕ, List, Option, Result, Ok, Err, refl, sym, ap, ◌∙◌, arith}
+use Rattle.std.proofs.Common.{◌≡◌, ◌≢◌, ◌⊎◌, ◌↔◌, inl, inr, ℕ, Bool, List, Option, Result, Ok, Err, refl, sym, ap, ◌∙◌, arith}
 use Rattle.std.specs.Io.KnownBytes.{Appends, Keeps}
 use Rattle.clap.specs.Words.{kind_of}
 use Rattle.clap.specs.declared.error.Error.{Error as ClapError}
@@ -27,13 +27,14 @@ use Rattle.rh_cli.specs.Fault.{arguments_status, ending_status, status_of, IsLat
 use Rattle.rh_syntax.specs.Spelling.{Script}
 use Rattle.rh_pace.specs.declared.pace.Pace.{Pace}
 use Rattle.rh_paced_trace.specs.Run.{Ends as PacedEnds, IsRun, text_of as paced_text_of}
-use Rattle.rh_cli.specs.Paced.{ConcludesPaced, IsPacedStatus, paced_status}
+use Rattle.rh_paced_trace.specs.Growing.{EndsGrowing, IsGrowingRun, growing_text_of}
+use Rattle.rh_cli.specs.Paced.{ConcludesGrowing, ConcludesPaced, IsPacedStatus, paced_status}
 use Rattle.rh_paced_trace.specs.declared.fault.PacedFault.{PacedFault}
 use Rattle.rh_paced_trace.specs.declared.fault.PacedFault.TheVariants as paced_faults
 use Rattle.rh_cli.proofs.SharedStatuses.{shared_is_0_1_3_or_4, shared_is_4}
 use Rattle.rh_cli.specs.Replay.{IsJudged, IsReplayStatus, ReplayEnds}
 use Rattle.rh_cli.specs.declared.ask.Subcommand.{Subcommand}
-use Rattle.rh_cli.specs.declared.ask.Subcommand.TheVariants.{Run, RunPaced, Threads, Replay, Dump}
+use Rattle.rh_cli.specs.declared.ask.Subcommand.TheVariants.{Run, RunPaced, RunGrowing, Threads, Replay, Dump}
 use Rattle.rh_cli.specs.declared.ending.Ending.{Ending}
 use Rattle.rh_cli.specs.declared.ending.Ending.TheVariants.{Done, WrongHistory}
 use Rattle.rh_cli.specs.declared.fault.LineFault.{LineFault}
@@ -76,6 +77,7 @@ memory_is_3 (faults.Arguments error) = (λ is. absurd (arguments_are_not_3 (kind
 memory_is_3 faults.NoText = (λ is. absurd (omega (arith, is)), λ is. cc)
 memory_is_3 faults.Incomplete = (λ is. absurd (omega (arith, is)), λ is. cc)
 memory_is_3 faults.Mark = (λ is. absurd (omega (arith, is)), λ is. cc)
+memory_is_3 faults.Grow = (λ is. absurd (omega (arith, is)), λ is. cc)
 memory_is_3 faults.Replicators = (λ is. absurd (omega (arith, is)), λ is. cc)
 memory_is_3 faults.Idle = (λ is. absurd (omega (arith, is)), λ is. cc)
 memory_is_3 (faults.Trace fault) = (λ is. absurd (omega (arith, is)), λ is. cc)
@@ -84,6 +86,7 @@ memory_is_3 (faults.Dump fault) = (λ is. absurd (omega (arith, is)), λ is. cc)
 memory_is_3 (faults.Heap fault) = (λ is. absurd (omega (arith, is)), λ is. cc)
 memory_is_3 (faults.Shared fault) = (λ is. absurd (omega (arith, is)), λ is. cc)
 memory_is_3 faults.HistoryDiffers = (λ is. absurd (omega (arith, is)), λ is. cc)
+memory_is_3 faults.Limits = (λ is. absurd (omega (arith, is)), λ is. cc)
 memory_is_3 (faults.Pace why) = (λ is. absurd (omega (arith, is)), λ is. cc)
 memory_is_3 faults.Open = (λ is. absurd (omega (arith, is)), λ is. cc)
 memory_is_3 faults.Read = (λ is. absurd (omega (arith, is)), λ is. cc)
@@ -102,6 +105,7 @@ differs_is_4 (faults.Arguments error) = (λ is. absurd (arguments_are_not_4 (kin
 differs_is_4 faults.NoText = (λ is. absurd (omega (arith, is)), λ is. cc)
 differs_is_4 faults.Incomplete = (λ is. absurd (omega (arith, is)), λ is. cc)
 differs_is_4 faults.Mark = (λ is. absurd (omega (arith, is)), λ is. cc)
+differs_is_4 faults.Grow = (λ is. absurd (omega (arith, is)), λ is. cc)
 differs_is_4 faults.Replicators = (λ is. absurd (omega (arith, is)), λ is. cc)
 differs_is_4 faults.Idle = (λ is. absurd (omega (arith, is)), λ is. cc)
 differs_is_4 (faults.Trace fault) = (λ is. absurd (omega (arith, is)), λ is. cc)
@@ -109,6 +113,7 @@ differs_is_4 (faults.History fault) = (λ is. absurd (omega (arith, is)), λ is.
 differs_is_4 (faults.Dump fault) = (λ is. absurd (omega (arith, is)), λ is. cc)
 differs_is_4 (faults.Heap fault) = (λ is. absurd (omega (arith, is)), λ is. cc)
 differs_is_4 (faults.Shared fault) = (λ is. absurd (omega (arith, is)), λ is. cc)
+differs_is_4 faults.Limits = (λ is. absurd (omega (arith, is)), λ is. cc)
 differs_is_4 (faults.Pace why) = (λ is. absurd (omega (arith, is)), λ is. cc)
 differs_is_4 faults.Open = (λ is. absurd (omega (arith, is)), λ is. cc)
 differs_is_4 faults.Read = (λ is. absurd (omega (arith, is)), λ is. cc)
@@ -119,18 +124,21 @@ differs_is_4 faults.HistoryDiffers = (λ is. refl, λ is. refl)
 
 -- a fault with 2 is one of the command line
 pub only_the_line_is_2 : (fault : LineFault) → status_of fault ≡ 2
-    → (fault ≡ faults.NoText) ⊎ ((fault ≡ faults.Incomplete) ⊎ ((fault ≡ faults.Mark) ⊎ ((fault ≡ faults.Replicators) ⊎ ((fault ≡ faults.Idle) ⊎ ((error : ClapError) × (fault ≡ faults.Arguments error))))))
-only_the_line_is_2 (faults.Arguments error) is = inr (inr (inr (inr (inr (error, refl)))))
+    → (fault ≡ faults.NoText) ⊎ ((fault ≡ faults.Incomplete) ⊎ ((fault ≡ faults.Mark) ⊎ ((fault ≡ faults.Grow) ⊎ ((fault ≡ faults.Replicators)
+    ⊎ ((fault ≡ faults.Idle) ⊎ ((error : ClapError) × (fault ≡ faults.Arguments error)))))))
+only_the_line_is_2 (faults.Arguments error) is = inr (inr (inr (inr (inr (inr (error, refl))))))
 only_the_line_is_2 faults.NoText is = inl refl
 only_the_line_is_2 faults.Incomplete is = inr (inl refl)
 only_the_line_is_2 faults.Mark is = inr (inr (inl refl))
-only_the_line_is_2 faults.Replicators is = inr (inr (inr (inl refl)))
-only_the_line_is_2 faults.Idle is = inr (inr (inr (inr (inl refl))))
+only_the_line_is_2 faults.Grow is = inr (inr (inr (inl refl)))
+only_the_line_is_2 faults.Replicators is = inr (inr (inr (inr (inl refl))))
+only_the_line_is_2 faults.Idle is = inr (inr (inr (inr (inr (inl refl)))))
 only_the_line_is_2 (faults.Trace fault) is = absurd (omega (arith, is))
 only_the_line_is_2 (faults.History fault) is = absurd (omega (arith, is))
 only_the_line_is_2 (faults.Dump fault) is = absurd (omega (arith, is))
 only_the_line_is_2 (faults.Heap fault) is = absurd (omega (arith, is))
 only_the_line_is_2 (faults.Shared fault) is = absurd (omega (arith, is))
+only_the_line_is_2 faults.Limits is = absurd (omega (arith, is))
 only_the_line_is_2 (faults.Pace why) is = absurd (omega (arith, is))
 only_the_line_is_2 faults.Open is = absurd (omega (arith, is))
 only_the_line_is_2 faults.HistoryDiffers is = absurd (omega (arith, is))
@@ -151,6 +159,7 @@ only_help_is_0 (faults.Arguments error) is = (error, refl, help_of_0 (kind_of er
 only_help_is_0 faults.NoText is = absurd (omega (arith, is))
 only_help_is_0 faults.Incomplete is = absurd (omega (arith, is))
 only_help_is_0 faults.Mark is = absurd (omega (arith, is))
+only_help_is_0 faults.Grow is = absurd (omega (arith, is))
 only_help_is_0 faults.Replicators is = absurd (omega (arith, is))
 only_help_is_0 faults.Idle is = absurd (omega (arith, is))
 only_help_is_0 (faults.Trace fault) is = absurd (omega (arith, is))
@@ -159,6 +168,7 @@ only_help_is_0 (faults.Dump fault) is = absurd (omega (arith, is))
 only_help_is_0 (faults.Heap fault) is = absurd (omega (arith, is))
 only_help_is_0 (faults.Shared fault) is = absurd (omega (arith, is))
 only_help_is_0 faults.HistoryDiffers is = absurd (omega (arith, is))
+only_help_is_0 faults.Limits is = absurd (omega (arith, is))
 only_help_is_0 (faults.Pace why) is = absurd (omega (arith, is))
 only_help_is_0 faults.Open is = absurd (omega (arith, is))
 only_help_is_0 faults.Read is = absurd (omega (arith, is))
@@ -213,6 +223,7 @@ paced_fault_is_1_or_3 paced_faults.Read = inl refl
 paced_fault_is_1_or_3 paced_faults.Long = inl refl
 paced_fault_is_1_or_3 (paced_faults.Trace fault) = inl refl
 paced_fault_is_1_or_3 (paced_faults.New fault) = inl refl
+paced_fault_is_1_or_3 paced_faults.Limits = inl refl
 paced_fault_is_1_or_3 (paced_faults.Pace why) = inl refl
 paced_fault_is_1_or_3 paced_faults.Write = inl refl
 paced_fault_is_1_or_3 paced_faults.OutOfMemory = inr refl
@@ -332,6 +343,7 @@ late_of_four status (inr (inr is)) = (omega (arith, is), λ two. omega (arith, i
 pub concludes_late : (subcommand : Subcommand) (input : List ℕ) (status : ℕ) (old new : Option (List ℕ)) → Concludes subcommand input status old new → IsLateStatus status
 concludes_late Run input status old new c = late_of_three status (run_is_0_1_or_3 c.0 status c.2)
 concludes_late (RunPaced mark) input status old new c = late_of_three status (paced_is_0_1_or_3 c.0 status c.2)
+concludes_late (RunGrowing at_most) input status old new c = late_of_three status (paced_is_0_1_or_3 c.0 status c.2)
 concludes_late (Threads replicators idle) input status old new c = late_of_four status (shared_is_0_1_3_or_4 c.0 status c.2)
 concludes_late Replay input status old new c = late_of_four status (replay_is_0_1_3_or_4 input c.0 status old new c.1 c.2)
 concludes_late Dump input status old new c = late_of_three status (count_is_0_1_or_3 input c.0 status old new c.1 c.2)
@@ -360,6 +372,7 @@ pub concludes_4 : (subcommand : Subcommand) (input : List ℕ) (old new : Option
     ⊎ ((replicators : ℕ) × (idle : ℕ) × (subcommand ≡ Threads replicators idle) × Keeps old new)
 concludes_4 Run input old new c = absurd (not_2_or_4 4 4 (inr refl) (run_is_0_1_or_3 c.0 4 c.2) refl)
 concludes_4 (RunPaced mark) input old new c = absurd (not_2_or_4 4 4 (inr refl) (paced_is_0_1_or_3 c.0 4 c.2) refl)
+concludes_4 (RunGrowing at_most) input old new c = absurd (not_2_or_4 4 4 (inr refl) (paced_is_0_1_or_3 c.0 4 c.2) refl)
 concludes_4 (Threads replicators idle) input old new c =
     inr (replicators, idle, refl, shared_is_4 (record { replicators = replicators; idle = idle }) input c.0 old new c.1 c.2)
 concludes_4 Replay input old new c = inl (refl, replay_is_4 input c.0 old new c.1 c.2)
@@ -387,33 +400,47 @@ history_of_fault input fault (Err other) status old new is ends own =
 pub concludes_replay_fault : (input : List ℕ) (fault : HistoryFault) (status : ℕ) (old new : Option (List ℕ)) → history_of input ≡ Err fault → Concludes Replay input status old new → (status ≡ 1) ⊎ (status ≡ 3)
 concludes_replay_fault input fault status old new is c = history_of_fault input fault c.0 status old new is c.1 c.2
 
--- a paced run that was refused memory has written nothing
-paced_memory_keeps : (mark : Option ℕ) (input : List ℕ) (fault : PacedFault) (old new : Option (List ℕ)) → PacedEnds mark input (Err fault) old new → 3 ≡ paced_status fault → Keeps old new
-paced_memory_keeps mark input paced_faults.Read old new ends is = absurd (omega (arith, is))
-paced_memory_keeps mark input paced_faults.Long old new ends is = absurd (omega (arith, is))
-paced_memory_keeps mark input (paced_faults.Trace fault) old new ends is = absurd (omega (arith, is))
-paced_memory_keeps mark input (paced_faults.New fault) old new ends is = absurd (omega (arith, is))
-paced_memory_keeps mark input (paced_faults.Pace why) old new ends is = absurd (omega (arith, is))
-paced_memory_keeps mark input paced_faults.Write old new ends is = absurd (omega (arith, is))
-paced_memory_keeps mark input paced_faults.OutOfMemory old new ends is = ends
+-- A paced or a growing run ends with 0 where it came to its end; one that was refused memory has
+-- written nothing.
+module _ (E : Result Summary PacedFault → Option (List ℕ) → Option (List ℕ) → Type 0) (keeps : (old new : Option (List ℕ)) → E (Err paced_faults.OutOfMemory) old new → Keeps old new) where
+  paced_memory_keeps : (fault : PacedFault) (old new : Option (List ℕ)) → E (Err fault) old new → 3 ≡ paced_status fault → Keeps old new
+  paced_memory_keeps paced_faults.Read old new ends is = absurd (omega (arith, is))
+  paced_memory_keeps paced_faults.Long old new ends is = absurd (omega (arith, is))
+  paced_memory_keeps (paced_faults.Trace fault) old new ends is = absurd (omega (arith, is))
+  paced_memory_keeps (paced_faults.New fault) old new ends is = absurd (omega (arith, is))
+  paced_memory_keeps paced_faults.Limits old new ends is = absurd (omega (arith, is))
+  paced_memory_keeps (paced_faults.Pace why) old new ends is = absurd (omega (arith, is))
+  paced_memory_keeps paced_faults.Write old new ends is = absurd (omega (arith, is))
+  paced_memory_keeps paced_faults.OutOfMemory old new ends is = keeps old new ends
 
-paced_is_3 : (mark : Option ℕ) (input : List ℕ) (outcome : Result Summary PacedFault) (old new : Option (List ℕ)) → PacedEnds mark input outcome old new → IsPacedStatus outcome 3 → Keeps old new
-paced_is_3 mark input (Ok summary) old new ends (inl is) = absurd (omega (arith, is))
-paced_is_3 mark input (Ok summary) old new ends (inr is) = absurd (omega (arith, is))
-paced_is_3 mark input (Err fault) old new ends is = paced_memory_keeps mark input fault old new ends is
+  paced_is_3 : (outcome : Result Summary PacedFault) (old new : Option (List ℕ)) → E outcome old new → IsPacedStatus outcome 3 → Keeps old new
+  paced_is_3 (Ok summary) old new ends (inl is) = absurd (omega (arith, is))
+  paced_is_3 (Ok summary) old new ends (inr is) = absurd (omega (arith, is))
+  paced_is_3 (Err fault) old new ends is = paced_memory_keeps fault old new ends is
 
-paced_is_0 : (mark : Option ℕ) (input : List ℕ) (outcome : Result Summary PacedFault) (old new : Option (List ℕ)) → PacedEnds mark input outcome old new → IsPacedStatus outcome 0
-    → (summary : Summary) × PacedEnds mark input (Ok summary) old new
-paced_is_0 mark input (Ok summary) old new ends is = (summary, ends)
-paced_is_0 mark input (Err fault) old new ends is =
-    elim (paced_fault_is_1_or_3 fault) [ inl one ↦ absurd (omega (arith, is, one)) | inr three ↦ absurd (omega (arith, is, three)) ]
+  paced_is_0 : (outcome : Result Summary PacedFault) (old new : Option (List ℕ)) → E outcome old new → IsPacedStatus outcome 0 → (summary : Summary) × E (Ok summary) old new
+  paced_is_0 (Ok summary) old new ends is = (summary, ends)
+  paced_is_0 (Err fault) old new ends is =
+      elim (paced_fault_is_1_or_3 fault) [ inl one ↦ absurd (omega (arith, is, one)) | inr three ↦ absurd (omega (arith, is, three)) ]
 
--- a paced run ends with 0 where it came to its end
+  -- where it can't come to its end it has 1 or 3
+  paced_of_fault : (outcome : Result Summary PacedFault) (status : ℕ) (old new : Option (List ℕ)) → ((summary : Summary) → E (Ok summary) old new → ⊥)
+      → E outcome old new → IsPacedStatus outcome status → (status ≡ 1) ⊎ (status ≡ 3)
+  paced_of_fault (Ok summary) status old new none ends own = absurd (none summary ends)
+  paced_of_fault (Err fault) status old new none ends own =
+      elim (paced_fault_is_1_or_3 fault) [ inl one ↦ inl (own ∙ one) | inr three ↦ inr (own ∙ three) ]
+
 pub concludes_paced_0 : (mark : Option ℕ) (input : List ℕ) (old new : Option (List ℕ)) → ConcludesPaced mark input 0 old new → (summary : Summary) × PacedEnds mark input (Ok summary) old new
-concludes_paced_0 mark input old new c = paced_is_0 mark input c.0 old new c.1 c.2
+concludes_paced_0 mark input old new c = paced_is_0 (PacedEnds mark input) (λ old new ends. ends) c.0 old new c.1 c.2
 
 pub concludes_paced_3 : (mark : Option ℕ) (input : List ℕ) (old new : Option (List ℕ)) → ConcludesPaced mark input 3 old new → Keeps old new
-concludes_paced_3 mark input old new c = paced_is_3 mark input c.0 old new c.1 c.2
+concludes_paced_3 mark input old new c = paced_is_3 (PacedEnds mark input) (λ old new ends. ends) c.0 old new c.1 c.2
+
+pub concludes_growing_0 : (at_most : ℕ) (input : List ℕ) (old new : Option (List ℕ)) → ConcludesGrowing at_most input 0 old new → (summary : Summary) × EndsGrowing at_most input (Ok summary) old new
+concludes_growing_0 at_most input old new c = paced_is_0 (EndsGrowing at_most input) (λ old new ends. ends) c.0 old new c.1 c.2
+
+pub concludes_growing_3 : (at_most : ℕ) (input : List ℕ) (old new : Option (List ℕ)) → ConcludesGrowing at_most input 3 old new → Keeps old new
+concludes_growing_3 at_most input old new c = paced_is_3 (EndsGrowing at_most input) (λ old new ends. ends) c.0 old new c.1 c.2
 
 -- so its whole text is written, and it is one of a trace of commands at its pace
 pub concludes_paced_run : (mark : Option ℕ) (input : List ℕ) (old new : Option (List ℕ)) → ConcludesPaced mark input 0 old new
@@ -422,12 +449,20 @@ concludes_paced_run mark input old new c =
     let done = concludes_paced_0 mark input old new c in
     (done.1.0, done.1.1, done.1.2, done.1.4)
 
+-- or of one whose heap grows
+pub concludes_growing_run : (at_most : ℕ) (input : List ℕ) (old new : Option (List ℕ)) → ConcludesGrowing at_most input 0 old new
+    → (script : Script) × (given : ℕ → Bool) × IsGrowingRun at_most input script × Appends old new (growing_text_of script at_most given)
+concludes_growing_run at_most input old new c =
+    let done = concludes_growing_0 at_most input old new c in
+    (done.1.0, done.1.1, done.1.2, done.1.4)
+
 -- of a paced run's faults want of memory alone has 3
 pub paced_memory_is_3 : (fault : PacedFault) → (paced_status fault ≡ 3) ↔ (fault ≡ paced_faults.OutOfMemory)
 paced_memory_is_3 paced_faults.Read = (λ is. absurd (omega (arith, is)), λ is. cc)
 paced_memory_is_3 paced_faults.Long = (λ is. absurd (omega (arith, is)), λ is. cc)
 paced_memory_is_3 (paced_faults.Trace fault) = (λ is. absurd (omega (arith, is)), λ is. cc)
 paced_memory_is_3 (paced_faults.New fault) = (λ is. absurd (omega (arith, is)), λ is. cc)
+paced_memory_is_3 paced_faults.Limits = (λ is. absurd (omega (arith, is)), λ is. cc)
 paced_memory_is_3 (paced_faults.Pace why) = (λ is. absurd (omega (arith, is)), λ is. cc)
 paced_memory_is_3 paced_faults.Write = (λ is. absurd (omega (arith, is)), λ is. cc)
 paced_memory_is_3 paced_faults.OutOfMemory = (λ is. refl, λ is. refl)
@@ -442,17 +477,37 @@ paced_unwritten mark input (Err paced_faults.Write) old new none ends = absurd (
 paced_unwritten mark input (Err paced_faults.Long) old new none ends = ends.1
 paced_unwritten mark input (Err (paced_faults.Trace fault)) old new none ends = ends.2
 paced_unwritten mark input (Err (paced_faults.New fault)) old new none ends = ends.3
+paced_unwritten mark input (Err paced_faults.Limits) old new none ends = absurd ends
 paced_unwritten mark input (Err (paced_faults.Pace why)) old new none ends = ends.4
 paced_unwritten mark input (Err paced_faults.Read) old new none ends = ends
 paced_unwritten mark input (Err paced_faults.OutOfMemory) old new none ends = ends
 
-paced_of_fault : (mark : Option ℕ) (input : List ℕ) (outcome : Result Summary PacedFault) (status : ℕ) (old new : Option (List ℕ)) → ¬ CanRun mark input
-    → PacedEnds mark input outcome old new → IsPacedStatus outcome status → (status ≡ 1) ⊎ (status ≡ 3)
-paced_of_fault mark input (Ok summary) status old new none ends own = absurd (none (ends.0, ends.1, ends.2))
-paced_of_fault mark input (Err fault) status old new none ends own =
-    elim (paced_fault_is_1_or_3 fault) [ inl one ↦ inl (own ∙ one) | inr three ↦ inr (own ∙ three) ]
-
 -- what can't be run has one of these, and nothing is written
 pub concludes_paced_fault : (mark : Option ℕ) (input : List ℕ) (status : ℕ) (old new : Option (List ℕ)) → ¬ CanRun mark input → ConcludesPaced mark input status old new
     → ((status ≡ 1) ⊎ (status ≡ 3)) × Keeps old new
-concludes_paced_fault mark input status old new none c = (paced_of_fault mark input c.0 status old new none c.1 c.2, paced_unwritten mark input c.0 old new none c.1)
+concludes_paced_fault mark input status old new none c = (
+  paced_of_fault (PacedEnds mark input) (λ old new ends. ends) c.0 status old new (λ summary ends. none (ends.0, ends.1, ends.2)) c.1 c.2,
+  paced_unwritten mark input c.0 old new none c.1,
+)
+
+-- the input is a trace of commands whose heap can grow so
+abbrev pub CanGrow : ℕ → List ℕ → Type 0
+CanGrow at_most input = (script : Script) × IsGrowingRun at_most input script
+
+growing_unwritten : (at_most : ℕ) (input : List ℕ) (outcome : Result Summary PacedFault) (old new : Option (List ℕ)) → ¬ CanGrow at_most input → EndsGrowing at_most input outcome old new → Keeps old new
+growing_unwritten at_most input (Ok summary) old new none ends = absurd (none (ends.0, ends.2))
+growing_unwritten at_most input (Err paced_faults.Write) old new none ends = absurd (none (ends.0, ends.2))
+growing_unwritten at_most input (Err paced_faults.Long) old new none ends = ends.1
+growing_unwritten at_most input (Err (paced_faults.Trace fault)) old new none ends = ends.2
+growing_unwritten at_most input (Err (paced_faults.New fault)) old new none ends = ends.3
+growing_unwritten at_most input (Err paced_faults.Limits) old new none ends = ends.4
+growing_unwritten at_most input (Err (paced_faults.Pace why)) old new none ends = ends.4
+growing_unwritten at_most input (Err paced_faults.Read) old new none ends = ends
+growing_unwritten at_most input (Err paced_faults.OutOfMemory) old new none ends = ends
+
+pub concludes_growing_fault : (at_most : ℕ) (input : List ℕ) (status : ℕ) (old new : Option (List ℕ)) → ¬ CanGrow at_most input → ConcludesGrowing at_most input status old new
+    → ((status ≡ 1) ⊎ (status ≡ 3)) × Keeps old new
+concludes_growing_fault at_most input status old new none c = (
+  paced_of_fault (EndsGrowing at_most input) (λ old new ends. ends) c.0 status old new (λ summary ends. none (ends.0, ends.2)) c.1 c.2,
+  growing_unwritten at_most input c.0 old new none c.1,
+)

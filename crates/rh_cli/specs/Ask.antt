@@ -5,7 +5,7 @@ use Rattle.rh_text.specs.Number.{number_of}
 use Rattle.clap.specs.declared.builder.action.ArgAction.TheVariants.{SetTrue}
 use Rattle.clap.specs.Words.{App, Kinds, Row, Rule, Text, new_app, new_rule, with_rule, with_subcommand, subcommand_of, fault_of, first_of, takes}
 use Rattle.rh_cli.specs.declared.ask.Subcommand.{Subcommand}
-use Rattle.rh_cli.specs.declared.ask.Subcommand.TheVariants.{Run, RunPaced, Threads, Replay, Dump}
+use Rattle.rh_cli.specs.declared.ask.Subcommand.TheVariants.{Run, RunPaced, RunGrowing, Threads, Replay, Dump}
 use Rattle.rh_cli.specs.declared.ask.Ask.{Ask}
 use Rattle.rh_cli.specs.declared.fault.LineFault.{LineFault}
 use Rattle.rh_cli.specs.declared.fault.LineFault.TheVariants as faults
@@ -18,16 +18,22 @@ file_rule = record (new_rule (codes "FILE")) { required = true }
 abbrev pub file_app : Text → App
 file_app name = with_rule (new_app name) file_rule
 
--- the options of `run`: a flag, and one with a value
+-- the options of `run`: a flag, and two with a value
 abbrev pub paced_rule : Rule
 paced_rule = record (new_rule (codes "paced")) { long = Some (codes "paced"); action = Some SetTrue }
 
 abbrev pub mark_rule : Rule
 mark_rule = record (new_rule (codes "mark")) { long = Some (codes "mark"); value_names = 1 }
 
--- the command `run`: a file, and these options
+abbrev pub grow_rule : Rule
+grow_rule = record (new_rule (codes "grow")) { long = Some (codes "grow"); value_names = 1 }
+
+-- the command `run`: a file, and these options, of which the last is for a heap that grows
+abbrev pub marked_app : App
+marked_app = with_rule (with_rule (file_app (codes "run")) paced_rule) mark_rule
+
 abbrev pub run_app : App
-run_app = with_rule (with_rule (file_app (codes "run")) paced_rule) mark_rule
+run_app = with_rule marked_app grow_rule
 
 -- the options of `threads`, each with a value
 abbrev pub replicators_rule : Rule
@@ -72,6 +78,22 @@ run_asked false (Some text) = Err faults.Mark
 run_asked true None = Ok (RunPaced None)
 run_asked true (Some text) = run_at (number_of text)
 
+-- a run that grows to at most a number that was read, or the fault where it is no number
+abbrev pub growing_to : Option ℕ → Result Subcommand LineFault
+growing_to None = Err faults.Grow
+growing_to (Some at_most) = Ok (RunGrowing at_most)
+
+-- the run on a heap that grows, where it is paced and has no mark
+abbrev pub growing_asked : Option Text → Bool → Text → Result Subcommand LineFault
+growing_asked (Some mark) is_paced at_most = Err faults.Grow
+growing_asked None false at_most = Err faults.Grow
+growing_asked None true at_most = growing_to (number_of at_most)
+
+-- the run that is asked for, on a heap that grows where that is given
+abbrev pub run_given : Bool → Option Text → Option Text → Result Subcommand LineFault
+run_given is_paced mark None = run_asked is_paced mark
+run_given is_paced mark (Some at_most) = growing_asked mark is_paced at_most
+
 -- the number, if it is one and no more than the most
 abbrev pub at_most : ℕ → Option ℕ → Option ℕ
 at_most most None = None
@@ -97,13 +119,15 @@ threads_asked replicators idle =
 pub record Options : Type 0 where
   pub paced : Option Text
   pub mark : Option Text
+  pub grow : Option Text
   pub replicators : Option Text
   pub idle : Option Text
 
 -- the command of this name with its options, of those that are given
 abbrev pub command_named : Text → Options → Result Subcommand LineFault
 command_named name given =
-    if bytes_eq name (codes "run") then run_asked (is_set given.paced) given.mark
+    if bytes_eq name (codes "run")
+    then run_given (is_set given.paced) given.mark given.grow
     else (if bytes_eq name (codes "threads") then threads_asked given.replicators given.idle
     else (if bytes_eq name (codes "replay") then Ok Replay
     else (if bytes_eq name (codes "dump") then Ok Dump else Err faults.Incomplete)))
@@ -119,6 +143,7 @@ abbrev pub options_in : List Row → Options
 options_in rows = record {
   paced = first_of (codes "paced") rows;
   mark = first_of (codes "mark") rows;
+  grow = first_of (codes "grow") rows;
   replicators = first_of (codes "replicators") rows;
   idle = first_of (codes "idle") rows;
 }

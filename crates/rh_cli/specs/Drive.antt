@@ -7,9 +7,9 @@ use Rattle.rh_trace.specs.Run.{Ends, run_of}
 use Rattle.rh_cli.specs.declared.fault.LineFault.{LineFault}
 use Rattle.rh_cli.specs.declared.fault.LineFault.TheVariants as line_faults
 use Rattle.rh_cli.specs.declared.ask.Subcommand.{Subcommand}
-use Rattle.rh_cli.specs.declared.ask.Subcommand.TheVariants.{Run, RunPaced, Threads, Replay, Dump}
+use Rattle.rh_cli.specs.declared.ask.Subcommand.TheVariants.{Run, RunPaced, RunGrowing, Threads, Replay, Dump}
 use Rattle.rh_cli.specs.Count.{ConcludesCount}
-use Rattle.rh_cli.specs.Paced.{ConcludesPaced}
+use Rattle.rh_cli.specs.Paced.{ConcludesGrowing, ConcludesPaced}
 use Rattle.rh_cli.specs.Replay.{ConcludesReplay}
 use Rattle.rh_cli.specs.Shared.{ConcludesShared}
 
@@ -47,6 +47,8 @@ ConcludesRun due status old new =
 abbrev pub Concludes : Subcommand → List ℕ → ℕ → Option (List ℕ) → Option (List ℕ) → Type 0
 Concludes Run input status old new = ConcludesRun (run_of input) status old new
 Concludes (RunPaced mark) input status old new = ConcludesPaced mark input status old new
+Concludes (RunGrowing at_most) input status old new =
+    ConcludesGrowing at_most input status old new
 Concludes (Threads replicators idle) input status old new =
     ConcludesShared (record { replicators = replicators; idle = idle }) input status old new
 Concludes Replay input status old new = ConcludesReplay input status old new

@@ -3,7 +3,7 @@
 ghost use Rattle.std.specs.Prelude.{◌≡◌, ◌≢◌, ◌⊎◌, [], map, option_map, false, Ok, Err, IsTrue, IfOk, IfErr, codes};
 ghost use Rattle.clap.specs.declared.builder.command.Command.TheViews.{out-Command as fields_of};
 ghost use Rattle.clap.specs.Words.{kind_of, app_of, subcommand_rows_of};
-ghost use Rattle.rh_cli.specs.Ask.{command_and_file, command_and_file_in, command_and_file_of, command_named, error_kinds, file_app, number_within, run_app, rheap_app, is_set, is_taken, run_asked, threads_app, threads_asked};
+ghost use Rattle.rh_cli.specs.Ask.{command_and_file, command_and_file_in, command_and_file_of, command_named, error_kinds, file_app, growing_asked, marked_app, number_within, run_app, run_given, rheap_app, is_set, is_taken, run_asked, threads_app, threads_asked};
 ghost use Rattle.rh_cli.specs.Fault.{IsArgumentsFault, IsClapFault};
 ghost use Rattle.rh_cli.specs.declared.ask.Ask.{Ask};
 
@@ -28,6 +28,7 @@ const MAX_IDLE: u32 = 65_535;
 struct Options<'a> {
     paced: Option<&'a str>,
     mark: Option<&'a str>,
+    grow: Option<&'a str>,
     replicators: Option<&'a str>,
     idle: Option<&'a str>,
 }
@@ -50,6 +51,17 @@ fn command_line<'a>(alloc: Global) -> Result<Command<'a>, AllocError>
 /// The command `run` as clap knows it.
 fn run_command<'a>(alloc: Global) -> Result<Command<'a>, AllocError>
     ensures app { IfOk result (λ command. app_of command ≡ run_app) }
+    ensures local { IfOk result (λ command. (fields_of command).has_globals ≡ false) }
+{
+    let grow = Arg::new(alloc, "grow").long("grow").value_name("N").help(
+        "With --paced, without --mark: the heap grows to at most N words in each of its spaces",
+    );
+    marked_command(alloc)?.arg(grow)
+}
+
+/// The command `run` with the options of a heap that doesn't grow, as clap knows it.
+fn marked_command<'a>(alloc: Global) -> Result<Command<'a>, AllocError>
+    ensures app { IfOk result (λ command. app_of command ≡ marked_app) }
     ensures local { IfOk result (λ command. (fields_of command).has_globals ≡ false) }
 {
     let about = "Runs a trace, and prints an answer for each of its lines";
@@ -127,9 +139,10 @@ fn file_command<'a>(
 ///
 /// `Arguments` where clap refuses them, or they ask for help or the version; `Incomplete` where
 /// clap takes them and they hold no command or no file; `Mark` where `run` has `--mark` without
-/// `--paced`, or with a value that is no number below 2^32; `Replicators` and then `Idle` where
-/// `threads` has such an option with a value that is no number up to 8, or up to 65,535;
-/// `OutOfMemory` where memory was refused.
+/// `--paced`, or with a value that is no number below 2^32; `Grow` where it has `--grow` without
+/// `--paced` or beside `--mark`, or with a value that is no such number; `Replicators` and then
+/// `Idle` where `threads` has such an option with a value that is no number up to 8, or up to
+/// 65,535; `OutOfMemory` where memory was refused.
 pub fn read_words<'a>(alloc: Global, arguments: &'a [&'a str]) -> Result<Ask<'a>, LineFault>
     // The request has the command and the file that clap's parse of the arguments holds.
     ensures asked { IfOk result (λ ask.
@@ -196,6 +209,7 @@ fn ask_of<'a>(matches: &ArgMatches<'a>) -> Result<Ask<'a>, LineFault>
     let options = Options {
         paced: values.get_str("paced"),
         mark: values.get_str("mark"),
+        grow: values.get_str("grow"),
         replicators: values.get_str("replicators"),
         idle: values.get_str("idle"),
     };
@@ -218,13 +232,14 @@ fn command_named(name: &str, given: Options<'_>) -> Result<Subcommand, LineFault
     ensures named { result ≡ command_named name.now (record {
       paced = option_map (λ t. t.now) given.entry.paced;
       mark = option_map (λ t. t.now) given.entry.mark;
+      grow = option_map (λ t. t.now) given.entry.grow;
       replicators = option_map (λ t. t.now) given.entry.replicators;
       idle = option_map (λ t. t.now) given.entry.idle;
     }) }
     ensures kinds { IfErr result (λ fault. IsArgumentsFault fault) }
 {
     if name == "run" {
-        return run_asked(is_set(given.paced), given.mark);
+        return run_given(is_set(given.paced), given.mark, given.grow);
     }
     if name == "threads" {
         return threads_asked(given.replicators, given.idle);
@@ -251,6 +266,38 @@ fn run_asked(is_paced: bool, mark: Option<&str>) -> Result<Subcommand, LineFault
             None => Err(LineFault::Mark),
         },
         Some(_) => Err(LineFault::Mark),
+    }
+}
+
+/// The run that is asked for, on a heap that grows where that is given.
+fn run_given(
+    is_paced: bool,
+    mark: Option<&str>,
+    grow: Option<&str>,
+) -> Result<Subcommand, LineFault>
+    ensures asked { result ≡ run_given is_paced (option_map (λ t. t.now) mark.entry)
+        (option_map (λ t. t.now) grow.entry) }
+    ensures kinds { IfErr result (λ fault. IsArgumentsFault fault) }
+{
+    match grow {
+        None => run_asked(is_paced, mark),
+        Some(at_most) => growing_asked(mark, is_paced, at_most),
+    }
+}
+
+/// The run on a heap that grows to at most so many words. It has no mark, and is paced.
+fn growing_asked(mark: Option<&str>, is_paced: bool, at_most: &str) -> Result<Subcommand, LineFault>
+    ensures asked { result ≡ growing_asked (option_map (λ t. t.now) mark.entry) is_paced
+        at_most.now }
+    ensures kinds { IfErr result (λ fault. IsArgumentsFault fault) }
+{
+    match mark {
+        None if is_paced => match read_number(at_most.as_bytes()) {
+            Some(number) => Ok(Subcommand::RunGrowing { at_most: number }),
+            None => Err(LineFault::Grow),
+        },
+        None => Err(LineFault::Grow),
+        Some(_) => Err(LineFault::Grow),
     }
 }
 

@@ -10,6 +10,11 @@ pub enum Subcommand {
         /// The free words below which a cycle begins. Without a mark the pace is one that keeps up.
         mark: Option<u32>,
     },
+    /// Run the commands in it on a heap that collects and grows by itself.
+    RunGrowing {
+        /// The most words of each of its spaces.
+        at_most: u32,
+    },
     /// Play the commands in it on a shared heap, each owner's in a thread of its own, and print the
     /// history of the calls.
     Threads {

@@ -11,7 +11,7 @@ use crate::ask::{Ask, Subcommand};
 use crate::counting::count;
 use crate::ending::Ending;
 use crate::fault::LineFault;
-use crate::pacing::run_by_mark;
+use crate::pacing::{run_by_growth, run_by_mark};
 use crate::replaying::replay;
 use crate::running::run;
 use crate::sharing::play_shared;
@@ -84,6 +84,7 @@ where
     match subcommand {
         Subcommand::Run => run(alloc, reader, out),
         Subcommand::RunPaced { mark } => run_by_mark(alloc, reader, out, mark),
+        Subcommand::RunGrowing { at_most } => run_by_growth(alloc, reader, out, at_most),
         Subcommand::Threads { replicators, idle } => {
             let options = RunOptions { replicators, idle };
             play_shared(rt, alloc, reader, out, options)

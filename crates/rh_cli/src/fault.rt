@@ -28,6 +28,10 @@ pub enum LineFault {
     /// `--mark` stands without `--paced`, or its value isn't a number of words, 0 to 4,294,967,295.
     #[error("rheap: --mark needs --paced and a number of words, 0 to 4294967295")]
     Mark,
+    /// `--grow` stands without `--paced` or beside `--mark`, or its value isn't a number of words,
+    /// 0 to 4,294,967,295.
+    #[error("rheap: --grow needs --paced, no --mark, and a number of words, 0 to 4294967295")]
+    Grow,
     /// The value of `--replicators` isn't a number, 0 to 8.
     #[error("rheap: --replicators needs a number of replicators, 0 to 8")]
     Replicators,
@@ -49,6 +53,10 @@ pub enum LineFault {
     /// No shared heap is made with the replicators that were asked for.
     #[error("rheap: heap: {0}")]
     Shared(SharedFault),
+    /// The most words that a heap may have are fewer than those that its trace asks for, or more
+    /// than there can be.
+    #[error("rheap: grow: BadLimits")]
+    Limits,
     /// No pace keeps up in a heap of these sizes with what a trace asks for.
     #[error("rheap: pace: {0}")]
     Pace(PaceError),
@@ -85,7 +93,7 @@ impl LineFault {
         match self {
             LineFault::Arguments(error) if !error.use_stderr() => 0,
             LineFault::Arguments(_) | LineFault::NoText | LineFault::Incomplete => 2,
-            LineFault::Mark | LineFault::Replicators | LineFault::Idle => 2,
+            LineFault::Mark | LineFault::Grow | LineFault::Replicators | LineFault::Idle => 2,
             LineFault::OutOfMemory => 3,
             LineFault::HistoryDiffers => 4,
             _ => 1,

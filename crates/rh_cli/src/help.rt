@@ -37,6 +37,13 @@ Lines of a cycle                 Answer
 Sizes                            Answer
   resize WORDS                   words WORDS: so many in each space from then on, in a cycle too
 
+Watches                          Answer
+  tickets N                      tickets N: room for so many tickets in all
+  OWNER watch ROOT               ticket T: it watches the object that the root holds
+  unwatch T                      unwatched yes, or no where the ticket watched no object
+  gone                           gone T T ..: tickets whose objects are gone, each told once; or
+                                 gone none
+
 Listings                         Answer
   trays                          tray NAME epoch E entries N, for each tray
   stat                           stat used U free F cycle on epoch E ..: the numbers of the heap
@@ -46,10 +53,10 @@ Listings                         Answer
 ROOT, DST, SRC, OBJ, A and B are roots, OWNER.SLOT, as 1.0; owner 0's slots are shared. OPERAND is
 nil, a root, or a whole number from -2^63 to 2^63 - 1 (any other is the fault Number), of which one
 that isn't from -2^61 to 2^61 - 1 is refused IntRange. FIELD, from 0, FIELDS, MOST, the N of
-`idle` and the WORDS of `resize` are 0 to 4294967295; an object of more than 4095 FIELDS is refused
-FieldsRange. A number has no leading zero and no +, and -0 is none. TRAY is a letter a to z and at
-most 15 of a to z, 0 to 9 and _. What can't be done is answered `refused NAME`, changes nothing, and
-the run goes on. Two heaps are the same graph exactly where their dumps are the same text: cut them
+`idle` and `tickets`, the WORDS of `resize` and T are 0 to 4294967295; an object of more than 4095
+FIELDS is refused FieldsRange. A number has no leading zero and no +, and -0 is none. TRAY is a
+letter a to z and at most 15 of a to z, 0 to 9 and _. What can't be done is answered `refused NAME`,
+changes nothing, and the run goes on. Two heaps are the same graph exactly where their dumps are the same text: cut them
 out, from `rheap 2` to `end`, and use cmp.
 
 With --paced the heap collects by itself, an increment of a cycle after each accepted allocation,
@@ -60,6 +67,12 @@ biggest object that the trace asks for, also where it is refused. While no more 
 cycle begins, than about 45, 68, 83 or 91 % of WORDS at RATIO 8, 16, 32 or 64, where objects are
 small, SpaceFull doesn't come, nor LogFull where LOG is half of WORDS; above that both can come. LOG
 goes up to 1048576: in a heap of more than 2097152 words that may be too few, and LogFull can come.
+
+With --paced --grow N, N from WORDS to 16777216, the heap grows by itself too. It begins with WORDS
+words; after each cycle each space gets at least twice the words that are used then, and at most N.
+Its pace is in time whatever lives, and its log as long as the pace asks for, so that LOG isn't
+used. SpaceFull comes only once the heap has N words and these are too few, or where memory for
+more was refused; LogFull too, where N is at most 349000 times RATIO.
 
 Statuses:
   0  done; a refused line is an answer, and no failure
@@ -73,6 +86,7 @@ the command line isn't understood it may have several.
                  is the fault Header
   heap: NAME     the first of these that is out of range: BadSpace (WORDS), BadRatio (RATIO),
                  BadRoots (OWNERS or SLOTS), BadLog (LOG)
+  grow: NAME     with --grow: BadLimits, N is below WORDS or above 16777216
   pace: NAME     with --paced and without --mark: RatioTooLow, the RATIO is below 4, or TooSmall
                  need N, WORDS is below N
   open failed    the file isn't there, or may not be read

@@ -1,6 +1,6 @@
 //! Laws of the definitions alone. Each function does nothing: its contract is the law.
 
-ghost use Rattle.std.specs.Prelude.{◌≡◌, ◌≢◌, ◌≤◌, ◌⊎◌, ◌↔◌, ℕ, ◌++◌, List, [], ◌∷◌, length, Option, Some, None, Result, Ok, Err, IsTrue, false, codes, decimal};
+ghost use Rattle.std.specs.Prelude.{◌≡◌, ◌≢◌, ◌≤◌, ◌⊎◌, ◌↔◌, ℕ, ◌++◌, Bool, List, [], ◌∷◌, length, Option, Some, None, Result, Ok, Err, IsTrue, false, codes, decimal};
 ghost use Rattle.std.specs.List.{AllByRecursion, flat_map};
 ghost use Rattle.std.specs.Io.KnownBytes.{Appends, Keeps};
 ghost use Rattle.clap.specs.Words.{kind_of};
@@ -28,6 +28,7 @@ ghost use Rattle.rh_syntax.specs.Spelling.{Script};
 ghost use Rattle.rh_syntax.specs.declared.fault.TraceFault.{TraceFault as TraceFaultOf};
 ghost use Rattle.rh_pace.specs.declared.pace.Pace.{Pace as PaceOf};
 ghost use Rattle.rh_paced_trace.specs.declared.fault.PacedFault.{PacedFault as PacedFaultOf};
+ghost use Rattle.rh_paced_trace.specs.Growing.{IsGrowingRun, growing_text_of};
 ghost use Rattle.rh_paced_trace.specs.Run.{IsPlainRun, IsRun, AreSumsOf, output_of, text_of};
 ghost use Rattle.rh_shared_trace.specs.Run.{IsHistoryOf, IsSharedRun};
 ghost use Rattle.rh_cli.specs.Ask.{command_and_file_of, is_taken};
@@ -48,11 +49,12 @@ use rh_core::laws::runs::{
 };
 use rh_dump::laws::what_is_spelled_is_read;
 use rh_dump::limits::MAX_DUMP_BYTES;
+use rh_paced_trace::laws::growing::growing_heaps_answer_traces_as_plain_heaps;
 use std::alloc::Global;
 
 /// 0 says that all was done: a run answered its whole trace, a paced run its whole trace of
-/// commands at its pace, the history of one in threads is written, a history is legal and its
-/// report is written, or the counts of a dump's graph are.
+/// commands at its pace, a growing run its whole trace of commands, the history of one in threads
+/// is written, a history is legal and its report is written, or the counts of a dump's graph are.
 pub fn status_0_says_done()
     ensures run { (input : List ℕ) (old new : Option (List ℕ))
         → Concludes SubcommandOf.Run input 0 old new
@@ -61,6 +63,10 @@ pub fn status_0_says_done()
         → Concludes (SubcommandOf.RunPaced mark) input 0 old new
         → (script : Script) × (pace : PaceOf) × IsRun mark input script pace
         × Appends old new (text_of script pace) }
+    ensures growing { (at_most : ℕ) (input : List ℕ) (old new : Option (List ℕ))
+        → Concludes (SubcommandOf.RunGrowing at_most) input 0 old new
+        → (script : Script) × (given : ℕ → Bool) × IsGrowingRun at_most input script
+        × Appends old new (growing_text_of script at_most given) }
     ensures threads { (replicators idle : ℕ) (input : List ℕ) (old new : Option (List ℕ))
         → Concludes (SubcommandOf.Threads replicators idle) input 0 old new
         → (script : Script) × (h : HistoryState)
@@ -81,8 +87,9 @@ pub fn status_0_says_done()
 {}
 
 /// What isn't a trace, a history or a dump ends with 1, or with 3 where memory was refused before
-/// its fault was found. So does a paced run of what is no trace of commands, or of one whose sizes
-/// make no heap, or for which there is no pace, and nothing is written then.
+/// its fault was found. So does a paced or a growing run of what is no trace of commands, or of one
+/// whose sizes make no heap, or for which there is no pace or no such growth, and nothing is
+/// written then.
 pub fn a_faulty_input_ends_with_1_or_3()
     ensures run { (input : List ℕ) (fault : RunFaultOf) (status : ℕ) (old new : Option (List ℕ))
         → run_of input ≡ Err fault → Concludes SubcommandOf.Run input status old new
@@ -90,6 +97,10 @@ pub fn a_faulty_input_ends_with_1_or_3()
     ensures paced { (mark : Option ℕ) (input : List ℕ) (status : ℕ) (old new : Option (List ℕ))
         → ¬ ((script : Script) × (pace : PaceOf) × IsRun mark input script pace)
         → Concludes (SubcommandOf.RunPaced mark) input status old new
+        → ((status ≡ 1) ⊎ (status ≡ 3)) × Keeps old new }
+    ensures growing { (at_most : ℕ) (input : List ℕ) (status : ℕ) (old new : Option (List ℕ))
+        → ¬ ((script : Script) × IsGrowingRun at_most input script)
+        → Concludes (SubcommandOf.RunGrowing at_most) input status old new
         → ((status ≡ 1) ⊎ (status ≡ 3)) × Keeps old new }
     ensures threads { (replicators idle : ℕ) (input : List ℕ) (fault : TraceFaultOf) (status : ℕ)
         (old new : Option (List ℕ)) → trace_of input ≡ Err fault
@@ -110,11 +121,12 @@ pub fn status_2_says_that_the_command_line_is_not_understood()
         (old new : Option (List ℕ)) → Concludes subcommand input status old new → status ≢ 2 }
     ensures only { (fault : FaultOf) → status_of fault ≡ 2
         → (fault ≡ FaultOf.NoText) ⊎ ((fault ≡ FaultOf.Incomplete) ⊎ ((fault ≡ FaultOf.Mark)
-        ⊎ ((fault ≡ FaultOf.Replicators) ⊎ ((fault ≡ FaultOf.Idle)
-        ⊎ ((error : ClapError) × (fault ≡ FaultOf.Arguments error)))))) }
+        ⊎ ((fault ≡ FaultOf.Grow) ⊎ ((fault ≡ FaultOf.Replicators) ⊎ ((fault ≡ FaultOf.Idle)
+        ⊎ ((error : ClapError) × (fault ≡ FaultOf.Arguments error))))))) }
     ensures no_text { status_of FaultOf.NoText ≡ 2 }
     ensures incomplete { status_of FaultOf.Incomplete ≡ 2 }
     ensures mark { status_of FaultOf.Mark ≡ 2 }
+    ensures grow { status_of FaultOf.Grow ≡ 2 }
     ensures replicators { status_of FaultOf.Replicators ≡ 2 }
     ensures idle { status_of FaultOf.Idle ≡ 2 }
     // What clap refuses has 2, unless it asks for help or the version, which is no mistake.
@@ -127,7 +139,8 @@ pub fn status_2_says_that_the_command_line_is_not_understood()
 {}
 
 /// 3 says that memory was refused, or a thread, and no other fault has it: a run has then written
-/// nothing of its total line, and a paced run, one in threads, a check and a count nothing at all.
+/// nothing of its total line, and a paced or a growing run, one in threads, a check and a count
+/// nothing at all.
 pub fn status_3_says_want_of_memory()
     ensures fault { (fault : FaultOf) → (status_of fault ≡ 3) ↔ (fault ≡ FaultOf.OutOfMemory) }
     ensures run_fault { (fault : RunFaultOf)
@@ -138,6 +151,8 @@ pub fn status_3_says_want_of_memory()
         → Concludes SubcommandOf.Run input 3 old new → StopsBeforeTotal (run_of input) old new }
     ensures paced { (mark : Option ℕ) (input : List ℕ) (old new : Option (List ℕ))
         → Concludes (SubcommandOf.RunPaced mark) input 3 old new → Keeps old new }
+    ensures growing { (at_most : ℕ) (input : List ℕ) (old new : Option (List ℕ))
+        → Concludes (SubcommandOf.RunGrowing at_most) input 3 old new → Keeps old new }
     ensures threads { (replicators idle : ℕ) (input : List ℕ) (old new : Option (List ℕ))
         → Concludes (SubcommandOf.Threads replicators idle) input 3 old new → Keeps old new }
     ensures replay { (input : List ℕ) (old new : Option (List ℕ))
@@ -191,6 +206,20 @@ pub fn worked_command_lines()
     ensures no_number { command_and_file_of
         (codes "rheap" ∷ codes "run" ∷ codes "x" ∷ codes "--paced" ∷ codes "--mark=07" ∷ [])
         ≡ Err FaultOf.Mark }
+    ensures grow { command_and_file_of (codes "rheap" ∷ codes "run" ∷ codes "--paced"
+        ∷ codes "--grow" ∷ codes "9000" ∷ codes "x" ∷ [])
+        ≡ Ok (SubcommandOf.RunGrowing 9000, codes "x") }
+    ensures grow_alone { command_and_file_of
+        (codes "rheap" ∷ codes "run" ∷ codes "x" ∷ codes "--grow=9000" ∷ []) ≡ Err FaultOf.Grow }
+    ensures grow_mark { command_and_file_of (codes "rheap" ∷ codes "run" ∷ codes "x"
+        ∷ codes "--paced" ∷ codes "--mark=7" ∷ codes "--grow=9000" ∷ []) ≡ Err FaultOf.Grow }
+    ensures grow_no_number { command_and_file_of
+        (codes "rheap" ∷ codes "run" ∷ codes "x" ∷ codes "--paced" ∷ codes "--grow=-1" ∷ [])
+        ≡ Err FaultOf.Grow }
+    ensures grow_twice { false ≡ is_taken (codes "rheap" ∷ codes "run" ∷ codes "x"
+        ∷ codes "--paced" ∷ codes "--grow=8" ∷ codes "--grow=8" ∷ []) }
+    ensures grow_threads { false
+        ≡ is_taken (codes "rheap" ∷ codes "threads" ∷ codes "x" ∷ codes "--grow=8" ∷ []) }
     ensures paced_replay { false
         ≡ is_taken (codes "rheap" ∷ codes "replay" ∷ codes "x" ∷ codes "--paced" ∷ []) }
     ensures threads { command_and_file_of (codes "rheap" ∷ codes "threads" ∷ codes "x" ∷ [])
@@ -230,6 +259,18 @@ pub fn a_paced_run_answers_as_the_plain_heap()
     an_event_answers_as_the_plain_heap::<Global>();
     every_event_keeps_a_heap_well_formed::<Global>();
     what_collectors_do_adds_up::<Global>();
+}
+
+/// The same of a growing run, whatever memory is given: whatever the most words are, a growth is
+/// seen in refusals by a limit and in the sums alone.
+pub fn a_growing_run_answers_as_the_plain_heap()
+    ensures { (at_most : ℕ) (input : List ℕ) (old new : Option (List ℕ))
+        → Concludes (SubcommandOf.RunGrowing at_most) input 0 old new
+        → (script : Script) × (answers : CommandAnswers) × (summary : SummaryOf)
+        × IsPlainRun script answers (Some input) (Some []) × AreSumsOf answers summary
+        × Appends old new (output_of answers summary) }
+{
+    growing_heaps_answer_traces_as_plain_heaps::<Global>();
 }
 
 /// What a run in threads prints, where it ends with 0, is a history that `replay` never finds

@@ -15,10 +15,11 @@ returns-in_err-subcommand-clause-none c =
     let given : Options = record {
       paced = option_map (λ t. t.now) c.get_str-2.result;
       mark = option_map (λ t. t.now) c.get_str-3.result;
-      replicators = option_map (λ t. t.now) c.get_str-4.result;
-      idle = option_map (λ t. t.now) c.get_str-5.result;
+      grow = option_map (λ t. t.now) c.get_str-4.result;
+      replicators = option_map (λ t. t.now) c.get_str-5.result;
+      idle = option_map (λ t. t.now) c.get_str-6.result;
     } in
-    let matched : AreMatched values given = record { paced = c.get_str-2.ensures; mark = c.get_str-3.ensures; replicators = c.get_str-4.ensures; idle = c.get_str-5.ensures } in
+    let matched : AreMatched values given = record { paced = c.get_str-2.ensures; mark = c.get_str-3.ensures; grow = c.get_str-4.ensures; replicators = c.get_str-5.ensures; idle = c.get_str-6.ensures } in
     let e = command_and_file_in-matches c.args.matches.now c.in-Some.name.now values (Some c.in-Some-get_str.file.now) given c.in-Some.ensures.name c.in-Some.ensures.rows c.in-Some-get_str.ensures matched in
     let named = ap (λ r. with_file r (Some c.in-Some-get_str.file.now)) (sym c.in_err-subcommand.ensures.named) in
     let p = err_from_is_err_and c.from_residual.result c.from_residual.ensures.1 in
@@ -30,9 +31,10 @@ returns-clause-found c =
     let given : Options = record {
       paced = option_map (λ t. t.now) c.get_str-2.result;
       mark = option_map (λ t. t.now) c.get_str-3.result;
-      replicators = option_map (λ t. t.now) c.get_str-4.result;
-      idle = option_map (λ t. t.now) c.get_str-5.result;
+      grow = option_map (λ t. t.now) c.get_str-4.result;
+      replicators = option_map (λ t. t.now) c.get_str-5.result;
+      idle = option_map (λ t. t.now) c.get_str-6.result;
     } in
-    let matched : AreMatched values given = record { paced = c.get_str-2.ensures; mark = c.get_str-3.ensures; replicators = c.get_str-4.ensures; idle = c.get_str-5.ensures } in
+    let matched : AreMatched values given = record { paced = c.get_str-2.ensures; mark = c.get_str-3.ensures; grow = c.get_str-4.ensures; replicators = c.get_str-5.ensures; idle = c.get_str-6.ensures } in
     let e = command_and_file_in-matches c.args.matches.now c.in-Some.name.now values (Some c.in-Some-get_str.file.now) given c.in-Some.ensures.name c.in-Some.ensures.rows c.in-Some-get_str.ensures matched in
     e ∙ ap (λ r. with_file r (Some c.in-Some-get_str.file.now)) (sym c.in_ok-subcommand.ensures.named)

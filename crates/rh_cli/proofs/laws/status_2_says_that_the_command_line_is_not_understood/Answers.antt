@@ -29,3 +29,6 @@ returns-clause-replicators c = refl
 
 pub returns-clause-idle : goal.returns-clause-idle
 returns-clause-idle c = refl
+
+pub returns-clause-grow : goal.returns-clause-grow
+returns-clause-grow c = refl

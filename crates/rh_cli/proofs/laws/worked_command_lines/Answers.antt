@@ -84,3 +84,27 @@ returns-clause-too_idle c = refl
 pub returns-clause-run_replicators : goal.returns-clause-run_replicators
 unfolding is_taken clap_on_literals
 returns-clause-run_replicators c = refl
+
+pub returns-clause-grow : goal.returns-clause-grow
+unfolding command_and_file_of number_of digits clap_on_literals
+returns-clause-grow c = refl
+
+pub returns-clause-grow_alone : goal.returns-clause-grow_alone
+unfolding command_and_file_of number_of digits clap_on_literals
+returns-clause-grow_alone c = refl
+
+pub returns-clause-grow_mark : goal.returns-clause-grow_mark
+unfolding command_and_file_of number_of digits clap_on_literals
+returns-clause-grow_mark c = refl
+
+pub returns-clause-grow_no_number : goal.returns-clause-grow_no_number
+unfolding command_and_file_of number_of digits clap_on_literals
+returns-clause-grow_no_number c = refl
+
+pub returns-clause-grow_twice : goal.returns-clause-grow_twice
+unfolding is_taken clap_on_literals
+returns-clause-grow_twice c = refl
+
+pub returns-clause-grow_threads : goal.returns-clause-grow_threads
+unfolding is_taken clap_on_literals
+returns-clause-grow_threads c = refl
