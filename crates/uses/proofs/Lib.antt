@@ -1,5 +1,9 @@
 mod Accepted
+mod Allowed
 mod Filled
 mod NoLimit
 mod Renewed
+mod RoomKept
 mod Served
+mod StackCalls
+mod Stacks

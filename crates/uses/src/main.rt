@@ -3,6 +3,7 @@
 #![tactic(auto)]
 
 mod full;
+mod growing_list;
 mod list;
 mod owners;
 mod problem;
@@ -10,6 +11,7 @@ mod queue;
 mod recorded;
 mod renewal;
 mod rows;
+mod stack;
 mod threads;
 
 use problem::Problem;
@@ -35,6 +37,10 @@ fn run(rt: &(impl Print + AllocGlobal + Threads + Wait + Sync)) -> Result<(), Pr
     println!(rt; "renewal cycles over 400 {}", cycles > 400)?;
     let read = rows::run(alloc)?;
     println!(rt; "row read {read}")?;
+    let short = growing_list::run(alloc)?;
+    println!(rt; "growing list short {short:?}")?;
+    let (pushed, short) = stack::run(alloc)?;
+    println!(rt; "stack numbers {pushed} short {short:?}")?;
     let (calls, objects) = recorded::run(alloc, &mut io::writer(rt))?;
     println!(rt; "recorded calls {calls} objects {objects}")?;
     Ok(())

@@ -4,7 +4,7 @@ ghost use Rattle.std.specs.Prelude.{◌≡◌};
 ghost use Rattle.uses.specs.declared.problem.Problem.TheVariants as problems;
 ghost use Rattle.uses.specs.Problem.{problem_of_sizes};
 
-use rh_heap::{HeapError, OutOfMemory, PaceError, Refusal, SizesError};
+use rh_heap::{GrowingError, HeapError, OutOfMemory, PaceError, Refusal, SizesError};
 use rh_replay::{RecorderError, TraceFull};
 use std::io;
 use thiserror::Error;
@@ -18,6 +18,9 @@ pub enum Problem {
     /// No pace keeps up with these sizes.
     #[error("no pace: {0}")]
     Pace(PaceError),
+    /// No heap that grows was made.
+    #[error("no heap that grows: {0}")]
+    Growing(#[from] GrowingError),
     /// A call was refused.
     #[error("refused: {0}")]
     Refused(Refusal),
