@@ -3,9 +3,10 @@
 //!
 //! An object has at most 4,095 fields, so the array of 500,000 numbers is a tree, of leaves of 128.
 
-use crate::tree::{count, grow_down, grow_up, heap_of, link, make, root};
+use crate::collected::Collected;
+use crate::tree::{count, grow_down, grow_up, heap_of, link, make, tell};
+use rh_growing::GrowingHeap;
 use rh_layout::Operand;
-use rh_pace::PacedHeap;
 
 /// The fields of a node: two trees and two numbers.
 const FIELDS: u32 = 4;
@@ -59,16 +60,15 @@ fn nodes_of(depth: u32) -> u32 {
 }
 
 /// The numbers of a leaf of the array, each with its place; nothing where a call was refused.
-fn fill_leaf(heap: &mut PacedHeap, slot: u32) -> Option<()> {
+fn fill_leaf(heap: &mut impl Collected, slot: u32) -> Option<()> {
     for place in 0..LEAF {
-        heap.store(1, root(slot), place, Operand::Int(place.into()))
-            .ok()?;
+        heap.put(slot, place, Operand::Int(place.into())).ok()?;
     }
     Some(())
 }
 
 /// The leaves of a node of the array; nothing where a call was refused.
-fn fill_node(heap: &mut PacedHeap, slot: u32) -> Option<()> {
+fn fill_node(heap: &mut impl Collected, slot: u32) -> Option<()> {
     let leaf = slot.wrapping_add(1);
     for field in 0..LEAVES {
         make(heap, leaf, LEAF).ok()?;
@@ -80,7 +80,7 @@ fn fill_node(heap: &mut PacedHeap, slot: u32) -> Option<()> {
 
 /// An array in a slot: nodes with leaves at the ends of a tree of this depth; nothing where a call
 /// was refused.
-fn array_of(heap: &mut PacedHeap, slot: u32, depth: u32) -> Option<()> {
+fn array_of(heap: &mut impl Collected, slot: u32, depth: u32) -> Option<()> {
     make(heap, slot, LEAVES).ok()?;
     if depth == 0 {
         return fill_node(heap, slot);
@@ -94,26 +94,26 @@ fn array_of(heap: &mut PacedHeap, slot: u32, depth: u32) -> Option<()> {
 
 /// Makes trees of a depth from the root down and from the leaves up, as many as have twice the
 /// nodes of the greatest tree; nothing where a call was refused.
-fn construct(heap: &mut PacedHeap, depth: u32, stretch: u32) -> Option<u32> {
+fn construct(heap: &mut impl Collected, depth: u32, stretch: u32) -> Option<u32> {
     let nodes = 2 * u64::from(nodes_of(stretch));
     let trees = u32::try_from(nodes / u64::from(nodes_of(depth)).max(1)).ok()?;
     for _ in 0..trees {
         make(heap, FIRST, FIELDS).ok()?;
         grow_down(heap, FIRST, depth, FIELDS).ok()?;
-        heap.drop(1, root(FIRST)).ok()?;
+        heap.clear(FIRST).ok()?;
     }
     for _ in 0..trees {
         grow_up(heap, FIRST, depth, FIELDS).ok()?;
-        heap.drop(1, root(FIRST)).ok()?;
+        heap.clear(FIRST).ok()?;
     }
     Some(trees)
 }
 
 /// Makes the trees of all depths, and counts the one that lives long; nothing where a call was
 /// refused.
-fn play(rt: &impl Print, heap: &mut PacedHeap, depths: Depths) -> Option<()> {
+fn play(rt: &impl Print, heap: &mut impl Collected, depths: Depths) -> Option<()> {
     grow_up(heap, FIRST, depths.stretch, FIELDS).ok()?;
-    heap.drop(1, root(FIRST)).ok()?;
+    heap.clear(FIRST).ok()?;
     make(heap, LONG, FIELDS).ok()?;
     grow_down(heap, LONG, depths.long, FIELDS).ok()?;
     array_of(heap, ARRAY, depths.array)?;
@@ -124,12 +124,18 @@ fn play(rt: &impl Print, heap: &mut PacedHeap, depths: Depths) -> Option<()> {
         }
     }
     let nodes = count(heap, LONG, depths.long).ok()?;
-    println!(rt; "long lived tree: {nodes} nodes").ok()
+    println!(rt; "long lived tree: {nodes} nodes").ok()?;
+    tell(rt, heap)
 }
 
 /// Runs the bench in a heap of so many words; nothing where a call was refused.
 pub fn run(rt: &(impl Print + AllocGlobal), depths: Depths, words: u32) -> Option<()> {
     let mut heap = heap_of(rt.alloc(), words, LEAF + 2)?;
-    play(rt, &mut heap, depths)?;
-    println!(rt; "cycles {}", heap.stat().flips).ok()
+    play(rt, &mut heap, depths)
+}
+
+/// Runs the bench in a heap that grows to at most so many words; nothing where a call was refused.
+pub fn run_growing(rt: &(impl Print + AllocGlobal), depths: Depths, at_most: u32) -> Option<()> {
+    let mut heap = GrowingHeap::new(rt.alloc(), at_most).ok()?;
+    play(rt, &mut heap, depths)
 }

@@ -1,9 +1,18 @@
-//! How long the batches of a stream took, in buckets of 1.6 percent.
+//! How long calls, or batches of calls, took: in buckets of 1.6 percent.
 
 use std::alloc::Global;
+use std::rt::Clock;
 
 /// How many buckets there are: 64 for the times below 64 nanoseconds, and 64 for each power of two.
 const BUCKETS: usize = 4096;
+
+/// The nanoseconds that the clock shows; nothing where it failed.
+#[inline]
+pub fn now(rt: &impl Clock) -> Option<u64> {
+    let time = rt.monotonic().ok()?;
+    let seconds = time.as_secs().wrapping_mul(1_000_000_000);
+    Some(seconds.wrapping_add(time.subsec_nanos().into()))
+}
 
 /// How long batches took.
 #[derive(Drop)]
@@ -32,6 +41,11 @@ impl Latency {
         }
         self.batches = self.batches.wrapping_add(1);
         self.longest = self.longest.max(nanoseconds);
+    }
+
+    /// How many batches there were.
+    pub fn batches(&self) -> u64 {
+        self.batches
     }
 
     /// The nanoseconds of the longest batch.

@@ -4,32 +4,47 @@
 
 mod binary_trees;
 mod chain;
+mod collected;
 mod dump;
 mod flip;
 mod fold;
 mod gc_bench;
+mod growing;
 mod keeps_up;
 mod latency;
 mod mutators;
 mod place;
+mod resizes;
 mod setting;
 mod spaces;
 mod stream;
 mod tree;
 
+use gc_bench::Depths;
+use keeps_up::Asked;
+use setting::Setting;
 use std::env;
 use std::process::ExitCode;
 use std::rt::{Clock, Env};
 use std::time::CpuClock;
 
+/// Each bench of trees once, on little; nothing where one failed.
+fn run_each_of_trees(rt: &(impl Print + AllocGlobal)) -> Option<()> {
+    binary_trees::run(rt, 8, 8192)?;
+    binary_trees::run_growing(rt, 10, 1_000_000)?;
+    gc_bench::run(rt, Depths::LITTLE, 32_768)?;
+    gc_bench::run_growing(rt, Depths::LITTLE, 1_000_000)
+}
+
 /// Each bench once, on little; nothing where one failed.
-fn run_each(rt: &(impl Print + Input + CpuClock + AllocGlobal)) -> Option<()> {
+fn run_each(rt: &(impl Print + Input + Clock + CpuClock + AllocGlobal)) -> Option<()> {
     fold::run(rt, "fold", 6400)?;
     dump::run(rt, Some("copy"))?;
     place::run(rt, 64)?;
     flip::run(rt, 1000, false)?;
-    binary_trees::run(rt, 8, 8192)?;
-    gc_bench::run(rt, gc_bench::Depths::LITTLE, 32_768)?;
+    run_each_of_trees(rt)?;
+    growing::run(rt, 40_000, 20_000, false)?;
+    resizes::run(rt, 131_072, false)?;
     let names = [
         "list",
         "queue",
@@ -39,7 +54,7 @@ fn run_each(rt: &(impl Print + Input + CpuClock + AllocGlobal)) -> Option<()> {
         "buffers",
     ];
     for name in names {
-        keeps_up::run(rt, name, keeps_up::Asked::LITTLE)?;
+        keeps_up::run(rt, name, Asked::LITTLE)?;
     }
     Some(())
 }
@@ -47,6 +62,30 @@ fn run_each(rt: &(impl Print + Input + CpuClock + AllocGlobal)) -> Option<()> {
 /// The number that an argument is; nothing where it is none.
 fn number(text: Option<&str>) -> Option<u32> {
     text?.parse::<u32>().ok()
+}
+
+/// The setting of a stream that the arguments name; nothing where one is no number.
+fn setting_of(
+    headroom: Option<&str>,
+    passes: Option<&str>,
+    ratio: Option<&str>,
+    mark: Option<&str>,
+) -> Option<Setting> {
+    Some(Setting {
+        headroom: number(headroom)?,
+        passes: number(passes)?,
+        ratio: number(ratio)?,
+        mark: number(mark)?,
+    })
+}
+
+/// What is asked of a program by the arguments; nothing where one is no number.
+fn asked_of(cells: Option<&str>, ratio: Option<&str>, commands: Option<&str>) -> Option<Asked> {
+    Some(Asked {
+        cells: number(cells)?,
+        ratio: number(ratio)?,
+        commands: number(commands)?.into(),
+    })
 }
 
 /// The bench of this name with these arguments; nothing where it failed, or has another name or
@@ -65,24 +104,13 @@ fn run_one(
         "place" => place::run(rt, number(first)?),
         "flip" => flip::run(rt, number(first)?, second.is_some()),
         "binary-trees" => binary_trees::run(rt, number(first)?, number(second)?),
-        "gc-bench" => gc_bench::run(rt, gc_bench::Depths::WHOLE, number(first)?),
-        "stream" => {
-            let setting = setting::Setting {
-                headroom: number(first)?,
-                passes: number(second)?,
-                ratio: number(third)?,
-                mark: number(fourth)?,
-            };
-            stream::run(rt, setting)
-        }
-        "keeps-up" => {
-            let asked = keeps_up::Asked {
-                cells: number(second)?,
-                ratio: number(third)?,
-                commands: number(fourth)?.into(),
-            };
-            keeps_up::run(rt, first?, asked)
-        }
+        "growing-binary-trees" => binary_trees::run_growing(rt, number(first)?, number(second)?),
+        "gc-bench" => gc_bench::run(rt, Depths::WHOLE, number(first)?),
+        "growing-gc-bench" => gc_bench::run_growing(rt, Depths::WHOLE, number(first)?),
+        "stream" => stream::run(rt, setting_of(first, second, third, fourth)?),
+        "keeps-up" => keeps_up::run(rt, first?, asked_of(second, third, fourth)?),
+        "growing" => growing::run(rt, number(first)?, number(second)?, true),
+        "resizes" => resizes::run(rt, number(first)?, true),
         _ => None,
     }
 }

@@ -7,7 +7,7 @@ use std::alloc::Global;
 pub const OWNER: u32 = 1;
 
 /// The words of a cell: a header, a forward word, a number and a reference.
-const CELL_WORDS: u32 = 4;
+pub const CELL_WORDS: u32 = 4;
 
 /// The words of a big object, and its fields.
 const BIG_WORDS: u32 = 258;
@@ -101,25 +101,36 @@ pub fn list(memory: Global, cells: u32) -> Option<Mutator> {
     })
 }
 
+/// A queue of one cell.
+pub fn begin_queue() -> [Command; 2] {
+    [alloc(0, 2), copy(1, 0)]
+}
+
+/// A cell joins behind the others.
+pub fn join() -> [Command; 3] {
+    [alloc(2, 2), store(1, 1, Operand::Root(root(2))), copy(1, 2)]
+}
+
+/// The first cell leaves.
+pub fn leave() -> [Command; 2] {
+    let next = Command::Load {
+        dst: root(0),
+        src: root(0),
+        field: 1,
+    };
+    [next, Command::Drop { root: root(2) }]
+}
+
 /// So many cells of which one joins behind the others, before the first one leaves.
 pub fn queue(memory: Global, cells: u32) -> Option<Mutator> {
-    let join = [alloc(2, 2), store(1, 1, Operand::Root(root(2))), copy(1, 2)];
-    let leave = [
-        Command::Load {
-            dst: root(0),
-            src: root(0),
-            field: 1,
-        },
-        Command::Drop { root: root(2) },
-    ];
     let mut first = Vec::new(memory);
-    add(&mut first, &[alloc(0, 2), copy(1, 0)])?;
+    add(&mut first, &begin_queue())?;
     for _ in 2..cells {
-        add(&mut first, &join)?;
+        add(&mut first, &join())?;
     }
     let mut round = Vec::new(memory);
-    add(&mut round, &join)?;
-    add(&mut round, &leave)?;
+    add(&mut round, &join())?;
+    add(&mut round, &leave())?;
     Some(Mutator {
         live: CELL_WORDS.wrapping_mul(cells),
         biggest: CELL_WORDS,

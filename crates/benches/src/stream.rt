@@ -5,7 +5,7 @@
 //! fifth the checksum of the answers and the seventh the words of the greatest live set, and then 4
 //! bytes an operation: its kind and three numbers.
 
-use crate::latency::Latency;
+use crate::latency::{Latency, now};
 use crate::setting::Setting;
 use rh_layout::{Operand, Refusal, Reply, RootId};
 use rh_pace::PacedHeap;
@@ -110,14 +110,6 @@ fn clear(heap: &mut PacedHeap) -> Option<()> {
         heap.drop(OWNER, RootId { owner: OWNER, slot }).ok()?;
     }
     Some(())
-}
-
-/// The nanoseconds that the clock shows; nothing where it failed.
-#[inline]
-fn now(rt: &impl Clock) -> Option<u64> {
-    let time = rt.monotonic().ok()?;
-    let seconds = time.as_secs().wrapping_mul(1_000_000_000);
-    Some(seconds.wrapping_add(time.subsec_nanos().into()))
 }
 
 /// Plays all operations once, with each batch noted. Answers what it came to; nothing where one was

@@ -1,22 +1,16 @@
 //! Trees of a heap that collects by itself, made and counted without recursion on the heap's side:
 //! each level of a tree has a slot.
 
-use rh_layout::{Operand, Refusal, Reply, RootId};
+use crate::collected::{Collected, root};
+use rh_layout::{Operand, Refusal, Reply};
 use rh_pace::{Pace, PacedHeap};
 use std::alloc::Global;
 
-/// The owner of all trees, and its slots: one for each level, and those of whole trees above.
-const OWNER: u32 = 1;
-
+/// The slots of the owner: one for each level of a tree, and those of whole trees above.
 const SLOTS: u32 = 64;
 
 /// The units of collector work for each allocated word.
 const RATIO: u32 = 32;
-
-/// A root of the owner.
-pub fn root(slot: u32) -> RootId {
-    RootId { owner: OWNER, slot }
-}
 
 /// A heap of so many words, whose objects have at most `biggest` words; nothing where no pace keeps
 /// up or memory was refused.
@@ -26,20 +20,25 @@ pub fn heap_of(alloc: Global, words: u32, biggest: u32) -> Option<PacedHeap> {
 }
 
 /// A new node of so many fields in a slot.
-pub fn make(heap: &mut PacedHeap, slot: u32, fields: u32) -> Result<(), Refusal> {
-    heap.alloc(OWNER, root(slot), fields)?;
+pub fn make(heap: &mut impl Collected, slot: u32, fields: u32) -> Result<(), Refusal> {
+    heap.make(slot, fields)?;
     Ok(())
 }
 
 /// A field of the node in a slot takes what another slot holds.
-pub fn link(heap: &mut PacedHeap, slot: u32, field: u32, from: u32) -> Result<(), Refusal> {
-    heap.store(OWNER, root(slot), field, Operand::Root(root(from)))?;
+pub fn link(heap: &mut impl Collected, slot: u32, field: u32, from: u32) -> Result<(), Refusal> {
+    heap.put(slot, field, Operand::Root(root(from)))?;
     Ok(())
 }
 
 /// A whole tree of this depth in a slot, its children made first, with so many fields a node; the
 /// slots above it are used.
-pub fn grow_up(heap: &mut PacedHeap, slot: u32, depth: u32, fields: u32) -> Result<(), Refusal> {
+pub fn grow_up(
+    heap: &mut impl Collected,
+    slot: u32,
+    depth: u32,
+    fields: u32,
+) -> Result<(), Refusal> {
     if depth == 0 {
         return make(heap, slot, fields);
     }
@@ -53,7 +52,12 @@ pub fn grow_up(heap: &mut PacedHeap, slot: u32, depth: u32, fields: u32) -> Resu
 
 /// Grows the node in a slot to a tree of this depth, its children made after it; the slots above it
 /// are used.
-pub fn grow_down(heap: &mut PacedHeap, slot: u32, depth: u32, fields: u32) -> Result<(), Refusal> {
+pub fn grow_down(
+    heap: &mut impl Collected,
+    slot: u32,
+    depth: u32,
+    fields: u32,
+) -> Result<(), Refusal> {
     let child = slot.wrapping_add(1);
     if depth == 0 {
         return Ok(());
@@ -67,13 +71,13 @@ pub fn grow_down(heap: &mut PacedHeap, slot: u32, depth: u32, fields: u32) -> Re
 }
 
 /// Whether a field of the node in a slot names a node, which the next slot holds then.
-fn goes_down(heap: &mut PacedHeap, slot: u32, field: u32) -> Result<bool, Refusal> {
-    let reply = heap.load(OWNER, root(slot.wrapping_add(1)), root(slot), field)?;
+fn goes_down(heap: &mut impl Collected, slot: u32, field: u32) -> Result<bool, Refusal> {
+    let reply = heap.get(slot.wrapping_add(1), slot, field)?;
     Ok(matches!(reply, Reply::Object(_)))
 }
 
 /// The nodes of the tree in a slot, which is at most so deep; the slots above it are used.
-pub fn count(heap: &mut PacedHeap, slot: u32, depth: u32) -> Result<u32, Refusal> {
+pub fn count(heap: &mut impl Collected, slot: u32, depth: u32) -> Result<u32, Refusal> {
     if depth == 0 {
         return Ok(1);
     }
@@ -85,4 +89,13 @@ pub fn count(heap: &mut PacedHeap, slot: u32, depth: u32) -> Result<u32, Refusal
         nodes = nodes.wrapping_add(count(heap, slot.wrapping_add(1), depth - 1)?);
     }
     Ok(nodes)
+}
+
+/// Prints how many cycles ended, and the words that the heap has; nothing where that failed.
+pub fn tell(rt: &impl Print, heap: &impl Collected) -> Option<()> {
+    let (cycles, words) = (
+        heap.paced().stat().flips,
+        heap.paced().heap().config().words,
+    );
+    println!(rt; "cycles {cycles} words {words}").ok()
 }

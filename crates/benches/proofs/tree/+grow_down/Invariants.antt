@@ -1,4 +1,4 @@
 use Rattle.benches.proofs.tree.+grow_down.Given as goal
 
 abbrev pub decreases-grow_down : goal.decreases-grow_down
-decreases-grow_down l = l.depth
+decreases-grow_down g l = l.depth
