@@ -83,9 +83,15 @@ fn each_call_is_answered(rt: HostRuntime) {
     assert_eq!(rt; heap.put_text(1, B, 0, b"seven and"), Ok(()));
     assert_eq!(rt; heap.store_all(1, A, 1, &[7, 8]), Ok(()));
     assert_eq!(rt; heap.peek(1, A, 2), Ok(Reply::Int(8)));
+    assert_eq!(rt; heap.watch_room(2), Ok(()));
+    assert_eq!(rt; heap.watch(1, A), Ok(0));
+    assert_eq!(rt; heap.watch(1, B), Ok(1));
+    assert!(rt; heap.unwatch(1));
     assert!(rt; !heap.increment().began);
     let flipped = heap.collect();
     assert!(rt; flipped.is_ok_and(|f| f.live_words == 13), "{flipped:?}");
+    assert_eq!(rt; heap.next_gone(), None);
+    assert_eq!(rt; heap.release(), Ok(()));
     assert_eq!(rt; heap.peek(1, A, 1), Ok(Reply::Int(7)));
 }
 

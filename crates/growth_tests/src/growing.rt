@@ -120,11 +120,14 @@ fn each_growth_is_refused_in_turn(rt: HostRuntime) {
 }
 
 /// A list grows until no more words may be had: then the heap says so, before a command is refused.
-/// Once the list is dropped there is room again, and the space is smaller.
+/// Once the list is dropped there is room again, and the space is smaller. A ticket for its first cell
+/// is told then, and not before.
 #[test]
 fn a_list_fills_all_that_may_be_had(rt: HostRuntime) {
     let mut heap = GrowingHeap::of(rt.alloc(), GROWTH).expect(&rt, "memory is ample");
+    assert!(rt; heap.watch_room(1).is_ok());
     let mut answer = heap.command(1, &NEW_CELL);
+    assert_eq!(rt; heap.watch(1, NEW), Ok(0));
     for _ in 0..1_000u32 {
         if answer.is_err() {
             break;
@@ -141,10 +144,12 @@ fn a_list_fills_all_that_may_be_had(rt: HostRuntime) {
     assert_eq!(rt; heap.short(), Some(Short::AtMost));
     assert_eq!(rt; heap.paced().heap().config().words, 2_000);
     assert!(rt; heap.insist(1, &NEW_CELL).is_err());
+    assert_eq!(rt; heap.next_gone(), None);
     assert!(rt; heap.command(1, &DROP_LIST).is_ok());
     assert!(rt; heap.command(1, &DROP_CELL).is_ok());
     assert!(rt; heap.insist(1, &NEW_CELL).is_ok());
     assert!(rt; heap.collect().is_ok());
+    assert_eq!(rt; heap.next_gone(), Some(0));
     assert_eq!(rt; heap.short(), None);
     assert!(rt; heap.paced().heap().config().words < 200);
 }

@@ -9,3 +9,5 @@ mod growing;
 mod numbers;
 #[cfg(test)]
 mod rule;
+#[cfg(test)]
+mod watching;

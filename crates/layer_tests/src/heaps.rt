@@ -8,3 +8,4 @@ mod raw_objects;
 mod resizing;
 mod runs;
 mod schedules;
+mod watching;

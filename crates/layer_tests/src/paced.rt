@@ -6,3 +6,4 @@ mod mutators;
 mod paces;
 mod sizes;
 mod storing;
+mod watching;

@@ -1,11 +1,12 @@
-//! Collections on demand.
+//! Collections on demand, and memory that is given back.
 
 use crate::commands::{alloc, store};
 use crate::expectations::{Row, expect_equal};
-use crate::paced::calls::{SIZES, STEPS, play, small_heap};
-use rh_core::{Config, Flipped};
+use crate::paced::calls::{PACE, SIZES, STEPS, play, small_heap};
+use refusing::refused_in_turn;
+use rh_core::{Config, Flipped, ReleaseError};
 use rh_layout::{Command, Operand, Refusal, Reply, RootId};
-use rh_pace::{Did, EpochsSpent};
+use rh_pace::{Did, EpochsSpent, PacedHeap};
 
 const A: RootId = RootId { owner: 1, slot: 0 };
 
@@ -109,4 +110,35 @@ fn the_last_epoch(rt: HostRuntime) {
     let full = Err(Refusal::SpaceFull { need: 33, free: 32 });
     expect_equal(&rt, heap.insist(1, &alloc(D, 31)), full);
     expect_equal(&rt, heap.increment(), Did::NOTHING);
+}
+
+/// Memory is given back outside a cycle, of one space and then of the other. What can be read stays.
+#[test]
+fn memory_that_is_given_back(rt: HostRuntime) {
+    let mut heap = small_heap(&rt, rt.alloc(), SIZES);
+    for step in STEPS.iter().take(3) {
+        let _ = heap.command(1, &step.0);
+    }
+    expect_equal(&rt, heap.release(), Err(ReleaseError::CycleOn));
+    for _ in 0..2 {
+        assert!(rt; heap.collect().is_ok());
+        let before = (heap.stat(), heap.root(A));
+        expect_equal(&rt, heap.release(), Ok(()));
+        expect_equal(&rt, (heap.stat(), heap.root(A)), before);
+    }
+}
+
+/// Where the new block is refused the heap goes on with the old one.
+#[test]
+fn memory_that_is_kept(rt: HostRuntime) {
+    let refused = refused_in_turn(rt.alloc(), |memory| {
+        let Ok(mut heap) = PacedHeap::new(memory, SIZES, PACE) else {
+            return true;
+        };
+        let answer = heap.release();
+        play(&rt, &mut heap, STEPS);
+        answer == Err(ReleaseError::OutOfMemory)
+    });
+    // The roots, two spaces and the log, and the new block.
+    expect_equal(&rt, refused, Ok(5));
 }

@@ -5,8 +5,8 @@ use crate::commands::root;
 use crate::expectations::{Row, expect_equal, expect_texts};
 use refusing::refused_in_turn;
 use rh_heap::{
-    ConfigFault, EpochsSpent, Error, HeapError, Operand, OutOfMemory, PaceError, PacedHeap,
-    Refusal, Reply, RootId, Sizes, SizesError, Value,
+    ConfigFault, EpochsSpent, Error, GrowingError, HeapError, Operand, OutOfMemory, PaceError,
+    PacedHeap, Refusal, Reply, RoomError, RootId, Sizes, SizesError, Value, WatchError,
 };
 
 const A: RootId = RootId { owner: 1, slot: 0 };
@@ -138,9 +138,16 @@ fn errors_of_a_runtime(rt: HostRuntime) {
                 Error::from(HeapError::OutOfMemory),
                 "no heap: out of memory",
             ),
+            (Error::from(GrowingError::BadFactor), "no heap: BadFactor"),
+            (Error::from(GrowingError::BadLimits), "no heap: BadLimits"),
             (Error::from(PaceError::RatioTooLow), "no pace: RatioTooLow"),
             (Error::from(Refusal::NoField), "refused: NoField"),
             (Error::from(EpochsSpent), "nothing collected: EpochsSpent"),
+            (
+                Error::from(RoomError::Fewer { now: 2 }),
+                "no tickets: Fewer 2",
+            ),
+            (Error::from(WatchError::Full), "not watched: Full"),
             (Error::from(OutOfMemory), "out of memory"),
         ],
     );
