@@ -1,24 +1,23 @@
-//! A heap, the heap that never moves beside it, and an account of its cycle.
+//! A heap, the heap that never moves beside it, and an account of its sizes and its cycle.
 
 ghost use Rattle.std.specs.Prelude.{◌≤◌};
 
 use crate::account::{Account, Answer, MOST_IDLE};
-use crate::expectations::{expect_equal, expect_limit, expect_same_dump};
-use crate::numbers::Numbers;
-use rh_core::{Config, GiveError, Heap, IdleError, Kind, NoCycle, Stat};
+use crate::expectations::{expect_equal, expect_same_dump};
+use crate::numbers::{Numbers, count, count_at};
+use crate::resizes::Resizes;
+use crate::tickets::{Tickets, reached};
+use rh_core::{Config, GiveError, Heap, IdleError, Kind, NoCycle, ReleaseError, ResizeError, Stat};
 use rh_layout::{Item, Place, Refusal, RootId, Value};
 use rh_model::{CommandError, Plain};
 use rh_partial::{PartialReplica, Piece, fold};
-use std::alloc::Allocator;
+use std::alloc::{Allocator, Global};
 use std::process::Abort;
 
-/// The words of a space.
-const WORDS: u32 = 96;
-
-/// The sizes of a heap of two owners and the shared slots: the ends of its words, its log and its
-/// credit are met often, and those of its numbers and epochs aren't.
+/// The first sizes of a heap of two owners and the shared slots: the ends of its words, its log and
+/// its credit are met often, and those of its numbers and epochs aren't.
 pub const TIGHT: Config = Config {
-    words: WORDS,
+    words: 96,
     ratio: 48,
     owners: 3,
     slots: 4,
@@ -83,6 +82,7 @@ pub struct Counts {
     pub lost: u64,
     /// Flips of cycles whose recall made such a piece undealt that was missing.
     pub mended: u64,
+    pub resizes: Resizes,
 }
 
 /// The place of an answer among the counts of gives.
@@ -99,18 +99,13 @@ fn place_of(answer: Answer) -> usize {
     }
 }
 
-/// One more.
-pub fn count(number: &mut u64) {
-    *number = number.saturating_add(1);
-}
-
 /// Gives a replica. The answer is the one that the account of the cycle expects, and a refused one
 /// changes what was spent alone.
 fn give<A: Allocator + Copy>(
     rt: &impl Abort,
     heap: &mut Heap<A>,
-    account: &mut Account<A>,
-    replica: &PartialReplica<A>,
+    account: &mut Account,
+    replica: &PartialReplica,
 ) -> Answer {
     let before = heap.stat();
     let copies = heap.undealt(Kind::Copies);
@@ -128,35 +123,38 @@ fn give<A: Allocator + Copy>(
     answer
 }
 
-/// A heap, the plain heap beside it, and an account of its cycle.
+/// A heap with memory of its own, the plain heap beside it, and an account of its sizes and its
+/// cycle.
 #[derive(Drop)]
 pub struct Both<A: Allocator + Copy> {
-    memory: A,
+    memory: Global,
     pub heap: Heap<A>,
-    plain: Plain<A>,
-    account: Account<A>,
+    plain: Plain<Global>,
+    account: Account,
     /// What was dealt: given in any order, late and again.
-    replicas: Vec<PartialReplica<A>, A>,
+    replicas: Vec<PartialReplica>,
     /// A place of a piece of this epoch that was lost, and whether one was recalled in this cycle
     /// that was missing.
     lost: Option<Place>,
     recalled: bool,
+    pub tickets: Tickets,
     pub counts: Counts,
 }
 
 impl<A: Allocator + Copy> Both<A> {
-    /// New heaps.
-    pub fn new(rt: &impl Abort, memory: A) -> Both<A> {
+    /// A new heap, and what stands beside it.
+    pub fn new(rt: &impl Abort, memory: Global, heap: Heap<A>) -> Both<A> {
         Both {
             memory,
-            heap: Heap::new(memory, TIGHT).ok().expect(rt, "a heap"),
+            heap,
             plain: Plain::new(memory, TIGHT.owners, TIGHT.slots)
                 .ok()
                 .expect(rt, "a plain heap"),
-            account: Account::new(memory),
+            account: Account::new(memory, &TIGHT),
             replicas: Vec::new(memory),
             lost: None,
             recalled: false,
+            tickets: Tickets::new(memory),
             counts: Counts {
                 gives: [0; 8],
                 invented: Classes::none(),
@@ -171,19 +169,22 @@ impl<A: Allocator + Copy> Both<A> {
                 idles_spent: 0,
                 lost: 0,
                 mended: 0,
+                resizes: Resizes::none(),
             },
         }
     }
 
-    /// An owner's command, whose answer is the plain heap's unless it is a limit's.
+    /// An owner's command, whose answer is the plain heap's unless it meets the limit that the
+    /// account expects.
     fn command(&mut self, rt: &impl Abort, numbers: &mut Numbers) {
         let owner = 1 + numbers.below(2);
         let command = numbers.command(owner);
         let before = self.heap.stat();
+        let limit = self.account.limit_of(&command);
         let answer = self.heap.command(owner, &command);
         match answer {
             Err(refusal) if refusal.is_limit() => {
-                expect_limit(rt, refusal, &command, &before, TIGHT.log_limit);
+                expect_equal(rt, Some(refusal), limit);
                 expect_equal(rt, self.heap.stat(), before);
                 count(match refusal {
                     Refusal::LogFull => &mut self.counts.logs_full,
@@ -194,12 +195,12 @@ impl<A: Allocator + Copy> Both<A> {
                 let plain = self.plain.command(owner, &command);
                 expect_equal(rt, answer.map_err(CommandError::Refused), plain);
                 count(&mut self.counts.commands);
-                if self.account.on && answer.is_ok() {
+                if answer.is_ok() {
+                    expect_equal(rt, limit, None);
                     self.account.note(&command, TIGHT.ratio);
                 }
             }
         }
-        assert!(rt; self.account.logged <= TIGHT.log_limit.into());
     }
 
     /// A root is shaded.
@@ -278,6 +279,11 @@ impl<A: Allocator + Copy> Both<A> {
     /// The cycle ends, where it can, and the graph is that of the plain heap.
     fn flip(&mut self, rt: &impl Abort) {
         let refusal = self.account.flip(&self.heap, &TIGHT);
+        if refusal.is_none() {
+            self.account.used = self.account.placed_words(&self.heap);
+            let reached = reached(rt, self.memory, &self.plain);
+            self.tickets.follow(rt, &self.heap, &self.account, &reached);
+        }
         let answer = self.heap.flip();
         expect_equal(rt, answer.err(), refusal);
         if answer.is_ok() {
@@ -335,13 +341,18 @@ impl<A: Allocator + Copy> Both<A> {
     }
 
     /// The collector has some idle words, or as many as a cycle may have, or one more.
-    fn idle(&mut self, rt: &impl Abort, numbers: &mut Numbers) {
+    fn some_idle(&mut self, rt: &impl Abort, numbers: &mut Numbers) {
         let left = MOST_IDLE.saturating_sub(self.account.idle);
         let words = match numbers.below(50) {
             0 => left.saturating_add(1),
             1 if numbers.has(2) => left,
             few => few.into(),
         };
+        self.idle(rt, words);
+    }
+
+    /// The collector has so many idle words.
+    fn idle(&mut self, rt: &impl Abort, words: u64) {
         let answer = self.account.add_idle(words);
         expect_equal(rt, self.heap.idle(words), answer);
         match answer {
@@ -351,17 +362,59 @@ impl<A: Allocator + Copy> Both<A> {
         }
     }
 
+    /// The heap gets other sizes, where the account has no refusal, or memory is refused, as only a
+    /// growth's may be. Nothing else changes.
+    fn resize(&mut self, rt: &impl Abort, numbers: &mut Numbers) {
+        let words = numbers.words(self.account.used);
+        let limit = numbers.limit(self.account.logged);
+        let before = self.heap.stat();
+        let refusal = self.account.resize_refusal(words, limit);
+        let answer = self.heap.resize(words, limit);
+        self.counts
+            .resizes
+            .note(&self.account, words, limit, answer);
+        if answer == Err(ResizeError::OutOfMemory) {
+            expect_equal(rt, refusal, None);
+            assert!(rt; words > self.account.words || limit > self.account.limit);
+        } else {
+            expect_equal(rt, answer.err(), refusal);
+        }
+        if answer.is_ok() {
+            (self.account.words, self.account.limit) = (words, limit);
+        }
+        self.expect_sizes(rt, before);
+    }
+
+    /// The heap has the sizes of the account, and else the numbers that it had.
+    fn expect_sizes(&self, rt: &impl Abort, before: Stat) {
+        let free = self.account.free_words();
+        expect_equal(rt, self.heap.stat(), Stat { free, ..before });
+        let (words, log_limit) = (self.account.words, self.account.limit);
+        let config = Config {
+            words,
+            log_limit,
+            ..TIGHT
+        };
+        expect_equal(rt, self.heap.config(), config);
+    }
+
+    /// Memory is given back, where no cycle is on. Nothing changes, also where memory is refused.
+    fn release(&mut self, rt: &impl Abort) {
+        let before = self.heap.stat();
+        let answer = self.heap.release();
+        self.counts.resizes.note_release(answer);
+        let is_refused = answer == Err(ReleaseError::CycleOn);
+        expect_equal(rt, is_refused, self.account.on);
+        self.expect_sizes(rt, before);
+    }
+
     /// What was lost is undealt, what the roots refer to is placed, all is dealt and given but what
     /// is lost now, and the cycle ends where nothing was.
     fn end(&mut self, rt: &impl Abort, numbers: &mut Numbers) {
         if self.lost.is_some() {
             self.recall(rt);
         }
-        for owner in 0..TIGHT.owners {
-            for slot in 0..TIGHT.slots {
-                self.shade(rt, RootId { owner, slot });
-            }
-        }
+        self.shade_all(rt);
         for _ in 0..20u32 {
             for kind in [Kind::Copies, Kind::Entries] {
                 self.deal(rt, kind, 64, numbers.has(1));
@@ -372,12 +425,48 @@ impl<A: Allocator + Copy> Both<A> {
         self.flip(rt);
     }
 
+    /// Each root is shaded.
+    fn shade_all(&mut self, rt: &impl Abort) {
+        for owner in 0..TIGHT.owners {
+            for slot in 0..TIGHT.slots {
+                self.shade(rt, RootId { owner, slot });
+            }
+        }
+    }
+
+    /// A cycle ends, and begins first where none is on. No command is made beside it.
+    fn collect_quietly(&mut self, rt: &impl Abort) {
+        self.begin(rt);
+        self.recall(rt);
+        self.idle(rt, 1 << 20);
+        self.shade_all(rt);
+        for _ in 0..200u32 {
+            if self.account.undealt(&self.heap, Kind::Copies) > 0 {
+                self.deal(rt, Kind::Copies, 64, false);
+                let last = self.replicas.len().saturating_sub(1);
+                self.give(rt, last);
+            }
+        }
+        self.flip(rt);
+    }
+
+    /// After two collections beside which no command is made, the tickets that are on are those of
+    /// what is reached.
+    pub fn settle(&mut self, rt: &impl Abort) {
+        let flips = self.counts.flips;
+        self.collect_quietly(rt);
+        self.collect_quietly(rt);
+        expect_equal(rt, self.counts.flips, flips.saturating_add(2));
+        let reached = reached(rt, self.memory, &self.plain);
+        self.tickets.settle(rt, &mut self.heap, &reached);
+    }
+
     /// An event that isn't a command, or all that a cycle's end takes.
     fn collect(&mut self, rt: &impl Abort, numbers: &mut Numbers) {
-        match numbers.below(16) {
+        match numbers.below(20) {
             0 | 1 | 2 => {
                 self.begin(rt);
-                self.idle(rt, numbers);
+                self.some_idle(rt, numbers);
                 self.shade(rt, numbers.root(1));
             }
             3 => self.shade(rt, numbers.root(1)),
@@ -389,7 +478,9 @@ impl<A: Allocator + Copy> Both<A> {
             9 => self.flip(rt),
             10 => self.recall(rt),
             11 => self.abandon(rt),
-            12 => self.idle(rt, numbers),
+            12 => self.some_idle(rt, numbers),
+            13 | 14 | 15 => self.resize(rt, numbers),
+            16 => self.release(rt),
             _ => self.end(rt, numbers),
         }
     }
@@ -412,7 +503,8 @@ impl<A: Allocator + Copy> Both<A> {
         requires { chances ≤ 32 }
     {
         let part = numbers.below(4 + chances);
-        let mut object = numbers.address(WORDS);
+        let words = self.account.words.max(1);
+        let mut object = numbers.address(words);
         if part != 0 {
             object = self.placed(numbers).unwrap_or(object);
         }
@@ -428,7 +520,7 @@ impl<A: Allocator + Copy> Both<A> {
             number = numbers.other_number(number);
         }
         if part == 3 {
-            value = numbers.value(WORDS);
+            value = numbers.value(words);
         }
         Item {
             object,
@@ -440,7 +532,7 @@ impl<A: Allocator + Copy> Both<A> {
 
     /// A replica that nobody dealt: of the heap's epoch or one beside it, with no entry, a few, or
     /// some 64.
-    fn invented(&self, rt: &impl Abort, numbers: &mut Numbers) -> PartialReplica<A> {
+    fn invented(&self, rt: &impl Abort, numbers: &mut Numbers) -> PartialReplica {
         let is = self.heap.epoch();
         let epoch = match numbers.below(12) {
             0 => is.saturating_sub(1),
@@ -473,17 +565,16 @@ impl<A: Allocator + Copy> Both<A> {
     fn invent(&mut self, rt: &impl Abort, numbers: &mut Numbers) {
         let replica = self.invented(rt, numbers);
         let answer = give(rt, &mut self.heap, &mut self.account, &replica);
-        if let Some(number) = self.counts.gives.get_mut(place_of(answer)) {
-            count(number);
-        }
+        count_at(&mut self.counts.gives, place_of(answer));
         self.counts.invented.add(answer);
     }
 
     /// One event of any kind. The heap's numbers are then as the account has them.
     pub fn live(&mut self, rt: &impl Abort, numbers: &mut Numbers) {
-        match numbers.below(4) {
-            0 | 1 => self.command(rt, numbers),
-            2 => self.collect(rt, numbers),
+        match numbers.below(9) {
+            0 | 1 | 2 | 3 => self.command(rt, numbers),
+            4 | 5 => self.collect(rt, numbers),
+            6 => self.tickets.call(rt, numbers, &mut self.heap, &self.plain),
             _ => self.invent(rt, numbers),
         }
         let stat = self.heap.stat();
@@ -496,7 +587,9 @@ impl<A: Allocator + Copy> Both<A> {
         expect_equal(
             rt,
             (stat.log, stat.flips),
-            (account.logged, self.counts.flips),
+            (account.logged.into(), self.counts.flips),
         );
+        let words = (account.used.into(), account.free_words());
+        expect_equal(rt, (stat.used, stat.free), words);
     }
 }

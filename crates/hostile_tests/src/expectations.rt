@@ -93,11 +93,11 @@ pub fn expect_refusals(rt: &impl Abort, refused: Result<u64, u64>, least: u64) {
 }
 
 /// Ends the test unless a heap and a plain heap have the same dump.
-pub fn expect_same_dump<A: Allocator + Copy>(
+pub fn expect_same_dump<A: Allocator + Copy, B: Allocator + Copy>(
     rt: &impl Abort,
-    memory: A,
+    memory: B,
     heap: &Heap<A>,
-    plain: &Plain<A>,
+    plain: &Plain<B>,
 ) {
     assert!(rt; plain.objects() <= MAX_OBJECTS as usize);
     let moving = graph(memory, heap).ok().expect(rt, "memory is ample");

@@ -13,6 +13,10 @@ mod lives;
 #[cfg(test)]
 mod numbers;
 #[cfg(test)]
+mod resizes;
+#[cfg(test)]
 mod sizes;
 #[cfg(test)]
 mod threads;
+#[cfg(test)]
+mod tickets;

@@ -1,9 +1,11 @@
 //! Heaps that live long in a small space.
 
-use crate::both::{Both, count};
+use crate::both::{Both, TIGHT};
 use crate::expectations::{Row, expect_each, expect_equal, expect_limit, expect_same_dump};
-use crate::numbers::Numbers;
-use rh_core::Config;
+use crate::numbers::{Numbers, count};
+use crate::tickets::Tickets;
+use refusing::RefusingAllocator;
+use rh_core::{Config, Heap};
 use rh_layout::{Command, Refusal, Reply};
 use rh_model::{CommandError, Plain};
 use rh_pace::{Pace, PacedHeap};
@@ -14,10 +16,12 @@ use std::process::Abort;
 const MANY: usize = 400_000;
 
 /// A heap whose collector does anything at any moment, gives what nobody dealt, loses pieces,
-/// recalls and abandons: each answer is that of the heap that never moves, or the definition's.
+/// recalls, abandons, resizes and watches: each answer is that of the heap that never moves, or the
+/// definition's.
 #[test]
 fn a_heap_through_a_thousand_cycles(rt: HostRuntime) {
-    let mut both = Both::new(&rt, rt.alloc());
+    let heap = Heap::new(rt.alloc(), TIGHT).ok().expect(&rt, "a heap");
+    let mut both = Both::new(&rt, rt.alloc(), heap);
     let mut numbers = Numbers { state: 1 };
     for row in 0..MANY {
         let rt = Row { rt: &rt, row };
@@ -44,6 +48,65 @@ fn a_heap_through_a_thousand_cycles(rt: HostRuntime) {
     expect_each(&rt, &[counts.logs_full], 40);
     expect_each(&rt, &[counts.recalls, counts.abandons, counts.idles], 300);
     expect_each(&rt, &[counts.lost, counts.mended], 50);
+    let resizes = &counts.resizes;
+    expect_each(&rt, &resizes.accepted, 100);
+    expect_each(&rt, &resizes.refused, 20);
+    expect_each(&rt, &resizes.releases, 100);
+    expect_equal(&rt, resizes.out_of_memory, [0, 0]);
+    expect_tickets(&rt, &both.tickets);
+    both.settle(&rt);
+}
+
+/// Ends the test unless all that comes about of tickets did so, often enough.
+fn expect_tickets(rt: &impl Abort, tickets: &Tickets) {
+    expect_each(rt, &tickets.watches, 100);
+    expect_each(rt, &tickets.unwatched, 100);
+    let [made, fewer, many, refused] = tickets.rooms;
+    expect_each(rt, &[made, fewer, many], 10);
+    expect_equal(rt, refused, 0);
+    expect_each(rt, &tickets.followed, 100);
+    expect_each(rt, &[tickets.told], 1000);
+}
+
+/// More allocations than a new heap asks for, and about as many as one of `FEW` events does.
+const ASKED: usize = 16;
+
+/// The events of a short life.
+const FEW: usize = 400;
+
+/// A short life of a heap to which one allocation is refused. Answers how many resizes, releases
+/// and calls for tickets this was; the heap isn't there where it was none of these.
+fn refused_in_a_life(rt: &impl Abort, memory: Global, nth: usize, seed: u64) -> [u64; 3] {
+    let refusing = RefusingAllocator::new(memory, nth as u64);
+    let Ok(heap) = Heap::new(&refusing, TIGHT) else {
+        return [0, 0, 0];
+    };
+    let mut both = Both::new(rt, memory, heap);
+    let mut numbers = Numbers { state: seed };
+    for row in 0..FEW {
+        both.live(&Row { rt, row }, &mut numbers);
+    }
+    both.settle(rt);
+    let [resizes, releases] = both.counts.resizes.out_of_memory;
+    let rooms = both.tickets.rooms[3];
+    let told = resizes.saturating_add(releases).saturating_add(rooms);
+    expect_equal(rt, told, refusing.has_refused().into());
+    [resizes, releases, rooms]
+}
+
+/// Memory is refused to one resize or release of a heap, or to room for tickets, at any moment of
+/// its life: nothing has changed then, and it lives on.
+#[test]
+fn heaps_to_which_a_growth_is_refused(rt: HostRuntime) {
+    let (mut resizes, mut releases, mut rooms): (u64, u64, u64) = (0, 0, 0);
+    for row in 0..200usize {
+        let rt = Row { rt: &rt, row };
+        let refused = refused_in_a_life(&rt, rt.alloc(), 1 + row % ASKED, row as u64);
+        resizes = resizes.saturating_add(refused[0]);
+        releases = releases.saturating_add(refused[1]);
+        rooms = rooms.saturating_add(refused[2]);
+    }
+    expect_each(&rt, &[resizes, releases, rooms], 20);
 }
 
 /// The sizes of a heap whose limits are met now and then.

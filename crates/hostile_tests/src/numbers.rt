@@ -93,6 +93,39 @@ impl Numbers {
         }
     }
 
+    /// The words of a space, for a heap that uses so many: few to many, and more than one may have.
+    pub fn words(&mut self, used: u32) -> u32 {
+        match self.below(8) {
+            0 => self.below(8),
+            1 => 16_777_217 + self.below(2),
+            2 => used.saturating_sub(1 + self.below(3)),
+            3 => used,
+            _ => 8 + self.below(150),
+        }
+    }
+
+    /// The most entries of a log that keeps so many: none to a few, and more than one may have.
+    pub fn limit(&mut self, kept: u32) -> u32 {
+        match self.below(8) {
+            0 => 0,
+            1 => 1_048_577 + self.below(2),
+            2 | 3 => kept.saturating_sub(1).max(1),
+            _ => 1 + self.below(5),
+        }
+    }
+
+    /// How many tickets there is to be room for, where there is room for so many: more of them
+    /// seldom, once there are a few.
+    pub fn tickets(&mut self, now: u32) -> u32 {
+        match self.below(8) {
+            0 => 65_537 + self.below(2),
+            1 => now,
+            2 => now.saturating_sub(1 + self.below(2)),
+            _ if now < 4 || self.below(100) == 0 => now.saturating_add(1 + self.below(2)),
+            _ => now,
+        }
+    }
+
     /// An address inside a space of so many words, at its end or past it.
     pub fn address(&mut self, words: u32) -> u32
         requires { 1 ≤ words }
@@ -125,5 +158,17 @@ impl Numbers {
             2 => Value::Int(self.below(100).into()),
             _ => Value::Ref(self.address(words)),
         }
+    }
+}
+
+/// One more.
+pub fn count(number: &mut u64) {
+    *number = number.saturating_add(1);
+}
+
+/// One more at this place, where there is one.
+pub fn count_at(numbers: &mut [u64], place: usize) {
+    if let Some(number) = numbers.get_mut(place) {
+        count(number);
     }
 }
