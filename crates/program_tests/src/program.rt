@@ -4,4 +4,5 @@ mod command_line;
 mod driving;
 mod failing;
 mod faults;
+mod growing;
 mod terminal;

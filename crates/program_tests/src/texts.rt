@@ -86,6 +86,16 @@ pub const RESIZED_ANSWERS: &[u8] =
     b"object 2\nwords 16\nwords 8\nwords 4096\nrefused BadSpace\nobject 4000\n\
         refused Used 4006\ntotal commands 2 refused 0 flips 0 rootwords 0\n";
 
+/// Tickets for an object that goes, told by one line, and room that is refused.
+pub const WATCHED: &[u8] =
+    b"heap 64 8 8 2 3\n1 alloc 1.0 0\ntickets 3\n1 watch 1.0\n1 watch 1.0\n1 drop 1.0\nbegin\n\
+        flip\ngone\ngone\ntickets 2\ntickets 65537\nunwatch 0\n1 watch 1.0\n";
+
+pub const WATCHED_ANSWERS: &[u8] =
+    b"object 0\ntickets 3\nticket 0\nticket 1\ndone\ncycle 1\nflipped roots 0 live 0\ngone 0 1\n\
+        gone none\nrefused Fewer 3\nrefused TooMany\nunwatched no\nrefused NotObject\n\
+        total commands 2 refused 0 flips 1 rootwords 0\n";
+
 /// A tray of 65 entries, for which credit is short too.
 pub const TOO_MANY: &[u8] =
     b"heap 1024 56 8 2 2\n1 alloc 1.0 65\nbegin\n1 alloc 1.1 5\nshade 1.0\ndeal copies 64 a\n\

@@ -182,6 +182,83 @@ const PACED: &[(&[&[u8]], u8, &[u8], &[u8])] = &[
     ),
 ];
 
+/// What is told of the most words of a heap that can't be taken.
+const GROW_FAULT: &[u8] =
+    b"rheap: --grow needs --paced, no --mark, and a number of words, 0 to 4294967295\n";
+
+/// What the options of a growing run come to: one that is played, limits for which there is no
+/// heap, and options that can't be taken.
+const GROWING: &[(&[&[u8]], u8, &[u8], &[u8])] = &[
+    (
+        &[b"rheap", b"run", b"--grow", b"16", b"--paced", b"-"],
+        0,
+        WITHOUT_FIELDS_ANSWERS,
+        b"",
+    ),
+    (
+        &[b"rheap", b"run", b"-", b"--paced", b"--grow=4294967295"],
+        1,
+        b"",
+        b"rheap: grow: BadLimits\n",
+    ),
+    (
+        &[b"rheap", b"run", b"-", b"--grow", b"16"],
+        2,
+        b"",
+        GROW_FAULT,
+    ),
+    (
+        &[
+            b"rheap",
+            b"run",
+            b"-",
+            b"--paced",
+            b"--mark=3",
+            b"--grow=16",
+        ],
+        2,
+        b"",
+        GROW_FAULT,
+    ),
+    (
+        &[b"rheap", b"run", b"-", b"--paced", b"--grow", b"016"],
+        2,
+        b"",
+        GROW_FAULT,
+    ),
+    (
+        &[b"rheap", b"run", b"-", b"--paced", b"--grow=4294967296"],
+        2,
+        b"",
+        GROW_FAULT,
+    ),
+    (
+        &[b"rheap", b"run", b"-", b"--paced", b"--grow"],
+        2,
+        b"",
+        b"error: ",
+    ),
+    (
+        &[
+            b"rheap",
+            b"run",
+            b"-",
+            b"--paced",
+            b"--grow=16",
+            b"--grow=16",
+        ],
+        2,
+        b"",
+        b"error: ",
+    ),
+    (
+        &[b"rheap", b"threads", b"-", b"--grow", b"16"],
+        2,
+        b"",
+        b"error: unexpected",
+    ),
+];
+
 /// What is told of a number of replicators, and of idle words, that can't be taken.
 const REPLICATORS_FAULT: &[u8] = b"rheap: --replicators needs a number of replicators, 0 to 8\n";
 
@@ -251,6 +328,9 @@ fn calls_of_the_program(rt: HostRuntime) {
     for (row, call) in PACED.iter().enumerate() {
         expect_played(&Row { rt: &rt, row }, &rt, false, call);
     }
+    for (row, call) in GROWING.iter().enumerate() {
+        expect_played(&Row { rt: &rt, row }, &rt, false, call);
+    }
     for (row, call) in THREADS.iter().enumerate() {
         expect_played(&Row { rt: &rt, row }, &rt, false, call);
     }
@@ -261,7 +341,7 @@ fn calls_of_the_program(rt: HostRuntime) {
 
 #[test]
 fn faults_before_a_run_are_told(rt: HostRuntime) {
-    let table: [(LineFault, u8, &[u8]); 7] = [
+    let table: [(LineFault, u8, &[u8]); 8] = [
         (LineFault::Open, 1, b"rheap: open failed\n"),
         (
             LineFault::NoText,
@@ -270,6 +350,7 @@ fn faults_before_a_run_are_told(rt: HostRuntime) {
         ),
         (LineFault::Incomplete, 2, b"rheap: no command and file\n"),
         (LineFault::Mark, 2, MARK_FAULT),
+        (LineFault::Grow, 2, GROW_FAULT),
         (LineFault::Replicators, 2, REPLICATORS_FAULT),
         (LineFault::Idle, 2, IDLE_FAULT),
         (LineFault::HistoryDiffers, 4, b"rheap: history differs\n"),

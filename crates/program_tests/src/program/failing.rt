@@ -20,10 +20,15 @@ use std::sync::Wait;
 use std::test::Fail;
 use std::thread::Threads;
 
-/// A paced run at a mark, and runs in threads beside no replicators and beside the most, with the
-/// most idle words.
+/// A paced run at a mark, a growing run in the words that it begins with, and runs in threads
+/// beside no replicators and beside the most, with the most idle words.
 const MARKED: Ask<'static> = Ask {
     subcommand: Subcommand::RunPaced { mark: Some(20) },
+    file: "-",
+};
+
+const GROWING: Ask<'static> = Ask {
+    subcommand: Subcommand::RunGrowing { at_most: 29 },
     file: "-",
 };
 
@@ -43,9 +48,9 @@ const CROWDED: Ask<'static> = Ask {
     file: "-",
 };
 
-/// The answers of a paced run of the two flips' trace at that mark, where cycles begin earlier, so
-/// that there are three.
-const MARKED_ANSWERS: &[u8] =
+/// The answers of a paced run of the two flips' trace at that mark, and of that growing run. Cycles
+/// begin earlier there, so that there are three.
+const EARLIER_ANSWERS: &[u8] =
     b"object 2\nobject 2\nobject 2\nobject 2\nobject 2\nobject 2\nobject 2\nobject 2\n\
         object 2\nobject 2\nobject 2\ntotal commands 11 refused 0 flips 3 rootwords 3\n";
 
@@ -61,7 +66,8 @@ const PLAYED: &[(Ask<'static>, &[u8], u8, &[u8])] = &[
     (RUN, WHOLE_CYCLE, 0, WHOLE_CYCLE_ANSWERS),
     (RUN, JOINED, 0, JOINED_ANSWERS),
     (PACED, TWO_FLIPS, 0, TWO_FLIPS_ANSWERS),
-    (MARKED, TWO_FLIPS, 0, MARKED_ANSWERS),
+    (MARKED, TWO_FLIPS, 0, EARLIER_ANSWERS),
+    (GROWING, TWO_FLIPS, 0, EARLIER_ANSWERS),
     (THREADS, STORED, 0, STORED_HISTORY),
     (ALONE, STORED, 0, STORED_HISTORY),
     (CROWDED, STORED, 0, STORED_HISTORY),
@@ -152,7 +158,7 @@ fn devices_that_fail(rt: HostRuntime) {
         expect_bytes(&rt, &err, b"rheap: write failed\n");
         failed = failed.saturating_add(1);
     }
-    expect_equal(&rt, failed, 12);
+    expect_equal(&rt, failed, 13);
 }
 
 /// The first eight reads of a text that comes a byte a time, and the two after its last byte.
@@ -176,7 +182,7 @@ fn first_and_last_reads_fail(rt: HostRuntime) {
             failed = failed.saturating_add(1);
         }
     }
-    expect_equal(&rt, failed, 120);
+    expect_equal(&rt, failed, 130);
 }
 
 /// What is asked, of which text, what is wrong with it where it is cut: before its first byte,
@@ -184,6 +190,7 @@ fn first_and_last_reads_fail(rt: HostRuntime) {
 const CUT: &[(Ask<'static>, &[u8], [&str; 3], &[u8])] = &[
     (RUN, WHOLE_CYCLE, ["Empty", "Cut", ""], WHOLE_CYCLE_ANSWERS),
     (PACED, TWO_FLIPS, ["Empty", "Cut", ""], TWO_FLIPS_ANSWERS),
+    (GROWING, TWO_FLIPS, ["Empty", "Cut", ""], EARLIER_ANSWERS),
     (THREADS, STORED, ["Empty", "Cut", ""], STORED_HISTORY),
     (REPLAY, RIGHT, ["Empty", "Cut", "End"], b""),
     (DUMP, ITSELF, ["End", "End", "End"], b""),
@@ -282,6 +289,11 @@ const FAULTY: &[(Ask<'static>, &[u8], &[u8])] = &[
         b"rheap: pace: TooSmall need 29\n",
     ),
     (
+        GROWING,
+        b"heap 30 8 8 2 2\n1 alloc 1.0 2\n",
+        b"rheap: grow: BadLimits\n",
+    ),
+    (
         THREADS,
         b"heap 64 8 8 2 2\n1 drop 1.0\n2 drop 1.0\n",
         b"rheap: line 3: Root\n",
@@ -311,7 +323,7 @@ fn each_allocation_is_refused(rt: HostRuntime) {
         refuse(&rt, &(ask, text, 1, b""), told, 1);
         refused = refused.saturating_add(1);
     }
-    expect_equal(&rt, refused, 19);
+    expect_equal(&rt, refused, 21);
 }
 
 /// Sizes around those at which vectors grow.

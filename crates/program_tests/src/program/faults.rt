@@ -147,6 +147,22 @@ const LINES: &[(&[u8], u32, &str)] = &[
     (b"1 store 1 x 1.\n", 2, "Root"),
 ];
 
+/// Faulty lines of tickets.
+const TICKET_LINES: &[(&[u8], u32, &str)] = &[
+    (b"tickets x\n", 2, "Number"),
+    (b"tickets\n", 2, "Form"),
+    (b"1 tickets 2\n", 2, "Word"),
+    (b"watch 1.0\n", 2, "Word"),
+    (b"1 watch\n", 2, "Form"),
+    (b"1 watch 1.0 2\n", 2, "Form"),
+    (b"1x watch 10\n", 2, "Number"),
+    (b"1 watch 10\n", 2, "Root"),
+    (b"unwatch -1\n", 2, "Number"),
+    (b"1 unwatch 0\n", 2, "Word"),
+    (b"gone 0\n", 2, "Form"),
+    (b"1 gone\n", 2, "Word"),
+];
+
 /// The same of texts that are no histories.
 const HISTORIES: &[(&[u8], u32, &str)] = &[
     (b"", 1, "Empty"),
@@ -297,6 +313,11 @@ fn first_faults(rt: HostRuntime) -> Result<(), Fail> {
 }
 
 #[test]
+fn first_faults_of_tickets(rt: HostRuntime) -> Result<(), Fail> {
+    expect_faults(&rt, &RUN, b"heap 16 8 4 2 2\n", TICKET_LINES)
+}
+
+#[test]
 fn first_faults_of_dumps(rt: HostRuntime) -> Result<(), Fail> {
     expect_faults(&rt, &DUMP, b"", HEADERS)?;
     for (row, &(version, raw)) in VERSIONS.iter().enumerate() {
@@ -315,8 +336,22 @@ const MARKED: Ask<'static> = Ask {
     file: "-",
 };
 
+/// Runs that grow to at most so many words, which is more than a heap can have.
+const GROWING: Ask<'static> = Ask {
+    subcommand: Subcommand::RunGrowing { at_most: 1_000 },
+    file: "-",
+};
+
+const BOUNDLESS: Ask<'static> = Ask {
+    subcommand: Subcommand::RunGrowing {
+        at_most: 16_777_217,
+    },
+    file: "-",
+};
+
 /// Runs that can't be made, each with why: by the first line; and where a pace is asked for by the
-/// first fault of the text, then the heap's, and last the pace's, which asks for 29 words.
+/// first fault of the text, then the heap's, then that of a growth, and last the pace's, which asks
+/// for 29 words, or for 17.
 const NOT_RUN: &[(Ask<'static>, &[u8], &[u8])] = &[
     (RUN, b"heap 7 0 0 0 0\n", b"rheap: heap: BadSpace\n"),
     (RUN, b"heap 16 0 4 2 2\n", b"rheap: heap: BadRatio\n"),
@@ -329,6 +364,22 @@ const NOT_RUN: &[(Ask<'static>, &[u8], &[u8])] = &[
         b"rheap: line 3: Word\n",
     ),
     (MARKED, b"heap 29 8 8 2 2\nstat\n", b"rheap: line 2: Word\n"),
+    (
+        MARKED,
+        b"heap 29 8 8 2 2\n1 watch 1.0\n",
+        b"rheap: line 2: Word\n",
+    ),
+    (
+        PACED,
+        b"heap 64 8 8 2 2\n1 drop 1.0\ntickets 1\n",
+        b"rheap: line 3: Word\n",
+    ),
+    (PACED, b"heap 64 8 8 2 2\ngone\n", b"rheap: line 2: Word\n"),
+    (
+        PACED,
+        b"heap 64 8 8 2 2\nunwatch 0\n",
+        b"rheap: line 2: Word\n",
+    ),
     (
         PACED,
         b"heap 29 8 8 2 2\nstat\n1\n",
@@ -345,6 +396,25 @@ const NOT_RUN: &[(Ask<'static>, &[u8], &[u8])] = &[
         b"heap 28 8 8 2 2\n1 alloc 1.0 2\n",
         b"rheap: pace: TooSmall need 29\n",
     ),
+    (
+        GROWING,
+        b"heap 7 3 0 2 2\n1 alloc 1.0 2\nbegin\nflip\n",
+        b"rheap: line 3: Word\n",
+    ),
+    (GROWING, b"heap 1001 0 8 2 2\n", b"rheap: heap: BadRatio\n"),
+    (GROWING, b"heap 64 8 0 2 2\n", b"rheap: heap: BadLog\n"),
+    (GROWING, b"heap 1001 3 8 2 2\n", b"rheap: grow: BadLimits\n"),
+    (BOUNDLESS, b"heap 64 8 8 2 2\n", b"rheap: grow: BadLimits\n"),
+    (
+        GROWING,
+        b"heap 1000 3 8 2 2\n",
+        b"rheap: pace: RatioTooLow\n",
+    ),
+    (
+        GROWING,
+        b"heap 16 8 8 2 2\n1 alloc 1.0 4\n",
+        b"rheap: pace: TooSmall need 17\n",
+    ),
 ];
 
 #[test]
@@ -355,7 +425,7 @@ fn runs_that_cannot_be_made(rt: HostRuntime) {
         drives_to(&rt, &ask, text, 1, b"", told);
         tried = tried.saturating_add(1);
     }
-    expect_equal(&rt, tried, 11);
+    expect_equal(&rt, tried, 22);
 }
 
 /// What a text begins with, the byte that follows, how often it does, the end, and what is told.
@@ -436,6 +506,7 @@ const PACED_FAULTS: &[(PacedFault, &str)] = &[
         PacedFault::Pace(PaceError::TooSmall { need: 29 }),
         "pace: TooSmall need 29",
     ),
+    (PacedFault::Limits, "grow: BadLimits"),
     (PacedFault::Write, "write failed"),
     (PacedFault::OutOfMemory, "out of memory"),
 ];

@@ -4,7 +4,7 @@ use crate::devices::SlowWriter;
 use crate::expectations::{Row, expect_bytes, expect_equal, expect_prefix};
 use crate::texts::{
     DUMPS, FOUR_CYCLES, JOINED, LARGE_TRAYS, LONG_HEADER, LONG_LINE, RAW_OBJECT, TOO_MANY,
-    TWO_EPOCHS, WHOLE_CYCLE, WITHOUT_FIELDS, repeated,
+    TWO_EPOCHS, WATCHED, WHOLE_CYCLE, WITHOUT_FIELDS, repeated,
 };
 use rh_trace::{Kind, Line, ParseError, Request, Trace, TraceFault, Write, parse, print};
 use std::process::Abort;
@@ -15,7 +15,8 @@ const KEYWORDS: &[u8] =
     b"heap 16 8 4 2 2\n1 alloc 1.0 2\n1 raw 1.1 3\n1 load 1.1 1.0 0\n1 store 1.0 0 5\n1 copy 1.1 0.0\n\
         1 same 1.0 1.1\n1 drop 1.0\nbegin\nshade 1.0\ndeal copies 4294967295 t\n\
         deal entries 0 a_2z9\ngive abcdefghijklmnop\njoin t a_2z9\nflip\nrecall\nabandon\n\
-        idle 4294967295\nresize 4294967295\ntrays\nstat\ndump\n";
+        idle 4294967295\nresize 4294967295\ntickets 4294967295\n1 watch 1.0\n\
+        unwatch 4294967295\ngone\ntrays\nstat\ndump\n";
 
 /// Stores of each kind of operand, and lines of the greatest numbers.
 const OPERANDS: &[u8] =
@@ -56,6 +57,10 @@ const SHOWN: &[(&[u8], &str, &[&str])] = &[
             "Abandon",
             "Idle { words: 4294967295 }",
             "Resize { words: 4294967295 }",
+            "Tickets { tickets: 4294967295 }",
+            "Watch { owner: 1, root: RootId { owner: 1, slot: 0 } }",
+            "Unwatch { ticket: 4294967295 }",
+            "Gone",
             "Trays",
             "Stat",
             "Dump",
@@ -97,7 +102,7 @@ fn reads_each_keyword(rt: HostRuntime) {
             lines = lines.saturating_add(1);
         }
     }
-    expect_equal(&rt, lines, 27);
+    expect_equal(&rt, lines, 31);
     assert!(rt; size_of::<Line>() <= 40 && size_of::<Request>() <= 40);
 }
 
@@ -115,6 +120,7 @@ const PRINTED: &[&[u8]] = &[
     LARGE_TRAYS,
     TWO_EPOCHS,
     FOUR_CYCLES,
+    WATCHED,
 ];
 
 #[test]

@@ -5,9 +5,9 @@ use crate::expectations::{Row, expect_bytes, expect_equal, expect_prefix, expect
 use crate::texts::{
     DUMPS, DUMPS_ANSWERS, FOUR_CYCLES, FOUR_CYCLES_ANSWERS, JOINED, JOINED_ANSWERS, LARGE_TRAYS,
     LARGE_TRAYS_ANSWERS, LONG_ANSWER, LONG_HEADER, LONG_LINE, RAW_OBJECT, RAW_OBJECT_ANSWERS,
-    RESIZED, RESIZED_ANSWERS, TOO_MANY, TOO_MANY_ANSWERS, TWO_EPOCHS, TWO_EPOCHS_ANSWERS,
-    WHOLE_CYCLE, WHOLE_CYCLE_ANSWERS, WITHOUT_FIELDS, WITHOUT_FIELDS_ANSWERS, add_numbered,
-    repeated, without_last_line,
+    RESIZED, RESIZED_ANSWERS, TOO_MANY, TOO_MANY_ANSWERS, TWO_EPOCHS, TWO_EPOCHS_ANSWERS, WATCHED,
+    WATCHED_ANSWERS, WHOLE_CYCLE, WHOLE_CYCLE_ANSWERS, WITHOUT_FIELDS, WITHOUT_FIELDS_ANSWERS,
+    add_numbered, repeated, without_last_line,
 };
 use refusing::refused_in_turn;
 use rh_trace::{RunFault, Summary, run_trace};
@@ -49,6 +49,7 @@ const RUNS: &[(&[u8], &[u8], u32)] = &[
     (TWO_EPOCHS, TWO_EPOCHS_ANSWERS, 23),
     (FOUR_CYCLES, FOUR_CYCLES_ANSWERS, 85),
     (TOO_MANY, TOO_MANY_ANSWERS, 9),
+    (WATCHED, WATCHED_ANSWERS, 14),
 ];
 
 #[test]
@@ -80,6 +81,20 @@ fn a_hundred_cycles(rt: HostRuntime) -> Result<(), Fail> {
     )?;
     answers.extend_from_slice(b"total commands 0 refused 0 flips 100 rootwords 0\n")?;
     expect_equal(&rt, expect_run(&rt, (&text, &answers), 1000), 201);
+    Ok(())
+}
+
+#[test]
+fn many_tickets_are_told_in_one_write(rt: HostRuntime) -> Result<(), Fail> {
+    let first = b"heap 16 8 4 2 2\n1 alloc 1.0 0\ntickets 65536\n";
+    let mut text = repeated(&rt, first, b"1 watch 1.0\n", 65_536)?;
+    text.extend_from_slice(b"1 watch 1.0\n1 drop 1.0\nbegin\nflip\ngone\ngone\n")?;
+    let mut answers = repeated(&rt, b"object 0\ntickets 65536\n", b"ticket 0\n", 1)?;
+    add_numbered(&rt, &mut answers, 65_535, ("ticket ", "\n"))?;
+    answers.extend_from_slice(b"refused Full\ndone\ncycle 1\nflipped roots 0 live 0\ngone 0")?;
+    add_numbered(&rt, &mut answers, 65_535, (" ", ""))?;
+    answers.extend_from_slice(b"\ngone none\ntotal commands 2 refused 0 flips 1 rootwords 0\n")?;
+    expect_equal(&rt, expect_run(&rt, (&text, &answers), 1_000_000), 65_545);
     Ok(())
 }
 
@@ -214,9 +229,10 @@ fn refused_memory(rt: HostRuntime) -> Result<(), Fail> {
     Ok(())
 }
 
-/// Traces that use trays, and one whose spaces get other sizes, with their answers, how many
-/// refusals there are at least, and the numbers of writes before them: none, or those before a join,
-/// before a deal for which the tray has no room, or before a space that was never so large.
+/// Traces that use trays, one whose spaces get other sizes, and one that watches objects, with their
+/// answers, how many refusals there are at least, and the numbers of writes before them: none, or
+/// those before a join, before a deal for which the tray has no room, before a space that was never
+/// so large, before room for tickets, or before a line that tells them.
 const TRAYS: &[(&[u8], &[u8], u64, u32)] = &[
     (JOINED, JOINED_ANSWERS, 20, 0b1_1110_1010_0001),
     (TWO_EPOCHS, TWO_EPOCHS_ANSWERS, 18, 0b1111_0000_0010_0001),
@@ -227,6 +243,7 @@ const TRAYS: &[(&[u8], &[u8], u64, u32)] = &[
         0b11_1100_1011_1101_1100_0001,
     ),
     (RESIZED, RESIZED_ANSWERS, 8, 0b1001),
+    (WATCHED, WATCHED_ANSWERS, 8, 0b1_1000_0011),
 ];
 
 #[test]
