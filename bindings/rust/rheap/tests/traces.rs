@@ -6,14 +6,20 @@ use std::fs;
 use std::num::NonZeroU32;
 use std::path::{Path, PathBuf};
 
-/// The traces of the examples.
+/// The traces of the examples, but those that ask for a heap that grows: no call runs these.
 fn traces() -> Vec<PathBuf> {
     let folder = Path::new(env!("CARGO_MANIFEST_DIR")).join("../../../examples");
     let files = fs::read_dir(&folder).unwrap_or_else(|e| panic!("{}: {e}", folder.display()));
     let paths = files.map(|file| file.expect("a file has a path").path());
     paths
         .filter(|path| path.extension().is_some_and(|end| end == "trace"))
+        .filter(|path| !options_of(path).is_some_and(|options| options.contains("--grow")))
         .collect()
+}
+
+/// The options of a trace, if it has any.
+fn options_of(path: &Path) -> Option<String> {
+    fs::read_to_string(path.with_extension("options")).ok()
 }
 
 /// The mark that the options of a run name, which are those of a paced one.
@@ -31,9 +37,9 @@ fn the_examples_are_answered_as_the_program_does() {
     let (mut done, mut paced, mut faults) = (0, 0, 0);
     for path in traces() {
         let trace = fs::read(&path).expect("the trace is there");
-        let got = match fs::read_to_string(path.with_extension("options")) {
-            Err(_) => run(&trace),
-            Ok(options) => {
+        let got = match options_of(&path) {
+            None => run(&trace),
+            Some(options) => {
                 paced += 1;
                 run_paced(&trace, mark_of(options.trim()))
             }
