@@ -4,4 +4,5 @@ mod RefusalOrder
 mod ReachedLeast
 mod CommandEffects
 mod StaysWellFormed
+mod StaysUnreached
 mod Stored

@@ -166,6 +166,18 @@ pub fn plain_heaps_stay_well_formed()
         → IsWellFormedPlain (step p owner command).0 }
 {}
 
+/// An object that the roots don't reach stays so: no command of any owner reaches it again
+/// (`unreached`), and its name stays an object's (`object`). So however many commands follow, what
+/// is once out of reach never comes back.
+pub fn what_is_not_reached_stays_so()
+    ensures object { (p : PlainHeap) → IsWellFormedPlain p → (owner : ℕ) (command : Command)
+        → (name : ℕ) → IsObject (graph_of p) name
+        → IsObject (graph_of (step p owner command).0) name }
+    ensures unreached { (p : PlainHeap) → IsWellFormedPlain p → (owner : ℕ) (command : Command)
+        → (name : ℕ) → IsObject (graph_of p) name → ¬ Reached (graph_of p) name
+        → ¬ Reached (graph_of (step p owner command).0) name }
+{}
+
 /// An accepted `Alloc` makes an object that was none before and that nothing referred to, of the
 /// number of fields asked for, all nil; the root names it, and all else stays.
 pub fn alloc_makes_an_object()
