@@ -1,5 +1,5 @@
 -- What an answer of a shared heap says before the heap is closed.
-use Rattle.std.specs.Prelude.{◌≡◌, ℕ, ◌≤◌, Bool, true, false, length, Result, Ok, Err, IsOk}
+use Rattle.std.specs.Prelude.{◌≡◌, ◌↔◌, ℕ, ◌<◌, ◌≤◌, Bool, true, false, length, Result, Ok, Err, IsOk}
 use Rattle.rh_layout.specs.Refusal.{is_limit}
 use Rattle.rh_layout.specs.declared.command.Command.{Command}
 use Rattle.rh_layout.specs.declared.command.Reply.{Reply}
@@ -7,6 +7,8 @@ use Rattle.rh_layout.specs.declared.refusal.Refusal.{Refusal}
 use Rattle.rh_model.specs.Plain.{step}
 use Rattle.rh_mutator.specs.Commands.{LimitHolds}
 use Rattle.rh_mutator.specs.Mutator.{IsMutator, MutatorState, StandsFor}
+use Rattle.rh_watches.specs.declared.errors.RoomError.{RoomError}
+use Rattle.rh_watches.specs.declared.errors.RoomError.TheVariants.{Fewer}
 use Rattle.rh_core.specs.Heap.{HeapState, IsWellFormed}
 use Rattle.rh_replay.specs.History.{HistoryState}
 use Rattle.rh_replay.specs.Legal.{IsLegal, replay}
@@ -52,6 +54,17 @@ pub record TellsUnderLock (A : Type 0) {X : Type 0} (tells : HeapState → X) (t
   pub held : KeptState A
   pub under : IsUnderLock held
   pub same : told ≡ tells held.collector.heap
+
+-- The heap of something that may lie under the lock answers so where room for so many tickets in all
+-- is asked for: it refuses fewer than it has room for, with for how many, and never as many.
+pub record MakesRoomUnderLock (A : Type 0) (tickets : ℕ) (answer : Result (Unit {0}) RoomError)
+    : Type 0 where
+  pub held : KeptState A
+  pub under : IsUnderLock held
+  pub fewer : (n : ℕ) → (answer ≡ Err (Fewer n))
+      ↔ ((tickets < length held.collector.heap.watches.tickets)
+      × (n ≡ length held.collector.heap.watches.tickets))
+  pub same : tickets ≡ length held.collector.heap.watches.tickets → answer ≡ Ok tt
 
 -- a refusal after a history is the plain heap's; one for a limit refuses what the plain heap
 -- accepts, and the heap is at that limit
