@@ -4,7 +4,7 @@ ghost use Rattle.std.specs.Prelude.{◌≡◌};
 ghost use Rattle.rh_heap.specs.declared.error.Error.TheVariants as errors;
 ghost use Rattle.rh_heap.specs.Error.{error_of_growing, error_of_sizes, out_of_memory};
 
-use rh_core::{HeapError, RoomError, WatchError};
+use rh_core::{HeapError, ReleaseError, ResizeError, RoomError, WatchError};
 use rh_growing::GrowingError;
 use rh_layout::{OutOfMemory, Refusal};
 use rh_pace::{EpochsSpent, PaceError, SizesError};
@@ -32,6 +32,12 @@ pub enum Error {
     /// Nothing was collected, since no epoch is left.
     #[error("nothing collected: {0}")]
     EpochsSpent(EpochsSpent),
+    /// The heap has no other sizes.
+    #[error("not resized: {0}")]
+    Resize(ResizeError),
+    /// No memory was given back.
+    #[error("not released: {0}")]
+    Release(ReleaseError),
     /// There is no room for so many tickets.
     #[error("no tickets: {0}")]
     Room(RoomError),
@@ -39,7 +45,7 @@ pub enum Error {
     #[error("not watched: {0}")]
     Watch(WatchError),
     /// Memory was refused for the answers to a list of commands, or for a collection of the
-    /// runtime's own; not for the heap itself, which is `Heap`.
+    /// runtime's own; not for the heap itself, of which `Heap`, `Resize`, `Release` and `Room` tell.
     #[error("{0}")]
     OutOfMemory(OutOfMemory),
 }
@@ -97,6 +103,22 @@ impl From<EpochsSpent> for Error {
 
     fn from(why: EpochsSpent) -> Error {
         Error::EpochsSpent(why)
+    }
+}
+
+impl From<ResizeError> for Error {
+    ghost from_gives = { λ why error. error ≡ errors.Resize why };
+
+    fn from(why: ResizeError) -> Error {
+        Error::Resize(why)
+    }
+}
+
+impl From<ReleaseError> for Error {
+    ghost from_gives = { λ why error. error ≡ errors.Release why };
+
+    fn from(why: ReleaseError) -> Error {
+        Error::Release(why)
     }
 }
 

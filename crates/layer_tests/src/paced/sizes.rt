@@ -6,7 +6,8 @@ use crate::expectations::{Row, expect_equal, expect_texts};
 use refusing::refused_in_turn;
 use rh_heap::{
     ConfigFault, EpochsSpent, Error, GrowingError, HeapError, Operand, OutOfMemory, PaceError,
-    PacedHeap, Refusal, Reply, RoomError, RootId, Sizes, SizesError, Value, WatchError,
+    PacedHeap, Refusal, ReleaseError, Reply, ResizeError, RoomError, RootId, Sizes, SizesError,
+    Value, WatchError,
 };
 
 const A: RootId = RootId { owner: 1, slot: 0 };
@@ -143,6 +144,8 @@ fn errors_of_a_runtime(rt: HostRuntime) {
             (Error::from(PaceError::RatioTooLow), "no pace: RatioTooLow"),
             (Error::from(Refusal::NoField), "refused: NoField"),
             (Error::from(EpochsSpent), "nothing collected: EpochsSpent"),
+            (Error::from(ResizeError::Used(9)), "not resized: Used 9"),
+            (Error::from(ReleaseError::CycleOn), "not released: CycleOn"),
             (
                 Error::from(RoomError::Fewer { now: 2 }),
                 "no tickets: Fewer 2",
