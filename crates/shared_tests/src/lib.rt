@@ -29,3 +29,5 @@ mod starts;
 mod threads;
 #[cfg(test)]
 mod traces;
+#[cfg(test)]
+mod watching;
