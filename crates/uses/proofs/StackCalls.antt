@@ -18,13 +18,13 @@ use Rattle.rh_layout.specs.declared.refusal.Refusal.TheVariants.{IntRange, NotOb
 use Rattle.rh_model.specs.Effects.{FieldTakes, HoldsField, IsWellFormedPlain, LoadsField, MakesObject, RootTakes, StoresField, TellsValue}
 use Rattle.rh_model.specs.Graph.{Graph, reply_of, root_value}
 use Rattle.rh_model.specs.Plain.{PlainHeap, graph_of, step}
-use Rattle.rh_mutator.specs.Commands.{AnswersAs, ChangesRoots, is_limit_answer}
+use Rattle.rh_mutator.specs.Commands.{AnswersAs, ChangesRoots, LimitHolds, is_limit_answer}
 use Rattle.rh_mutator.specs.LoadingAll.{number_told}
 use Rattle.rh_mutator.specs.Mutator.{StandsFor}
 use Rattle.rh_pace.specs.Paced.{PacedState, paced_step}
 use Rattle.rh_growing.specs.Calls.{IsGrowingCall}
 use Rattle.rh_growing.specs.Growing.{GrowingState, growing_step}
-use Rattle.uses.specs.Stack.{AreStacked, IsStack, MayRefuse, first_of, rest_of, top_segment}
+use Rattle.uses.specs.Stack.{AreStacked, IsOfPush, IsStack, MayRefuse, first_of, rest_of, top_segment}
 use Rattle.uses.proofs.Stacks.{IsBegun, begun, begun-done, begun-on, begun-takes, filled-segment, first-field, full-top, last-there, new_segment, other-takes, plain-in-order, popped-one, popped-segment, stored-above}
 use Rattle.uses.proofs.Allowed.{field-read, nothing-read, number-stored, reading, segment-linked, segment-made, segment-stands}
 
@@ -326,38 +326,47 @@ abbrev refusal_or : Refusal → Result Reply Refusal → Refusal
 refusal_or other (Ok reply) = other
 refusal_or other (Err why) = why
 
-refused-or : (told : Result Reply Refusal) (why : Refusal) (n : ℤ) → AnswersAs (Err why) told → IsOk told ⊎ ((told ≡ Err IntRange) × ¬ IsWhole n) → MayRefuse n why
-refused-or told why n answers (inl ok) = inl (refused-by told why answers ok)
-refused-or told why n (inl (met, same)) (inr (range, none)) = inr (ap (refusal_or why) (same ∙ range), none)
-refused-or told why n (inr (limited, ok)) (inr (range, none)) = absurd (true≢false (sym ok ∙ ap is_ok range))
-
 module _ (given : Bool) (old new : GrowingState) (why : Refusal) (n : ℤ) (numbers : List ℤ) where
-  pub why-allocated : IsGrowingCall given old new 1 (Alloc new_segment 128) (Err why) → (top : ℕ) → IsStack old top numbers → MayRefuse n why
-  why-allocated call top stack =
-      inl (refused-by (step stack.plain 1 (Alloc new_segment 128)).1 why (call.transparent stack.plain stack.stands).0 (segment-made stack.plain stack.owners stack.slots))
+  -- A limit that refuses a command is met, and nothing has changed.
+  limit-met : (command : Command) → IsOfPush command → IsGrowingCall given old new 1 command (Err why) → IsTrue (is_limit why) → MayRefuse new n why
+  limit-met command of call is =
+      inl (command, of, subst (λ (s : GrowingState). LimitHolds s.paced.heap.mutators command why) (sym call.refused) (call.limit why refl is))
 
-  pub why-linked : IsGrowingCall given old new 1 (Store new_segment 0 (operands.Root top_segment)) (Err why) → IsOn old (Begun numbers) → MayRefuse n why
+  refused-or : (command : Command) → IsOfPush command → IsGrowingCall given old new 1 command (Err why) → (told : Result Reply Refusal) → AnswersAs (Err why) told → IsOk told ⊎ ((told ≡ Err IntRange) × ¬ IsWhole n)
+      → MayRefuse new n why
+  refused-or command of call told answers (inl ok) = limit-met command of call (refused-by told why answers ok)
+  refused-or command of call told (inl (met, same)) (inr (range, none)) = inr (ap (refusal_or why) (same ∙ range), none)
+  refused-or command of call told (inr (limited, ok)) (inr (range, none)) = absurd (true≢false (sym ok ∙ ap is_ok range))
+
+  pub why-allocated : IsGrowingCall given old new 1 (Alloc new_segment 128) (Err why) → (top : ℕ) → IsStack old top numbers → MayRefuse new n why
+  why-allocated call top stack =
+      limit-met (Alloc new_segment 128) refl call
+      (refused-by (step stack.plain 1 (Alloc new_segment 128)).1 why (call.transparent stack.plain stack.stands).0 (segment-made stack.plain stack.owners stack.slots))
+
+  pub why-linked : IsGrowingCall given old new 1 (Store new_segment 0 (operands.Root top_segment)) (Err why) → IsOn old (Begun numbers) → MayRefuse new n why
   why-linked call on =
       let b = on.holds.2 in
       let within : 0 < length b.count.0 = let count = b.count.2 in omega (arith, count) in
       let ok = segment-linked on.plain on.owners on.slots on.holds.0 0 b.count.0 b.count.1 within b.root b.kind in
-      inl (refused-by (step on.plain 1 (Store new_segment 0 (operands.Root top_segment))).1 why (call.transparent on.plain on.stands).0 ok)
+      limit-met (Store new_segment 0 (operands.Root top_segment)) tt call
+      (refused-by (step on.plain 1 (Store new_segment 0 (operands.Root top_segment))).1 why (call.transparent on.plain on.stands).0 ok)
 
-  pub why-filled : IsGrowingCall given old new 1 (Store new_segment 1 (operands.Int n)) (Err why) → IsOn old (Linked numbers) → MayRefuse n why
+  pub why-filled : IsGrowingCall given old new 1 (Store new_segment 1 (operands.Int n)) (Err why) → IsOn old (Linked numbers) → MayRefuse new n why
   why-filled call on =
       let b = on.holds.2 in
       let within : 1 < length b.count.0 = let count = b.count.2 in omega (arith, count) in
       let stored = number-stored on.plain on.owners on.slots on.holds.0 1 b.count.0 b.count.1 within new_segment refl refl b.root n in
-      refused-or (step on.plain 1 (Store new_segment 1 (operands.Int n))).1 why n (call.transparent on.plain on.stands).0 stored
+      refused-or (Store new_segment 1 (operands.Int n)) tt call (step on.plain 1 (Store new_segment 1 (operands.Int n))).1 (call.transparent on.plain on.stands).0 stored
 
-  pub why-stood : IsGrowingCall given old new 1 (Copy top_segment new_segment) (Err why) → IsOn old (Filled n numbers) → MayRefuse n why
+  pub why-stood : IsGrowingCall given old new 1 (Copy top_segment new_segment) (Err why) → IsOn old (Filled n numbers) → MayRefuse new n why
   why-stood call on =
-      inl (refused-by (step on.plain 1 (Copy top_segment new_segment)).1 why (call.transparent on.plain on.stands).0 (segment-stands on.plain on.owners on.slots))
+      limit-met (Copy top_segment new_segment) tt call
+      (refused-by (step on.plain 1 (Copy top_segment new_segment)).1 why (call.transparent on.plain on.stands).0 (segment-stands on.plain on.owners on.slots))
 
-  pub why-joined : (top : ℕ) → top < 127 → IsGrowingCall given old new 1 (Store top_segment (top + 1) (operands.Int n)) (Err why) → IsStack old top numbers → MayRefuse n why
+  pub why-joined : (top : ℕ) → top < 127 → IsGrowingCall given old new 1 (Store top_segment (top + 1) (operands.Int n)) (Err why) → IsStack old top numbers → MayRefuse new n why
   why-joined top low call stack =
       let segment = filled-segment (graph_of stack.plain) (root_value (graph_of stack.plain) top_segment) top numbers low stack.stacked in
       let count = segment.2 in
       let within : top + 1 < length count.0 = let long = count.2 in omega (arith, long, low) in
       let stored = number-stored stack.plain stack.owners stack.slots segment.0 (top + 1) count.0 count.1 within top_segment refl refl segment.1 n in
-      refused-or (step stack.plain 1 (Store top_segment (top + 1) (operands.Int n))).1 why n (call.transparent stack.plain stack.stands).0 stored
+      refused-or (Store top_segment (top + 1) (operands.Int n)) tt call (step stack.plain 1 (Store top_segment (top + 1) (operands.Int n))).1 (call.transparent stack.plain stack.stands).0 stored

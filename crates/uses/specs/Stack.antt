@@ -1,15 +1,17 @@
 -- A stack of numbers in segments, on the plain heap for which a heap that grows stands.
-use Rattle.std.specs.Prelude.{◌≡◌, ◌⊎◌, ◌-◌, ◌<◌, ℕ, ℤ, List, [], ◌∷◌, Option, Some, None, IsTrue}
-use Rattle.rh_layout.specs.Refusal.{is_limit}
+use Rattle.std.specs.Prelude.{◌≡◌, ◌⊎◌, ◌-◌, ◌<◌, ℕ, ℤ, List, [], ◌∷◌, Option, Some, None}
 use Rattle.rh_layout.specs.Word.{IsWhole}
 use Rattle.rh_layout.specs.declared.refusal.Refusal.{Refusal}
 use Rattle.rh_layout.specs.declared.refusal.Refusal.TheVariants.{IntRange}
 use Rattle.rh_layout.specs.declared.value.Value.{Value}
 use Rattle.rh_layout.specs.declared.value.Value.TheVariants.{Nil, Int, Ref}
+use Rattle.rh_layout.specs.declared.command.Command.{Command}
+use Rattle.rh_layout.specs.declared.command.Command.TheVariants.{Alloc, Raw, Load, Store, Copy, Same, Drop}
 use Rattle.rh_layout.specs.declared.command.RootId.{RootId}
 use Rattle.rh_model.specs.Effects.{HasFields, HoldsField, IsWellFormedPlain}
 use Rattle.rh_model.specs.Graph.{Graph, root_value}
 use Rattle.rh_model.specs.Plain.{PlainHeap, graph_of}
+use Rattle.rh_mutator.specs.Commands.{LimitHolds}
 use Rattle.rh_mutator.specs.Mutator.{StandsFor}
 use Rattle.rh_growing.specs.Growing.{GrowingState}
 
@@ -44,9 +46,22 @@ pub record IsStack (s : GrowingState) (top : ℕ) (numbers : List ℤ) : Type 0 
   -- on which they are stacked
   pub stacked : AreStacked (graph_of plain) (root_value (graph_of plain) top_segment) top numbers
 
--- A number may be refused for a limit of the heap, or since no field holds it.
-abbrev pub MayRefuse : ℤ → Refusal → Type 0
-MayRefuse n why = IsTrue (is_limit why) ⊎ ((why ≡ IntRange) × ¬ IsWhole n)
+-- a command by which a number is pushed makes a segment, stores or copies a root
+abbrev pub IsOfPush : Command → Type 0
+IsOfPush (Alloc dst fields) = fields ≡ 128
+IsOfPush (Raw dst fields) = ⊥
+IsOfPush (Load dst src field) = ⊥
+IsOfPush (Store obj field operand) = Unit {0}
+IsOfPush (Copy dst src) = Unit {0}
+IsOfPush (Same a b) = ⊥
+IsOfPush (Drop root) = ⊥
+
+-- A number may be refused where such a command meets a limit of the heap, or since no field holds
+-- it.
+abbrev pub MayRefuse : GrowingState → ℤ → Refusal → Type 0
+MayRefuse s n why =
+    ((command : Command) × IsOfPush command × LimitHolds s.paced.heap.mutators command why)
+    ⊎ ((why ≡ IntRange) × ¬ IsWhole n)
 
 -- the first of some numbers, and the others
 abbrev pub first_of : List ℤ → Option ℤ

@@ -59,16 +59,16 @@ impl<A: Allocator + Copy> Stack<A> {
     ///
     /// # Errors
     ///
-    /// The stack holds what it held then (`refused`). A limit of the heap is met, or the number isn't
-    /// -2^61 to 2^61 - 1 (`why`). Where there is no room the heap is short, or the epochs are spent
-    /// (`room`).
+    /// The stack holds what it held then (`refused`). A limit of the heap is met, by a segment that is
+    /// made or by a store, or the number isn't -2^61 to 2^61 - 1 (`why`). Where there is no room the
+    /// heap is short, or the epochs are spent (`room`).
     pub fn push(&mut self, number: i64) -> Result<(), Refusal>
         ensures pushed { (numbers : List ℤ) → IsStack self.old.heap self.old.top numbers
             → IfOk result (λ _. IsStack self.new.heap self.new.top (number ∷ numbers)) }
         ensures refused { (numbers : List ℤ) → IsStack self.old.heap self.old.top numbers
             → OnErr result (IsStack self.new.heap self.new.top numbers) }
         ensures why { (numbers : List ℤ) → IsStack self.old.heap self.old.top numbers
-            → IfErr result (MayRefuse number) }
+            → IfErr result (MayRefuse self.new.heap number) }
         ensures room { IsRoomy 130 self.old.heap
             → IsRoomy 130 self.new.heap × IsToldShort self.new.heap result }
     {
@@ -99,7 +99,7 @@ impl<A: Allocator + Copy> Stack<A> {
         ensures refused { (numbers : List ℤ) → IsStack self.old.heap self.old.top numbers
             → OnErr result (IsStack self.new.heap self.new.top numbers) }
         ensures why { (numbers : List ℤ) → IsStack self.old.heap self.old.top numbers
-            → IfErr result (MayRefuse number) }
+            → IfErr result (MayRefuse self.new.heap number) }
         ensures room { IsRoomy 130 self.old.heap
             → IsRoomy 130 self.new.heap × IsToldShort self.new.heap result }
     {

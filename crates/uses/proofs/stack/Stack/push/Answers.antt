@@ -53,4 +53,4 @@ returns-then-self-ge-LAST-clause-why g c = λ numbers stack.
     let n : ℤ = c.args.number in
     let fits : FitsSigned w64 n = search rules in
     let same = to_z-of_z w64 n fits in
-    subst (λ (k : ℤ). IfErr done.result (MayRefuse k)) same (done.ensures.why numbers stack)
+    subst (λ (k : ℤ). IfErr done.result (MayRefuse done.new.self.heap k)) same (done.ensures.why numbers stack)
