@@ -45,7 +45,8 @@ pub enum Error {
     #[error("not watched: {0}")]
     Watch(WatchError),
     /// Memory was refused for the answers to a list of commands, or for a collection of the
-    /// runtime's own; not for the heap itself, of which `Heap`, `Resize`, `Release` and `Room` tell.
+    /// runtime's own; not for the heap itself, of which `Heap`, `Resize`, `Release` and `Room`
+    /// tell.
     #[error("{0}")]
     OutOfMemory(OutOfMemory),
 }

@@ -59,9 +59,9 @@ impl<A: Allocator + Copy> Stack<A> {
     ///
     /// # Errors
     ///
-    /// The stack holds what it held then (`refused`). A limit of the heap is met, by a segment that is
-    /// made or by a store, or the number isn't -2^61 to 2^61 - 1 (`why`). Where there is no room the
-    /// heap is short, or the epochs are spent (`room`).
+    /// The stack holds what it held then (`refused`). A limit of the heap is met, by a segment that
+    /// is made or by a store, or the number isn't -2^61 to 2^61 - 1 (`why`). Where there is no room
+    /// the heap is short, or the epochs are spent (`room`).
     pub fn push(&mut self, number: i64) -> Result<(), Refusal>
         ensures pushed { (numbers : List ℤ) → IsStack self.old.heap self.old.top numbers
             → IfOk result (λ _. IsStack self.new.heap self.new.top (number ∷ numbers)) }
