@@ -1,0 +1,55 @@
+//! The picture of a heap with more than is drawn one by one: its words as bars.
+
+use crate::head::{put_head, put_stat};
+use crate::limits::{MOST_ENTRIES, MOST_OBJECTS, MOST_ROOTS, MOST_WORDS};
+use rh_core::Heap;
+use rh_layout::OutOfMemory;
+use std::alloc::Allocator;
+
+/// The width of the bar of all words.
+const FULL: u64 = 600;
+
+/// What the picture shows, in words.
+const DESCRIPTION: &str = "A managed heap that has more than is drawn one by one. Bars show how \
+many words objects use, how many are free, and how many are placed.";
+
+/// Puts a bar of so many words of a space's.
+fn put_bar<B: Allocator>(
+    svg: &mut String<B>,
+    class: &str,
+    y: u32,
+    name: &str,
+    count: u32,
+    words: u32,
+) -> Result<(), OutOfMemory> {
+    let width = u64::from(count) * FULL / u64::from(words.max(1));
+    let text = u64::from(y) + 15;
+    write!(
+        svg,
+        "<text x='16' y='{text}'>{name} {count}</text>\
+         <rect class='free' x='184' y='{y}' width='{FULL}' height='20'/>\
+         <rect class='{class}' x='184' y='{y}' width='{width}' height='20'/>\n"
+    )?;
+    Ok(())
+}
+
+/// Puts the whole picture.
+pub fn put_bars<A: Allocator + Copy, B: Allocator>(
+    svg: &mut String<B>,
+    heap: &Heap<A>,
+    title: &str,
+) -> Result<(), OutOfMemory> {
+    put_head(svg, title, DESCRIPTION, 200)?;
+    put_stat(svg, &heap.stat())?;
+    let words = heap.config().words;
+    put_bar(svg, "used", 70, "words used", heap.used(), words)?;
+    put_bar(svg, "cell", 100, "words free", heap.free_words(), words)?;
+    let placed = heap.replica().used();
+    put_bar(svg, "placed-words", 130, "words placed", placed, words)?;
+    write!(
+        svg,
+        "<text x='16' y='180'>Only bars: more than {MOST_OBJECTS} objects, {MOST_WORDS} words, \
+         {MOST_ROOTS} roots that aren't nil, or {MOST_ENTRIES} entries.</text>\n</svg>\n"
+    )?;
+    Ok(())
+}

@@ -1,0 +1,59 @@
+//! The head of a picture: its title, its description, its style, and what `stat` says.
+
+use crate::page::PAGE_WIDTH;
+use crate::style::STYLE;
+use rh_core::Stat;
+use rh_layout::OutOfMemory;
+use std::alloc::Allocator;
+
+/// Puts a text at the end, as XML spells it. What XML has no spelling for becomes a space.
+fn put_spelled<B: Allocator>(svg: &mut String<B>, text: &str) -> Result<(), OutOfMemory> {
+    for letter in text.chars() {
+        match letter {
+            '<' => svg.push_str("&lt;")?,
+            '>' => svg.push_str("&gt;")?,
+            '&' => svg.push_str("&amp;")?,
+            '\0'..='\u{1f}' | '\u{fffe}' | '\u{ffff}' => svg.push(' ')?,
+            _ => svg.push(letter)?,
+        }
+    }
+    Ok(())
+}
+
+/// Puts the start of a picture of this height.
+pub fn put_head<B: Allocator>(
+    svg: &mut String<B>,
+    title: &str,
+    description: &str,
+    height: u32,
+) -> Result<(), OutOfMemory> {
+    write!(
+        svg,
+        "<svg xmlns='http://www.w3.org/2000/svg' width='{PAGE_WIDTH}' height='{height}' \
+         viewBox='0 0 {PAGE_WIDTH} {height}' role='img'>\n<title>"
+    )?;
+    put_spelled(svg, title)?;
+    write!(svg, "</title>\n<desc>{description}</desc>\n")?;
+    svg.push_str(STYLE)?;
+    svg.push_str("<rect class='page' width='100%' height='100%'/>\n")?;
+    svg.push_str("<text class='title' x='16' y='28'>")?;
+    put_spelled(svg, title)?;
+    svg.push_str("</text>\n")?;
+    Ok(())
+}
+
+/// Puts what `stat` says of a heap, in one line.
+pub fn put_stat<B: Allocator>(svg: &mut String<B>, stat: &Stat) -> Result<(), OutOfMemory> {
+    let cycle = if stat.cycle { "on" } else { "off" };
+    write!(
+        svg,
+        "<text x='16' y='50'>used {} free {} cycle {cycle} epoch {} number {} log {}",
+        stat.used, stat.free, stat.epoch, stat.number, stat.log
+    )?;
+    write!(
+        svg,
+        " granted {} spent {} placed {} missing {} idle {}</text>\n",
+        stat.granted, stat.spent, stat.placed, stat.missing, stat.idle
+    )?;
+    Ok(())
+}

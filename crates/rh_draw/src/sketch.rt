@@ -1,0 +1,136 @@
+//! What of a heap is drawn, read once.
+
+use crate::entries::{Entry, entries_of};
+use crate::limits::{MOST_ENTRIES, MOST_OBJECTS, MOST_ROOTS, MOST_WORDS};
+use rh_core::Heap;
+use rh_layout::{OutOfMemory, RootId, Value};
+use rh_space::Space;
+use std::alloc::Allocator;
+
+/// An object of a space.
+#[derive(Clone, Copy)]
+pub struct Object {
+    /// The word of its header, counted from 0.
+    pub address: u32,
+    /// How many fields it has.
+    pub fields: u32,
+    /// Whether it is raw.
+    pub raw: bool,
+    /// Of a replica the address of its original, and else 0.
+    pub origin: u32,
+}
+
+impl Object {
+    /// The word after its last one.
+    pub fn end(&self) -> u32 {
+        self.address.saturating_add(self.fields).saturating_add(2)
+    }
+}
+
+/// What of a heap is drawn.
+#[derive(Drop)]
+pub struct Sketch<B: Allocator> {
+    /// The objects of from-space, in order of their addresses, and at most one more than are drawn.
+    pub objects: Vec<Object, B>,
+    /// The replicas, in the same order.
+    pub replicas: Vec<Object, B>,
+    /// The roots that aren't nil, in order of owner, then slot, with what they hold.
+    pub roots: Vec<(RootId, Value), B>,
+    /// The entries of the log; none where there are more than are drawn.
+    pub entries: Vec<Entry, B>,
+}
+
+impl<B: Allocator + Copy> Sketch<B> {
+    /// What is drawn of the heap; `None` where it has more than is drawn one by one.
+    pub fn of<A: Allocator + Copy>(
+        alloc: B,
+        heap: &Heap<A>,
+    ) -> Result<Option<Sketch<B>>, OutOfMemory> {
+        if heap.used() > MOST_WORDS || heap.stat().log > MOST_ENTRIES {
+            return Ok(None);
+        }
+        let objects = objects_of(alloc, heap)?;
+        let roots = roots_of(alloc, heap)?;
+        if objects.len() > MOST_OBJECTS || roots.len() > MOST_ROOTS {
+            return Ok(None);
+        }
+        Ok(Some(Sketch {
+            replicas: replicas_of(alloc, heap.replica())?,
+            entries: entries_of(alloc, heap, &objects)?,
+            objects,
+            roots,
+        }))
+    }
+}
+
+/// The first objects of from-space, as many as are drawn and one more.
+fn objects_of<A: Allocator + Copy, B: Allocator + Copy>(
+    alloc: B,
+    heap: &Heap<A>,
+) -> Result<Vec<Object, B>, OutOfMemory> {
+    let mut objects = Vec::new(alloc);
+    let mut address = 0;
+    for _ in 0..=MOST_OBJECTS {
+        let Some(fields) = heap.fields(address) else {
+            break;
+        };
+        let object = Object {
+            address,
+            fields,
+            raw: heap.raw(address) == Some(true),
+            origin: 0,
+        };
+        objects.push(object)?;
+        address = object.end();
+    }
+    Ok(objects)
+}
+
+/// The replica at an address of to-space; `None` where there is none.
+fn replica_at<A: Allocator + Copy>(space: &Space<A>, address: u32) -> Option<Object> {
+    if !space.is_object(address) {
+        return None;
+    }
+    Some(Object {
+        address,
+        fields: space.fields(address),
+        raw: space.raw(address),
+        origin: space.origin(address),
+    })
+}
+
+/// The objects of to-space, at most as many as are drawn.
+fn replicas_of<A: Allocator + Copy, B: Allocator + Copy>(
+    alloc: B,
+    space: &Space<A>,
+) -> Result<Vec<Object, B>, OutOfMemory> {
+    let mut replicas = Vec::new(alloc);
+    let mut address = 0;
+    for _ in 0..MOST_OBJECTS {
+        let Some(replica) = replica_at(space, address) else {
+            break;
+        };
+        replicas.push(replica)?;
+        address = replica.end();
+    }
+    Ok(replicas)
+}
+
+/// The roots that aren't nil.
+fn roots_of<A: Allocator + Copy, B: Allocator + Copy>(
+    alloc: B,
+    heap: &Heap<A>,
+) -> Result<Vec<(RootId, Value), B>, OutOfMemory> {
+    let sizes = heap.config();
+    let mut roots = Vec::new(alloc);
+    for owner in 0..sizes.owners {
+        for slot in 0..sizes.slots {
+            let id = RootId { owner, slot };
+            match heap.root(id) {
+                None | Some(Value::Nil) => {}
+                Some(value) => roots.push((id, value))?,
+            }
+        }
+    }
+    Ok(roots)
+}
