@@ -1,4 +1,4 @@
 mod numbers
-mod texts
+pub mod texts
 mod graphs
 mod described

@@ -2,6 +2,7 @@
 
 ghost use Rattle.std.specs.Prelude.{◌≡◌, length};
 ghost use Rattle.rh_dump.specs.Dump.{IsGraph};
+ghost use Rattle.rh_dump.specs.Graph.{objects_in, total};
 
 use rh_layout::{RootId, Shape, Value};
 use std::alloc::{Allocator, Global};
@@ -57,5 +58,22 @@ impl<A: Allocator> Graph<A> {
         ensures { result ≡ length self.now.objects }
     {
         self.shapes.len() as u64
+    }
+
+    /// The roots that aren't nil, in order of owner, then slot, each with what it holds.
+    pub fn root_entries(&self) -> &[(RootId, Value)]
+        ensures { result.now ≡ self.now.roots }
+    {
+        &self.roots
+    }
+
+    /// The shapes of the objects, in order of their numbers, and what their fields hold, one object
+    /// after the other.
+    pub fn object_parts(&self) -> (&[Shape], &[Value])
+        ensures objects { objects_in result.0.now result.1.now ≡ self.now.objects }
+        // Each value is a field's, and each field has its value.
+        ensures filled { total result.0.now ≡ length result.1.now }
+    {
+        (&self.shapes, &self.values)
     }
 }

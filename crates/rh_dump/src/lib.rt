@@ -21,4 +21,5 @@ pub use reading::fault::{DumpFault, DumpKind};
 pub use reading::read_error::DumpReadError;
 pub use reading::{read_dump, read_dump_logged};
 pub use rh_text::Write;
+pub use writing::spelling::put_value;
 pub use writing::{write_dump, write_dump_logged};

@@ -8,7 +8,7 @@ ghost use Rattle.rh_text.specs.Output.{AppendsLess};
 ghost use Rattle.rh_dump.specs.Graph.{graph_in, objects_in, total};
 ghost use Rattle.rh_dump.specs.texts.Line.{spell_dump_line, object_line, root_lines, object_lines, dump_text};
 
-mod spelling;
+pub mod spelling;
 
 use crate::dump_graph::Graph;
 use crate::writing::spelling::{

@@ -19,7 +19,7 @@ pub fn put_head(text: &mut LineText, roots: usize)
 }
 
 /// Puts `nil`, a whole number, or `@` and the number of an object at the end.
-fn put_value(text: &mut LineText, value: Value)
+pub fn put_value(text: &mut LineText, value: Value)
     requires { length text.old ≤ 235 }
     ensures value { text.new ≡ text.old ++ value_text value }
     ensures len { length text.new ≤ length text.old + 21 }
