@@ -1,0 +1,4 @@
+mod Parts
+mod Nodes
+mod Edges
+mod LineCount

@@ -1,0 +1,63 @@
+use Rattle.std.proofs.Common.{List, drop, ap, refl, ◌∙◌, arith}
+use Rattle.std.proofs.lemmas.Result.{err_from_is_err_and}
+use Rattle.std.proofs.lemmas.List.{drop_all}
+use Rattle.rh_layout.specs.declared.value.Value.{Value}
+use Rattle.rh_dump.proofs.texts.Counts.{err_ok, err_err}
+use Rattle.rh_dump.proofs.texts.Sending.{Sent-begin, Sent-all}
+use Rattle.rh_dot.specs.Dot.{cell_text, cells_text}
+use Rattle.rh_dot.proofs.Parts.{counted_next, counted_less}
+use Rattle.rh_dot.proofs.writing.write_cells.Goals as goal
+
+pub returns-in_err-send-clause-err : goal.returns-in_err-send-clause-err
+returns-in_err-send-clause-err g c =
+    let known = g.W.Write.contents in
+    let p = err_from_is_err_and c.from_residual.result c.from_residual.ensures.1 in
+    let fields = c.args.fields.now in
+    rw p.1 (counted_less cells_text cell_text (λ n x xs. refl) (known c.args.writer.now) (known c.loop-value.writer) (known c.send.new.writer) (cells_text 0 fields) c.as_bytes.result.now fields c.loop-value.field c.loop-value.value-index _ c.loop-value-test.true (c.as_bytes.ensures ∙ c.put_cell.ensures) c.loop-value.invariant.sent c.in_err-send.ensures.err)
+
+pub loop-value-preserved : goal.loop-value-preserved
+loop-value-preserved g c =
+    let known = g.W.Write.contents in
+    let fields = c.args.fields.now in
+    record {
+      sent = counted_next cells_text cell_text (λ n x xs. refl) (known c.args.writer.now) (known c.loop-value.writer) (known c.send.new.writer) (cells_text 0 fields) c.as_bytes.result.now fields c.loop-value.field c.loop-value.value-index _ c.loop-value-test.true (c.as_bytes.ensures ∙ c.put_cell.ensures) c.loop-value.invariant.sent c.in_ok-send.ensures.ok;
+      field = omega (arith, c.loop-value.invariant.field);
+      none_failed = c.in_ok-send.ensures.none_failed;
+    }
+
+pub loop-value-init : goal.loop-value-init
+loop-value-init g c = record {
+  sent = Sent-begin (g.W.Write.contents c.args.writer.now) (cells_text 0 c.args.fields.now);
+  field = refl;
+  none_failed = c.requires;
+}
+
+pub send-requires : goal.send-requires
+send-requires g c = c.loop-value.invariant.none_failed
+
+pub returns-in_err-send-clause-ok : goal.returns-in_err-send-clause-ok
+returns-in_err-send-clause-ok g c = err_ok _ c.from_residual.result c.from_residual.ensures.0
+
+pub returns-in_err-send-clause-failed : goal.returns-in_err-send-clause-failed
+returns-in_err-send-clause-failed g c = err_err c.from_residual.result c.in_err-send.ensures.failed
+
+pub returns-in_err-send-clause-none_failed : goal.returns-in_err-send-clause-none_failed
+returns-in_err-send-clause-none_failed g c = err_ok _ c.from_residual.result c.from_residual.ensures.0
+
+pub returns-clause-ok : goal.returns-clause-ok
+returns-clause-ok g c =
+    let known = g.W.Write.contents in
+    let fields = c.args.fields.now in
+    let field = c.loop-value.field in
+    let rest = drop c.loop-value.value-index fields in
+    let none = ap (λ (values : List Value). cells_text field values) (drop_all c.loop-value.value-index fields c.loop-value-test.false) in
+    Sent-all (known c.args.writer.now) (known c.loop-value.writer) (cells_text 0 fields) (cells_text field rest) none c.loop-value.invariant.sent
+
+pub returns-clause-err : goal.returns-clause-err
+returns-clause-err g c = tt
+
+pub returns-clause-failed : goal.returns-clause-failed
+returns-clause-failed g c = tt
+
+pub returns-clause-none_failed : goal.returns-clause-none_failed
+returns-clause-none_failed g c = c.loop-value.invariant.none_failed
