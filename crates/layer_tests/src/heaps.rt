@@ -1,6 +1,7 @@
 //! The heap, and runs of events on it.
 
 mod cycle;
+mod drawing;
 mod giving;
 mod headline;
 mod heap;

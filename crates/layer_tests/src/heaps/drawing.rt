@@ -1,0 +1,255 @@
+//! Pictures of heaps: that they are well-formed, and show what the heap's readers tell.
+
+use crate::commands::{SIZES, root, store};
+use crate::expectations::{Row, expect_equal, expect_refusals};
+use refusing::refused_in_turn;
+use rh_core::{Config, Heap, Kind, Shaded};
+use rh_draw::{DrawError, draw};
+use rh_layout::{Operand, RootId, Value};
+use rh_space::NOT_HELD;
+use std::process::Abort;
+
+const FIRST: RootId = RootId { owner: 1, slot: 0 };
+
+const RAW: RootId = RootId { owner: 1, slot: 1 };
+
+/// How often the text has the part.
+fn count(text: &str, part: &str) -> usize {
+    text.split(part).skip(1).count()
+}
+
+/// Ends the test unless the text is one element, each tag is closed by one of its name, no quote is
+/// open, and nothing is there that has to be spelled otherwise.
+fn expect_well_formed<R: AllocGlobal + Abort>(rt: &R, text: &str) {
+    let mut open = Vec::new(rt.alloc());
+    for piece in text.split('<').skip(1) {
+        let (tag, after) = piece.split_once('>').expect(rt, "the end of a tag");
+        assert!(rt; !after.contains('>') && count(tag, "'") % 2 == 0);
+        for letter in after.split('&').skip(1) {
+            let rest = letter.strip_prefix("lt;").or(letter.strip_prefix("amp;"));
+            assert!(rt; rest.is_some());
+        }
+        let name = tag.split(' ').next().expect(rt, "a name");
+        if let Some(closed) = name.strip_prefix('/') {
+            expect_equal(rt, open.pop(), Some(closed));
+        } else if !tag.ends_with('/') {
+            open.push(name).expect(rt, "memory is ample");
+        }
+        assert!(rt; !open.is_empty() || after == "\n");
+    }
+    expect_equal(rt, open.len(), 0);
+}
+
+/// The bytes of a heap's picture.
+fn picture<R: AllocGlobal + Abort>(rt: &R, heap: &Heap) -> Vec<u8> {
+    let mut text = Vec::new(rt.alloc());
+    expect_equal(rt, draw(rt.alloc(), heap, "a < b & c", &mut text), Ok(()));
+    text
+}
+
+/// The fields of from-space that hold a reference.
+fn references(heap: &Heap) -> usize {
+    let mut found: usize = 0;
+    for a in 0..heap.used() {
+        for f in 0..heap.fields(a).unwrap_or(0) {
+            if let Some((_, Value::Ref(_))) = heap.field(a, f) {
+                found = found.saturating_add(1);
+            }
+        }
+    }
+    found
+}
+
+/// What to-space has.
+#[derive(Clone, Copy)]
+struct Held {
+    /// The fields of which a pair is held.
+    pairs: usize,
+    /// Those of which none is.
+    missing: usize,
+    /// Those of which a reference is held.
+    references: usize,
+}
+
+fn held_in(heap: &Heap) -> Held {
+    let mut held = Held {
+        pairs: 0,
+        missing: 0,
+        references: 0,
+    };
+    let space = heap.replica();
+    for a in 0..space.used() {
+        if !space.is_object(a) {
+            continue;
+        }
+        for f in 0..space.fields(a) {
+            let (number, value) = space.field(a, f);
+            if number == NOT_HELD {
+                held.missing = held.missing.saturating_add(1);
+            } else {
+                held.pairs = held.pairs.saturating_add(1);
+            }
+            if value.is_reference() {
+                held.references = held.references.saturating_add(1);
+            }
+        }
+    }
+    held
+}
+
+/// Ends the test unless the heap's picture has the boxes, arrows, filled, empty and hatched fields,
+/// and entries, that the heap's readers tell. Those of the legend aren't counted.
+fn expect_shown<R: AllocGlobal + Abort>(rt: &R, heap: &Heap) {
+    let bytes = picture(rt, heap);
+    let text = str::from_utf8(&bytes).ok().expect(rt, "text");
+    expect_well_formed(rt, text);
+    let shown = text.split("<g class='legend'").next().expect(rt, "a part");
+    let stat = heap.stat();
+    let held = held_in(heap);
+    let objects = (0..heap.used())
+        .filter(|&a| heap.fields(a).is_some())
+        .count();
+    let old = (stat.missing as usize).saturating_sub(held.missing);
+    let past = stat.log.saturating_sub(heap.undealt(Kind::Entries));
+    let wanted = [
+        (
+            "<g class='box",
+            objects.saturating_add(stat.placed as usize),
+        ),
+        (
+            "class='cell'",
+            (heap.used() as usize).saturating_sub(objects.saturating_mul(2)),
+        ),
+        (
+            "class='reference'",
+            references(heap).saturating_add(held.references),
+        ),
+        ("class='placed'", stat.placed as usize),
+        ("class='missing'", held.missing),
+        ("class='old'", old),
+        ("class='held'", held.pairs.saturating_sub(old)),
+        ("class='entry", stat.log as usize),
+        ("class='entry past'", past as usize),
+        ("class='scan'", usize::from(stat.cycle)),
+    ];
+    for (row, &(part, times)) in wanted.iter().enumerate() {
+        let rt = Row { rt, row };
+        expect_equal(&rt, (part, count(shown, part)), (part, times));
+    }
+}
+
+/// A heap with an object and a raw one, of two fields each, after three stores.
+fn with_two_objects<R: AllocGlobal + Abort>(rt: &R) -> Heap {
+    let mut heap = Heap::new(rt.alloc(), SIZES).expect(rt, "a heap");
+    assert!(rt; heap.alloc(1, FIRST, 2).is_ok() && heap.alloc_raw(1, RAW, 2).is_ok());
+    let stores = [
+        store(FIRST, 0, Operand::Root(FIRST)),
+        store(FIRST, 1, Operand::Root(RAW)),
+        store(RAW, 0, Operand::Int(-2_305_843_009_213_693_952)),
+    ];
+    for command in &stores {
+        assert!(rt; heap.command(1, command).is_ok());
+    }
+    heap
+}
+
+/// In a cycle of a heap with two objects: one field is held as it stands, another was stored to
+/// since.
+fn in_a_cycle<R: AllocGlobal + Abort>(rt: &R) -> Heap {
+    let mut heap = with_two_objects(rt);
+    expect_equal(rt, heap.begin(), Ok(1));
+    assert!(rt; heap.idle(1000).is_ok());
+    expect_equal(rt, heap.shade(FIRST), Ok(Shaded::Placed));
+    for _ in 0..2 {
+        expect_equal(rt, heap.hold_next(), Ok(Kind::Copies));
+    }
+    assert!(rt; heap.command(1, &store(FIRST, 0, Operand::Int(5))).is_ok());
+    heap
+}
+
+/// Holds all that is undealt.
+fn hold_all(rt: &impl Abort, heap: &mut Heap) {
+    for _ in 0..9 {
+        if heap.hold_next().is_err() {
+            break;
+        }
+    }
+    expect_equal(rt, heap.missing(), 0);
+}
+
+#[test]
+fn a_picture_shows_what_the_heap_tells(rt: HostRuntime) {
+    let new = Heap::new(rt.alloc(), SIZES).expect(&rt, "a heap");
+    expect_shown(&rt, &new);
+    expect_shown(&rt, &with_two_objects(&rt));
+    let mut heap = in_a_cycle(&rt);
+    expect_equal(&rt, (heap.missing(), held_in(&heap).missing), (3, 2));
+    expect_shown(&rt, &heap);
+    assert!(rt; heap.deal(Kind::Entries, 1).is_ok());
+    assert!(rt; heap.command(1, &store(FIRST, 0, Operand::Nil)).is_ok());
+    expect_shown(&rt, &heap);
+    hold_all(&rt, &mut heap);
+    expect_shown(&rt, &heap);
+    assert!(rt; heap.flip().is_ok());
+    expect_shown(&rt, &heap);
+}
+
+#[test]
+fn a_heap_over_the_limit_has_bars_alone(rt: HostRuntime) {
+    let sizes = Config {
+        words: 2_048,
+        ..SIZES
+    };
+    let mut heap = Heap::new(rt.alloc(), sizes).expect(&rt, "a heap");
+    for _ in 0..300 {
+        assert!(rt; heap.alloc(1, FIRST, 0).is_ok());
+    }
+    let whole = picture(&rt, &heap);
+    let text = str::from_utf8(&whole).ok().expect(&rt, "text");
+    expect_equal(
+        &rt,
+        (count(text, "<g class='box"), text.contains("Only bars")),
+        (300, false),
+    );
+    assert!(rt; heap.alloc(1, FIRST, 0).is_ok());
+    let bars = picture(&rt, &heap);
+    let text = str::from_utf8(&bars).ok().expect(&rt, "text");
+    expect_equal(
+        &rt,
+        (count(text, "<g class='box"), text.contains("Only bars")),
+        (0, true),
+    );
+    expect_well_formed(&rt, text);
+}
+
+#[test]
+fn equal_heaps_have_equal_pictures(rt: HostRuntime) {
+    let one = picture(&rt, &in_a_cycle(&rt));
+    let other = picture(&rt, &in_a_cycle(&rt));
+    assert!(rt; one == other);
+}
+
+#[test]
+fn each_failing_write_is_told(rt: HostRuntime) {
+    let heap = in_a_cycle(&rt);
+    let whole = picture(&rt, &heap);
+    for taken in [0, 1, 1_000] {
+        let mut room = [0; 1_000];
+        let mut writer = &mut room[..taken];
+        let drawn = draw(rt.alloc(), &heap, "a < b & c", &mut writer);
+        expect_equal(&rt, drawn, Err(DrawError::Write));
+        assert!(rt; whole.starts_with(&room[..taken]));
+    }
+}
+
+#[test]
+fn refused_memory_writes_nothing(rt: HostRuntime) {
+    let heap = in_a_cycle(&rt);
+    let refused = refused_in_turn(rt.alloc(), |memory| {
+        let mut text = Vec::new(rt.alloc());
+        let drawn = draw(memory, &heap, "a picture", &mut text);
+        expect_equal(&rt, drawn.is_err(), text.is_empty());
+        drawn == Err(DrawError::OutOfMemory)
+    });
+    expect_refusals(&rt, refused, 5);
+}
