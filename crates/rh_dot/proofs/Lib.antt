@@ -2,3 +2,4 @@ mod Parts
 mod Nodes
 mod Edges
 mod LineCount
+mod Texts
