@@ -2,7 +2,7 @@
 
 use rh_core::{Config, DealError, Heap, Kind};
 use rh_layout::limits::{MAX_NUMBER, MAX_PIECE_ITEMS};
-use rh_layout::{Command, MAX_FIELDS, Operand, RootId};
+use rh_layout::{Command, MAX_FIELDS, Operand, Reply, RootId};
 use rh_partial::PartialReplica;
 use std::alloc::Global;
 
@@ -61,6 +61,20 @@ fn fill(heap: &mut Heap, words: u32) -> Option<()> {
         }
     }
     Some(())
+}
+
+/// Takes so many tickets, one on each object of the chain in turn, again and again; nothing where a
+/// call was refused.
+pub fn watch(heap: &mut Heap, tickets: u32) -> Option<()> {
+    heap.watch_room(tickets).ok()?;
+    for _ in 0..tickets {
+        heap.watch(0, LAST).ok()?;
+        let next = heap.load(0, LAST, LAST, 0).ok()?;
+        if !matches!(next, Reply::Object(_)) {
+            copy(heap, LAST, FIRST)?;
+        }
+    }
+    copy(heap, LAST, FIRST)
 }
 
 /// A new object, to which the last one refers, is the last one from now on.

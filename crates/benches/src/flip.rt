@@ -1,7 +1,7 @@
-//! Collects a heap of so many live words, to which 4,096 roots refer, and moves the roots: what
-//! `bench/flip` times.
+//! Collects a heap of so many live words, to which 4,096 roots refer and which so many tickets
+//! watch, and moves the roots and the tickets: what `bench/flip` times.
 
-use crate::chain::{closed, filled};
+use crate::chain::{closed, filled, watch};
 use rh_core::{Flipped, Heap};
 use std::time::{CpuClock, Duration};
 
@@ -32,21 +32,34 @@ fn shortest_of(rt: &(impl CpuClock + AllocGlobal), heap: &mut Heap) -> Option<(F
     Some(shortest)
 }
 
-/// What the flips of a heap of so many words did, and the shortest one's processor time.
-fn shortest_flip(rt: &(impl CpuClock + AllocGlobal), words: u32) -> Option<(Flipped, Duration)> {
+/// What the flips of a heap of so many words and tickets did, and the shortest one's processor time.
+fn shortest_flip(
+    rt: &(impl CpuClock + AllocGlobal),
+    words: u32,
+    tickets: u32,
+) -> Option<(Flipped, Duration)> {
     let mut heap = filled(rt.alloc(), words)?;
+    watch(&mut heap, tickets)?;
     shortest_of(rt, &mut heap)
 }
 
-/// Runs the bench on a heap of which so many words live, rounded down to whole objects, and tells
-/// the time of the shortest flip where that is asked. Nothing where it failed.
-pub fn run(rt: &(impl Print + CpuClock + AllocGlobal), words: u32, is_timed: bool) -> Option<()> {
-    let (flipped, time) = shortest_flip(rt, words)?;
+/// Runs the bench on a heap of which so many words live, rounded down to whole objects, which so
+/// many tickets watch, and tells the time of the shortest flip where that is asked. Nothing where it
+/// failed.
+pub fn run(
+    rt: &(impl Print + CpuClock + AllocGlobal),
+    words: u32,
+    tickets: u32,
+    is_timed: bool,
+) -> Option<()> {
+    let (flipped, time) = shortest_flip(rt, words, tickets)?;
     let (roots, words) = (flipped.roots, flipped.live_words);
     if is_timed {
         let nanoseconds = time.as_nanos();
-        println!(rt; "roots {roots} live words {words} nanoseconds {nanoseconds}").ok()
+        println!(rt;
+            "roots {roots} live words {words} tickets {tickets} nanoseconds {nanoseconds}"
+        ).ok()
     } else {
-        println!(rt; "roots {roots} live words {words}").ok()
+        println!(rt; "roots {roots} live words {words} tickets {tickets}").ok()
     }
 }

@@ -41,7 +41,7 @@ fn run_each(rt: &(impl Print + Input + Clock + CpuClock + AllocGlobal)) -> Optio
     fold::run(rt, "fold", 6400)?;
     dump::run(rt, Some("copy"))?;
     place::run(rt, 64)?;
-    flip::run(rt, 1000, false)?;
+    flip::run(rt, 1000, 100, false)?;
     run_each_of_trees(rt)?;
     growing::run(rt, 40_000, 20_000, false)?;
     resizes::run(rt, 131_072, false)?;
@@ -102,7 +102,7 @@ fn run_one(
         "fold" => fold::run(rt, first?, number(second)?.into()),
         "dump" => dump::run(rt, first),
         "place" => place::run(rt, number(first)?),
-        "flip" => flip::run(rt, number(first)?, second.is_some()),
+        "flip" => flip::run(rt, number(first)?, number(second)?, third.is_some()),
         "binary-trees" => binary_trees::run(rt, number(first)?, number(second)?),
         "growing-binary-trees" => binary_trees::run_growing(rt, number(first)?, number(second)?),
         "gc-bench" => gc_bench::run(rt, Depths::WHOLE, number(first)?),
