@@ -32,7 +32,8 @@ fn shortest_of(rt: &(impl CpuClock + AllocGlobal), heap: &mut Heap) -> Option<(F
     Some(shortest)
 }
 
-/// What the flips of a heap of so many words and tickets did, and the shortest one's processor time.
+/// What the flips of a heap of so many words and tickets did, and the shortest one's processor
+/// time.
 fn shortest_flip(
     rt: &(impl CpuClock + AllocGlobal),
     words: u32,
@@ -44,7 +45,7 @@ fn shortest_flip(
 }
 
 /// Runs the bench on a heap of which so many words live, rounded down to whole objects, which so
-/// many tickets watch, and tells the time of the shortest flip where that is asked. Nothing where it
+/// many tickets watch. Tells the time of the shortest flip where that is asked. Nothing where it
 /// failed.
 pub fn run(
     rt: &(impl Print + CpuClock + AllocGlobal),
