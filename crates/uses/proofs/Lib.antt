@@ -1,6 +1,9 @@
 mod Accepted
 mod Allowed
+mod FileSteps
+mod FileTables
 mod Filled
+mod FollowsReached
 mod NoLimit
 mod Renewed
 mod RoomKept

@@ -2,6 +2,7 @@
 //! proved, and run.
 #![tactic(auto)]
 
+mod files;
 mod full;
 mod growing_list;
 mod list;
@@ -41,6 +42,8 @@ fn run(rt: &(impl Print + AllocGlobal + Threads + Wait + Sync)) -> Result<(), Pr
     println!(rt; "growing list short {short:?}")?;
     let (pushed, short) = stack::run(alloc)?;
     println!(rt; "stack numbers {pushed} short {short:?}")?;
+    let closed = files::run(alloc)?;
+    println!(rt; "files closed {closed}")?;
     let (calls, objects) = recorded::run(alloc, &mut io::writer(rt))?;
     println!(rt; "recorded calls {calls} objects {objects}")?;
     Ok(())

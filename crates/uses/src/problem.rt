@@ -4,7 +4,9 @@ ghost use Rattle.std.specs.Prelude.{◌≡◌};
 ghost use Rattle.uses.specs.declared.problem.Problem.TheVariants as problems;
 ghost use Rattle.uses.specs.Problem.{problem_of_sizes};
 
-use rh_heap::{GrowingError, HeapError, OutOfMemory, PaceError, Refusal, SizesError};
+use rh_heap::{
+    GrowingError, HeapError, OutOfMemory, PaceError, Refusal, RoomError, SizesError, WatchError,
+};
 use rh_replay::{RecorderError, TraceFull};
 use std::io;
 use thiserror::Error;
@@ -21,6 +23,12 @@ pub enum Problem {
     /// No heap that grows was made.
     #[error("no heap that grows: {0}")]
     Growing(#[from] GrowingError),
+    /// There is no room for so many tickets.
+    #[error("no tickets: {0}")]
+    Room(#[from] RoomError),
+    /// An object isn't watched.
+    #[error("not watched: {0}")]
+    Watch(#[from] WatchError),
     /// A call was refused.
     #[error("refused: {0}")]
     Refused(Refusal),
