@@ -326,24 +326,24 @@ abbrev refusal_or : Refusal → Result Reply Refusal → Refusal
 refusal_or other (Ok reply) = other
 refusal_or other (Err why) = why
 
-module _ (given : Bool) (old new : GrowingState) (why : Refusal) (n : ℤ) (numbers : List ℤ) where
+module _ (given : Bool) (old new : GrowingState) (why : Refusal) (top : ℕ) (n : ℤ) (numbers : List ℤ) where
   -- A limit that refuses a command is met, and nothing has changed.
-  limit-met : (command : Command) → IsOfPush command → IsGrowingCall given old new 1 command (Err why) → IsTrue (is_limit why) → MayRefuse new n why
+  limit-met : (command : Command) → IsOfPush top command → IsGrowingCall given old new 1 command (Err why) → IsTrue (is_limit why) → MayRefuse new top n why
   limit-met command of call is =
       inl (command, of, subst (λ (s : GrowingState). LimitHolds s.paced.heap.mutators command why) (sym call.refused) (call.limit why refl is))
 
-  refused-or : (command : Command) → IsOfPush command → IsGrowingCall given old new 1 command (Err why) → (told : Result Reply Refusal) → AnswersAs (Err why) told → IsOk told ⊎ ((told ≡ Err IntRange) × ¬ IsWhole n)
-      → MayRefuse new n why
+  refused-or : (command : Command) → IsOfPush top command → IsGrowingCall given old new 1 command (Err why) → (told : Result Reply Refusal) → AnswersAs (Err why) told → IsOk told ⊎ ((told ≡ Err IntRange) × ¬ IsWhole n)
+      → MayRefuse new top n why
   refused-or command of call told answers (inl ok) = limit-met command of call (refused-by told why answers ok)
   refused-or command of call told (inl (met, same)) (inr (range, none)) = inr (ap (refusal_or why) (same ∙ range), none)
   refused-or command of call told (inr (limited, ok)) (inr (range, none)) = absurd (true≢false (sym ok ∙ ap is_ok range))
 
-  pub why-allocated : IsGrowingCall given old new 1 (Alloc new_segment 128) (Err why) → (top : ℕ) → IsStack old top numbers → MayRefuse new n why
-  why-allocated call top stack =
-      limit-met (Alloc new_segment 128) refl call
+  pub why-allocated : 127 ≤ top → IsGrowingCall given old new 1 (Alloc new_segment 128) (Err why) → IsStack old top numbers → MayRefuse new top n why
+  why-allocated full call stack =
+      limit-met (Alloc new_segment 128) (refl, full) call
       (refused-by (step stack.plain 1 (Alloc new_segment 128)).1 why (call.transparent stack.plain stack.stands).0 (segment-made stack.plain stack.owners stack.slots))
 
-  pub why-linked : IsGrowingCall given old new 1 (Store new_segment 0 (operands.Root top_segment)) (Err why) → IsOn old (Begun numbers) → MayRefuse new n why
+  pub why-linked : IsGrowingCall given old new 1 (Store new_segment 0 (operands.Root top_segment)) (Err why) → IsOn old (Begun numbers) → MayRefuse new top n why
   why-linked call on =
       let b = on.holds.2 in
       let within : 0 < length b.count.0 = let count = b.count.2 in omega (arith, count) in
@@ -351,20 +351,23 @@ module _ (given : Bool) (old new : GrowingState) (why : Refusal) (n : ℤ) (numb
       limit-met (Store new_segment 0 (operands.Root top_segment)) tt call
       (refused-by (step on.plain 1 (Store new_segment 0 (operands.Root top_segment))).1 why (call.transparent on.plain on.stands).0 ok)
 
-  pub why-filled : IsGrowingCall given old new 1 (Store new_segment 1 (operands.Int n)) (Err why) → IsOn old (Linked numbers) → MayRefuse new n why
+  pub why-filled : IsGrowingCall given old new 1 (Store new_segment 1 (operands.Int n)) (Err why) → IsOn old (Linked numbers) → MayRefuse new top n why
   why-filled call on =
       let b = on.holds.2 in
       let within : 1 < length b.count.0 = let count = b.count.2 in omega (arith, count) in
       let stored = number-stored on.plain on.owners on.slots on.holds.0 1 b.count.0 b.count.1 within new_segment refl refl b.root n in
       refused-or (Store new_segment 1 (operands.Int n)) tt call (step on.plain 1 (Store new_segment 1 (operands.Int n))).1 (call.transparent on.plain on.stands).0 stored
 
-  pub why-stood : IsGrowingCall given old new 1 (Copy top_segment new_segment) (Err why) → IsOn old (Filled n numbers) → MayRefuse new n why
-  why-stood call on =
-      limit-met (Copy top_segment new_segment) tt call
-      (refused-by (step on.plain 1 (Copy top_segment new_segment)).1 why (call.transparent on.plain on.stands).0 (segment-stands on.plain on.owners on.slots))
+  -- no limit refuses what changes roots alone
+  pub why-stood : MeetNone → IsGrowingCall given old new 1 (Copy top_segment new_segment) (Err why) → IsOn old (Filled n numbers) → MayRefuse new top n why
+  why-stood none call on =
+      let standing : Command = Copy top_segment new_segment in
+      let limited = refused-by (step on.plain 1 standing).1 why (call.transparent on.plain on.stands).0 (segment-stands on.plain on.owners on.slots) in
+      let unlimited : is_limit why ≡ false = ap is_limit_answer (call.answer ∙ same-answer given old 1 standing) ∙ none old.paced 1 standing tt in
+      absurd (true≢false (sym limited ∙ unlimited))
 
-  pub why-joined : (top : ℕ) → top < 127 → IsGrowingCall given old new 1 (Store top_segment (top + 1) (operands.Int n)) (Err why) → IsStack old top numbers → MayRefuse new n why
-  why-joined top low call stack =
+  pub why-joined : top < 127 → IsGrowingCall given old new 1 (Store top_segment (top + 1) (operands.Int n)) (Err why) → IsStack old top numbers → MayRefuse new top n why
+  why-joined low call stack =
       let segment = filled-segment (graph_of stack.plain) (root_value (graph_of stack.plain) top_segment) top numbers low stack.stacked in
       let count = segment.2 in
       let within : top + 1 < length count.0 = let long = count.2 in omega (arith, long, low) in

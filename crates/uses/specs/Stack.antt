@@ -1,5 +1,5 @@
 -- A stack of numbers in segments, on the plain heap for which a heap that grows stands.
-use Rattle.std.specs.Prelude.{◌≡◌, ◌⊎◌, ◌-◌, ◌<◌, ℕ, ℤ, List, [], ◌∷◌, Option, Some, None}
+use Rattle.std.specs.Prelude.{◌≡◌, ◌⊎◌, ◌-◌, ◌<◌, ◌≤◌, ℕ, ℤ, List, [], ◌∷◌, Option, Some, None}
 use Rattle.rh_layout.specs.Word.{IsWhole}
 use Rattle.rh_layout.specs.declared.refusal.Refusal.{Refusal}
 use Rattle.rh_layout.specs.declared.refusal.Refusal.TheVariants.{IntRange}
@@ -46,21 +46,22 @@ pub record IsStack (s : GrowingState) (top : ℕ) (numbers : List ℤ) : Type 0 
   -- on which they are stacked
   pub stacked : AreStacked (graph_of plain) (root_value (graph_of plain) top_segment) top numbers
 
--- a command by which a number is pushed makes a segment, stores or copies a root
-abbrev pub IsOfPush : Command → Type 0
-IsOfPush (Alloc dst fields) = fields ≡ 128
-IsOfPush (Raw dst fields) = ⊥
-IsOfPush (Load dst src field) = ⊥
-IsOfPush (Store obj field operand) = Unit {0}
-IsOfPush (Copy dst src) = Unit {0}
-IsOfPush (Same a b) = ⊥
-IsOfPush (Drop root) = ⊥
+-- a command that may meet a limit as a number is pushed, the last one being in this field: it makes
+-- a segment, if that on top is full, or stores
+abbrev pub IsOfPush : ℕ → Command → Type 0
+IsOfPush top (Alloc dst fields) = (fields ≡ 128) × (127 ≤ top)
+IsOfPush top (Raw dst fields) = ⊥
+IsOfPush top (Load dst src field) = ⊥
+IsOfPush top (Store obj field operand) = Unit {0}
+IsOfPush top (Copy dst src) = ⊥
+IsOfPush top (Same a b) = ⊥
+IsOfPush top (Drop root) = ⊥
 
--- A number may be refused where such a command meets a limit of the heap, or since no field holds
--- it.
-abbrev pub MayRefuse : GrowingState → ℤ → Refusal → Type 0
-MayRefuse s n why =
-    ((command : Command) × IsOfPush command × LimitHolds s.paced.heap.mutators command why)
+-- A number may be refused, the last one being in this field, where such a command meets a limit of
+-- the heap, or since no field holds it.
+abbrev pub MayRefuse : GrowingState → ℕ → ℤ → Refusal → Type 0
+MayRefuse s top n why =
+    ((command : Command) × IsOfPush top command × LimitHolds s.paced.heap.mutators command why)
     ⊎ ((why ≡ IntRange) × ¬ IsWhole n)
 
 -- the first of some numbers, and the others

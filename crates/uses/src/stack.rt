@@ -60,15 +60,15 @@ impl<A: Allocator + Copy> Stack<A> {
     /// # Errors
     ///
     /// The stack holds what it held then (`refused`). A limit of the heap is met, by a segment that
-    /// is made or by a store, or the number isn't -2^61 to 2^61 - 1 (`why`). Where there is no room
-    /// the heap is short, or the epochs are spent (`room`).
+    /// is made, if that on top is full, or by a store; or the number isn't -2^61 to 2^61 - 1
+    /// (`why`). Where there is no room the heap is short, or the epochs are spent (`room`).
     pub fn push(&mut self, number: i64) -> Result<(), Refusal>
         ensures pushed { (numbers : List ℤ) → IsStack self.old.heap self.old.top numbers
             → IfOk result (λ _. IsStack self.new.heap self.new.top (number ∷ numbers)) }
         ensures refused { (numbers : List ℤ) → IsStack self.old.heap self.old.top numbers
             → OnErr result (IsStack self.new.heap self.new.top numbers) }
         ensures why { (numbers : List ℤ) → IsStack self.old.heap self.old.top numbers
-            → IfErr result (MayRefuse self.new.heap number) }
+            → IfErr result (MayRefuse self.new.heap self.old.top number) }
         ensures room { IsRoomy 130 self.old.heap
             → IsRoomy 130 self.new.heap × IsToldShort self.new.heap result }
     {
@@ -99,16 +99,18 @@ impl<A: Allocator + Copy> Stack<A> {
         ensures refused { (numbers : List ℤ) → IsStack self.old.heap self.old.top numbers
             → OnErr result (IsStack self.new.heap self.new.top numbers) }
         ensures why { (numbers : List ℤ) → IsStack self.old.heap self.old.top numbers
-            → IfErr result (MayRefuse self.new.heap number) }
+            → IfErr result (MayRefuse self.new.heap self.old.top number) }
         ensures room { IsRoomy 130 self.old.heap
             → IsRoomy 130 self.new.heap × IsToldShort self.new.heap result }
     {
-        // Only for the proof: what these commands make of a plain heap.
+        // Only for the proof: what these commands make of a plain heap, and that no limit refuses
+        // a copy.
         plain_heaps_stay_well_formed();
         alloc_makes_an_object();
         store_writes_a_field();
         copy_copies_a_root();
         drop_makes_a_root_nil();
+        what_changes_roots_alone_meets_no_limit();
         let (dst, fields) = (NEW, FIELDS);
         call(&mut self.heap, &Command::Alloc { dst, fields })?;
         let (obj, field, operand) = (NEW, 0, Operand::Root(SEGMENT));

@@ -37,7 +37,7 @@ returns-in_err-call-clause-why g c = λ numbers stack.
     let fits : FitsSigned w64 n = search rules in
     let same = to_z-of_z w64 n fits in
     let stored = stored-as refused.0 _ _ top_segment _ _ n _ same refused.1 in
-    rw (p.1, p.2) (why-joined refused.0 _ _ _ n numbers _ c.if-self-ge-LAST.false stored stack)
+    rw (p.1, p.2) (why-joined refused.0 _ _ _ _ n numbers c.if-self-ge-LAST.false stored stack)
 
 pub returns-then-self-ge-LAST-clause-pushed : goal.returns-then-self-ge-LAST-clause-pushed
 returns-then-self-ge-LAST-clause-pushed g c = λ numbers stack.
@@ -53,4 +53,4 @@ returns-then-self-ge-LAST-clause-why g c = λ numbers stack.
     let n : ℤ = c.args.number in
     let fits : FitsSigned w64 n = search rules in
     let same = to_z-of_z w64 n fits in
-    subst (λ (k : ℤ). IfErr done.result (MayRefuse done.new.self.heap k)) same (done.ensures.why numbers stack)
+    subst (λ (k : ℤ). IfErr done.result (MayRefuse done.new.self.heap c.args.self.now.top k)) same (done.ensures.why numbers stack)

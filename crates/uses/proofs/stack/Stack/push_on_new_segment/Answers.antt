@@ -107,7 +107,7 @@ pub returns-in_err-call-clause-why : goal.returns-in_err-call-clause-why
 returns-in_err-call-clause-why g c = λ numbers stack.
     let p = err_from_is_err_and c.from_residual.result c.from_residual.ensures.1 in
     let refused = c.in_err-call.ensures.call in
-    rw (p.1, p.2) (why-allocated refused.0 _ _ _ c.args.number numbers refused.1 _ stack)
+    rw (p.1, p.2) (why-allocated refused.0 _ _ _ _ c.args.number numbers c.requires refused.1 stack)
 
 pub returns-in_err-call-2-clause-why : goal.returns-in_err-call-2-clause-why
 returns-in_err-call-2-clause-why g c = λ numbers stack.
@@ -116,7 +116,7 @@ returns-in_err-call-2-clause-why g c = λ numbers stack.
     let called = c.in_ok-call.ensures.call in
     let begun = on-allocated formed called.0 _ _ _ numbers c.alloc_makes_an_object.ensures called.1 _ c.requires stack in
     let refused = c.in_err-call-2.ensures.call in
-    rw (p.1, p.2) (why-linked refused.0 _ _ _ c.args.number numbers refused.1 begun)
+    rw (p.1, p.2) (why-linked refused.0 _ _ _ _ c.args.number numbers refused.1 begun)
 
 pub returns-in_err-call-3-clause-why : goal.returns-in_err-call-3-clause-why
 returns-in_err-call-3-clause-why g c = λ numbers stack.
@@ -130,7 +130,7 @@ returns-in_err-call-3-clause-why g c = λ numbers stack.
     let n : ℤ = c.args.number in
     let fits : FitsSigned w64 n = search rules in
     let same = to_z-of_z w64 n fits in
-    rw (p.1, p.2) (why-filled refused.0 _ _ _ n numbers (stored-as refused.0 _ _ new_segment 1 _ n _ same refused.1) linked)
+    rw (p.1, p.2) (why-filled refused.0 _ _ _ _ n numbers (stored-as refused.0 _ _ new_segment 1 _ n _ same refused.1) linked)
 
 pub returns-in_err-call-4-clause-why : goal.returns-in_err-call-4-clause-why
 returns-in_err-call-4-clause-why g c = λ numbers stack.
@@ -147,4 +147,4 @@ returns-in_err-call-4-clause-why g c = λ numbers stack.
     let stored = stored-as called3.0 _ _ new_segment 1 _ n _ same called3.1 in
     let filled = on-filled formed called3.0 _ _ _ numbers c.store_writes_a_field.ensures.number n stored linked in
     let refused = c.in_err-call-4.ensures.call in
-    rw (p.1, p.2) (why-stood refused.0 _ _ _ c.args.number numbers refused.1 filled)
+    rw (p.1, p.2) (why-stood refused.0 _ _ _ _ c.args.number numbers c.what_changes_roots_alone_meets_no_limit.ensures refused.1 filled)
