@@ -32,6 +32,7 @@ pub record AreHeld (rows : List Row) (given : Options) : Type 0 where
   pub grow : given.grow ≡ first_of (codes "grow") rows
   pub replicators : given.replicators ≡ first_of (codes "replicators") rows
   pub idle : given.idle ≡ first_of (codes "idle") rows
+  pub dot : given.dot ≡ first_of (codes "dot") rows
 
 -- the same, of matches
 pub record AreMatched (values : ArgMatches) (given : Options) : Type 0 where
@@ -40,6 +41,7 @@ pub record AreMatched (values : ArgMatches) (given : Options) : Type 0 where
   pub grow : given.grow ≡ first_value (found_of values) (codes "grow")
   pub replicators : given.replicators ≡ first_value (found_of values) (codes "replicators")
   pub idle : given.idle ≡ first_value (found_of values) (codes "idle")
+  pub dot : given.dot ≡ first_value (found_of values) (codes "dot")
 
 -- the options that matches hold
 abbrev pub options_of : ArgMatches → Options
@@ -49,10 +51,11 @@ options_of values = record {
   grow = first_value (found_of values) (codes "grow");
   replicators = first_value (found_of values) (codes "replicators");
   idle = first_value (found_of values) (codes "idle");
+  dot = first_value (found_of values) (codes "dot");
 }
 
 pub all_matched : (values : ArgMatches) → AreMatched values (options_of values)
-all_matched values = record { paced = refl; mark = refl; grow = refl; replicators = refl; idle = refl }
+all_matched values = record { paced = refl; mark = refl; grow = refl; replicators = refl; idle = refl; dot = refl }
 
 held_by_matches : (values : ArgMatches) (given : Options) → AreMatched values given → AreHeld (rows_of (found_of values)) given
 held_by_matches values given m =
@@ -62,11 +65,12 @@ held_by_matches values given m =
       grow = m.grow ∙ first_value-rows found (codes "grow");
       replicators = m.replicators ∙ first_value-rows found (codes "replicators");
       idle = m.idle ∙ first_value-rows found (codes "idle");
+      dot = m.dot ∙ first_value-rows found (codes "dot");
     }
 
 held_options : (rows : List Row) (given : Options) → AreHeld rows given → options_in rows ≡ given
 held_options rows given held =
-    sym (rw held.paced (rw held.mark (rw held.grow (rw held.replicators (rw held.idle refl)))))
+    sym (rw held.paced (rw held.mark (rw held.grow (rw held.replicators (rw held.idle (rw held.dot refl))))))
 
 -- what a file and options of the same matches hold
 from_values : (rows : List Row) (n : Text) (file : Option Text) (given : Options) → file ≡ first_of (codes "FILE") rows → AreHeld rows given

@@ -1,4 +1,4 @@
--- How counting what a dump has ends.
+-- How writing a text of a dump's graph ends.
 use Rattle.std.proofs.Common.{◌≡◌, ℕ, List, Option, Some, None, Result, Ok, Err, OnOk, OnErr, IfSome, refl, subst}
 use Rattle.std.specs.Io.KnownBytes.{Appends, Keeps}
 use Rattle.rh_text.specs.declared.output.Write.{Write}
@@ -11,7 +11,7 @@ use Rattle.rh_dump.specs.Dump.{GraphState}
 use Rattle.rh_dump.specs.texts.Putting.{Reads}
 use Rattle.rh_dump.specs.texts.Reading.{graph_of_text}
 use Rattle.rh_cli.specs.declared.fault.LineFault.TheVariants as faults
-use Rattle.rh_cli.specs.Count.{ConcludesCount, IsSentStatus, counts_line}
+use Rattle.rh_cli.specs.Count.{ConcludesDump, IsSentStatus}
 use Rattle.rh_cli.proofs.Flushed.{Appends-kept}
 
 -- what follows from what holds of all bytes that were known holds of them
@@ -24,23 +24,23 @@ pub fault_read : (error : DumpReadError) (fault : DumpFault) (input : List ℕ) 
 fault_read error fault input is read = subst (λ (e : DumpReadError). Reads (λ (x : GraphState). x) (Err e) input) is read
 
 -- such an input is told of
-pub uncounted_fault : (input : List ℕ) (fault : DumpFault) (a : Option (List ℕ)) → graph_of_text input ≡ Err fault → ConcludesCount input 1 a a
-uncounted_fault input fault a is = (Err (faults.Dump fault), (is, Keeps-same a), refl)
+pub uncounted_fault : (text : GraphState → List ℕ) (input : List ℕ) (fault : DumpFault) (a : Option (List ℕ)) → graph_of_text input ≡ Err fault → ConcludesDump text input 1 a a
+uncounted_fault text input fault a is = (Err (faults.Dump fault), (is, Keeps-same a), refl)
 
 -- a read failed
-pub uncounted_read : (input : List ℕ) (a : Option (List ℕ)) → ConcludesCount input 1 a a
-uncounted_read input a = (Err faults.Read, Keeps-same a, refl)
+pub uncounted_read : (text : GraphState → List ℕ) (input : List ℕ) (a : Option (List ℕ)) → ConcludesDump text input 1 a a
+uncounted_read text input a = (Err faults.Read, Keeps-same a, refl)
 
 -- memory was refused
-pub uncounted_memory : (input : List ℕ) (a : Option (List ℕ)) → ConcludesCount input 3 a a
-uncounted_memory input a = (Err faults.OutOfMemory, Keeps-same a, refl)
+pub uncounted_memory : (text : GraphState → List ℕ) (input : List ℕ) (a : Option (List ℕ)) → ConcludesDump text input 3 a a
+uncounted_memory text input a = (Err faults.OutOfMemory, Keeps-same a, refl)
 
--- the line of a graph was sent, or some of it, and flushed
-pub counted : (sent : Result (Unit {0}) Write) (status : ℕ) (g : GraphState) (text : List ℕ) (old mid new : Option (List ℕ)) → text ≡ counts_line g
-    → OnOk sent (Appends old mid text) → OnErr sent (AppendsLess old mid text) → Keeps mid new → IsSentStatus sent status
-    → (input : List ℕ) → graph_of_text input ≡ Ok g → ConcludesCount input status old new
-counted (Ok done) status g text old mid new is ok err kept ends input read =
-    (Ok done, (g, read, Appends-kept old mid new (counts_line g) (subst (Appends old mid) is ok) kept), ends)
-counted (Err error) status g text old mid new is ok err kept ends input read =
-    let less : AppendsLess old mid (counts_line g) = subst (AppendsLess old mid) is err in
+-- the text of a graph was sent, or some of it, and flushed
+pub counted : (text : GraphState → List ℕ) (sent : Result (Unit {0}) Write) (status : ℕ) (g : GraphState) (written : List ℕ) (old mid new : Option (List ℕ)) → written ≡ text g
+    → OnOk sent (Appends old mid written) → OnErr sent (AppendsLess old mid written) → Keeps mid new → IsSentStatus sent status
+    → (input : List ℕ) → graph_of_text input ≡ Ok g → ConcludesDump text input status old new
+counted text (Ok done) status g written old mid new is ok err kept ends input read =
+    (Ok done, (g, read, Appends-kept old mid new (text g) (subst (Appends old mid) is ok) kept), ends)
+counted text (Err error) status g written old mid new is ok err kept ends input read =
+    let less : AppendsLess old mid (text g) = subst (AppendsLess old mid) is err in
     (Err faults.Write, (g, read, (less.0, less.1, less.2, less.3, Appends-kept old mid new less.0 less.4 kept)), ends)

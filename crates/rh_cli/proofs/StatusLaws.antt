@@ -8,6 +8,7 @@ use Rattle.clap.specs.declared.error.kind.ErrorKind.TheVariants.{DisplayHelp, Di
 use Rattle.rh_dump.specs.Dump.{GraphState}
 use Rattle.rh_dump.specs.declared.reading.fault.DumpFault.{DumpFault}
 use Rattle.rh_dump.specs.texts.Reading.{graph_of_text}
+use Rattle.rh_dot.specs.Dot.{dot_text}
 use Rattle.rh_layout.specs.declared.command.Reply.{Reply}
 use Rattle.rh_layout.specs.declared.refusal.Refusal.{Refusal}
 use Rattle.rh_replay.specs.declared.checking.Verdict.{Verdict}
@@ -21,7 +22,7 @@ use Rattle.rh_trace.specs.Run.{Ends, StopsBeforeTotal, run_of, text_of}
 use Rattle.rh_trace.specs.declared.run_fault.RunFault.{RunFault}
 use Rattle.rh_trace.specs.declared.run_fault.RunFault.TheVariants as run_faults
 use Rattle.rh_trace.specs.declared.summary.Summary.{Summary}
-use Rattle.rh_cli.specs.Count.{CountEnds, IsCountStatus, counts_line}
+use Rattle.rh_cli.specs.Count.{DumpEnds, IsCountStatus, counts_line}
 use Rattle.rh_cli.specs.Drive.{Concludes, IsRunStatus, run_status}
 use Rattle.rh_cli.specs.Fault.{arguments_status, ending_status, status_of, IsLateStatus}
 use Rattle.rh_syntax.specs.Spelling.{Script}
@@ -34,7 +35,7 @@ use Rattle.rh_paced_trace.specs.declared.fault.PacedFault.TheVariants as paced_f
 use Rattle.rh_cli.proofs.SharedStatuses.{shared_is_0_1_3_or_4, shared_is_4}
 use Rattle.rh_cli.specs.Replay.{IsJudged, IsReplayStatus, ReplayEnds}
 use Rattle.rh_cli.specs.declared.ask.Subcommand.{Subcommand}
-use Rattle.rh_cli.specs.declared.ask.Subcommand.TheVariants.{Run, RunPaced, RunGrowing, Threads, Replay, Dump}
+use Rattle.rh_cli.specs.declared.ask.Subcommand.TheVariants.{Run, RunPaced, RunGrowing, Threads, Replay, Dump, Dot}
 use Rattle.rh_cli.specs.declared.ending.Ending.{Ending}
 use Rattle.rh_cli.specs.declared.ending.Ending.TheVariants.{Done, WrongHistory}
 use Rattle.rh_cli.specs.declared.fault.LineFault.{LineFault}
@@ -286,38 +287,38 @@ replay_is_0_1_3_or_4 input (Ok (Wrong at expected)) status old new ends (inr is)
 replay_is_0_1_3_or_4 input (Err fault) status old new ends is =
     elim (replay_fault_is_1_or_3 input fault old new ends) [ inl one ↦ inr (inl (is ∙ one)) | inr three ↦ inr (inr (is ∙ three)) ]
 
--- counting ends with no other fault than those that come once the command line is understood
-count_fault_is_1_or_3 : (input : List ℕ) (fault : LineFault) (old new : Option (List ℕ)) → CountEnds input (Err fault) old new → (status_of fault ≡ 1) ⊎ (status_of fault ≡ 3)
-count_fault_is_1_or_3 input faults.Write old new ends = inl refl
-count_fault_is_1_or_3 input (faults.Dump fault) old new ends = inl refl
-count_fault_is_1_or_3 input faults.Read old new ends = inl refl
-count_fault_is_1_or_3 input faults.OutOfMemory old new ends = inr refl
-count_fault_is_1_or_3 input fault old new ends = absurd ends
+-- writing a text of a dump ends with no other fault than those that come once the command line is understood
+count_fault_is_1_or_3 : (text : GraphState → List ℕ) (input : List ℕ) (fault : LineFault) (old new : Option (List ℕ)) → DumpEnds text input (Err fault) old new → (status_of fault ≡ 1) ⊎ (status_of fault ≡ 3)
+count_fault_is_1_or_3 text input faults.Write old new ends = inl refl
+count_fault_is_1_or_3 text input (faults.Dump fault) old new ends = inl refl
+count_fault_is_1_or_3 text input faults.Read old new ends = inl refl
+count_fault_is_1_or_3 text input faults.OutOfMemory old new ends = inr refl
+count_fault_is_1_or_3 text input fault old new ends = absurd ends
 
-count_memory_keeps : (input : List ℕ) (fault : LineFault) (old new : Option (List ℕ)) → CountEnds input (Err fault) old new → status_of fault ≡ 3 → Keeps old new
-count_memory_keeps input faults.Write old new ends is = absurd (omega (arith, is))
-count_memory_keeps input (faults.Dump fault) old new ends is = absurd (omega (arith, is))
-count_memory_keeps input faults.Read old new ends is = ends
-count_memory_keeps input faults.OutOfMemory old new ends is = ends
-count_memory_keeps input fault old new ends is = absurd ends
+count_memory_keeps : (text : GraphState → List ℕ) (input : List ℕ) (fault : LineFault) (old new : Option (List ℕ)) → DumpEnds text input (Err fault) old new → status_of fault ≡ 3 → Keeps old new
+count_memory_keeps text input faults.Write old new ends is = absurd (omega (arith, is))
+count_memory_keeps text input (faults.Dump fault) old new ends is = absurd (omega (arith, is))
+count_memory_keeps text input faults.Read old new ends is = ends
+count_memory_keeps text input faults.OutOfMemory old new ends is = ends
+count_memory_keeps text input fault old new ends is = absurd ends
 
-count_is_0 : (input : List ℕ) (outcome : Result (Unit {0}) LineFault) (old new : Option (List ℕ)) → CountEnds input outcome old new → IsCountStatus outcome 0
-    → (g : GraphState) × (graph_of_text input ≡ Ok g) × Appends old new (counts_line g)
-count_is_0 input (Ok done) old new ends is = ends
-count_is_0 input (Err fault) old new ends is =
-    elim (count_fault_is_1_or_3 input fault old new ends) [ inl one ↦ absurd (omega (arith, is, one)) | inr three ↦ absurd (omega (arith, is, three)) ]
+count_is_0 : (text : GraphState → List ℕ) (input : List ℕ) (outcome : Result (Unit {0}) LineFault) (old new : Option (List ℕ)) → DumpEnds text input outcome old new → IsCountStatus outcome 0
+    → (g : GraphState) × (graph_of_text input ≡ Ok g) × Appends old new (text g)
+count_is_0 text input (Ok done) old new ends is = ends
+count_is_0 text input (Err fault) old new ends is =
+    elim (count_fault_is_1_or_3 text input fault old new ends) [ inl one ↦ absurd (omega (arith, is, one)) | inr three ↦ absurd (omega (arith, is, three)) ]
 
-count_is_3 : (input : List ℕ) (outcome : Result (Unit {0}) LineFault) (old new : Option (List ℕ)) → CountEnds input outcome old new → IsCountStatus outcome 3 → Keeps old new
-count_is_3 input (Ok done) old new ends (inl is) = absurd (omega (arith, is))
-count_is_3 input (Ok done) old new ends (inr is) = absurd (omega (arith, is))
-count_is_3 input (Err fault) old new ends is = count_memory_keeps input fault old new ends (sym is)
+count_is_3 : (text : GraphState → List ℕ) (input : List ℕ) (outcome : Result (Unit {0}) LineFault) (old new : Option (List ℕ)) → DumpEnds text input outcome old new → IsCountStatus outcome 3 → Keeps old new
+count_is_3 text input (Ok done) old new ends (inl is) = absurd (omega (arith, is))
+count_is_3 text input (Ok done) old new ends (inr is) = absurd (omega (arith, is))
+count_is_3 text input (Err fault) old new ends is = count_memory_keeps text input fault old new ends (sym is)
 
-count_is_0_1_or_3 : (input : List ℕ) (outcome : Result (Unit {0}) LineFault) (status : ℕ) (old new : Option (List ℕ)) → CountEnds input outcome old new → IsCountStatus outcome status
+count_is_0_1_or_3 : (text : GraphState → List ℕ) (input : List ℕ) (outcome : Result (Unit {0}) LineFault) (status : ℕ) (old new : Option (List ℕ)) → DumpEnds text input outcome old new → IsCountStatus outcome status
     → (status ≡ 0) ⊎ ((status ≡ 1) ⊎ (status ≡ 3))
-count_is_0_1_or_3 input (Ok done) status old new ends (inl is) = inl is
-count_is_0_1_or_3 input (Ok done) status old new ends (inr is) = inr (inl is)
-count_is_0_1_or_3 input (Err fault) status old new ends is =
-    elim (count_fault_is_1_or_3 input fault old new ends) [ inl one ↦ inr (inl (is ∙ one)) | inr three ↦ inr (inr (is ∙ three)) ]
+count_is_0_1_or_3 text input (Ok done) status old new ends (inl is) = inl is
+count_is_0_1_or_3 text input (Ok done) status old new ends (inr is) = inr (inl is)
+count_is_0_1_or_3 text input (Err fault) status old new ends is =
+    elim (count_fault_is_1_or_3 text input fault old new ends) [ inl one ↦ inr (inl (is ∙ one)) | inr three ↦ inr (inr (is ∙ three)) ]
 
 -- none of these is 2 or 4
 not_2_or_4 : (status n : ℕ) → (n ≡ 2) ⊎ (n ≡ 4) → (status ≡ 0) ⊎ ((status ≡ 1) ⊎ (status ≡ 3)) → status ≡ n → ⊥
@@ -346,7 +347,8 @@ concludes_late (RunPaced mark) input status old new c = late_of_three status (pa
 concludes_late (RunGrowing at_most) input status old new c = late_of_three status (paced_is_0_1_or_3 c.0 status c.2)
 concludes_late (Threads replicators idle) input status old new c = late_of_four status (shared_is_0_1_3_or_4 c.0 status c.2)
 concludes_late Replay input status old new c = late_of_four status (replay_is_0_1_3_or_4 input c.0 status old new c.1 c.2)
-concludes_late Dump input status old new c = late_of_three status (count_is_0_1_or_3 input c.0 status old new c.1 c.2)
+concludes_late Dump input status old new c = late_of_three status (count_is_0_1_or_3 counts_line input c.0 status old new c.1 c.2)
+concludes_late Dot input status old new c = late_of_three status (count_is_0_1_or_3 dot_text input c.0 status old new c.1 c.2)
 
 pub concludes_run_0 : (input : List ℕ) (old new : Option (List ℕ)) → Concludes Run input 0 old new → (run : List ℕ × Summary) × (run_of input ≡ Ok run) × Appends old new run.0
 concludes_run_0 input old new c = run_is_0 (run_of input) c.0 old new c.1 c.2
@@ -356,7 +358,10 @@ pub concludes_replay_0 : (input : List ℕ) (old new : Option (List ℕ)) → Co
 concludes_replay_0 input old new c = replay_is_0 input c.0 old new c.1 c.2
 
 pub concludes_dump_0 : (input : List ℕ) (old new : Option (List ℕ)) → Concludes Dump input 0 old new → (g : GraphState) × (graph_of_text input ≡ Ok g) × Appends old new (counts_line g)
-concludes_dump_0 input old new c = count_is_0 input c.0 old new c.1 c.2
+concludes_dump_0 input old new c = count_is_0 counts_line input c.0 old new c.1 c.2
+
+pub concludes_dot_0 : (input : List ℕ) (old new : Option (List ℕ)) → Concludes Dot input 0 old new → (g : GraphState) × (graph_of_text input ≡ Ok g) × Appends old new (dot_text g)
+concludes_dot_0 input old new c = count_is_0 dot_text input c.0 old new c.1 c.2
 
 pub concludes_run_3 : (input : List ℕ) (old new : Option (List ℕ)) → Concludes Run input 3 old new → StopsBeforeTotal (run_of input) old new
 concludes_run_3 input old new c = run_is_3 (run_of input) c.0 old new c.1 c.2
@@ -365,7 +370,10 @@ pub concludes_replay_3 : (input : List ℕ) (old new : Option (List ℕ)) → Co
 concludes_replay_3 input old new c = replay_is_3 input c.0 old new c.1 c.2
 
 pub concludes_dump_3 : (input : List ℕ) (old new : Option (List ℕ)) → Concludes Dump input 3 old new → Keeps old new
-concludes_dump_3 input old new c = count_is_3 input c.0 old new c.1 c.2
+concludes_dump_3 input old new c = count_is_3 counts_line input c.0 old new c.1 c.2
+
+pub concludes_dot_3 : (input : List ℕ) (old new : Option (List ℕ)) → Concludes Dot input 3 old new → Keeps old new
+concludes_dot_3 input old new c = count_is_3 dot_text input c.0 old new c.1 c.2
 
 pub concludes_4 : (subcommand : Subcommand) (input : List ℕ) (old new : Option (List ℕ)) → Concludes subcommand input 4 old new
     → ((subcommand ≡ Replay) × ((h : HistoryState) × (at : ℕ) × (expected : Result Reply Refusal) × IsJudged input h (Wrong at expected) × Appends old new (report_text h (Wrong at expected))))
@@ -376,19 +384,23 @@ concludes_4 (RunGrowing at_most) input old new c = absurd (not_2_or_4 4 4 (inr r
 concludes_4 (Threads replicators idle) input old new c =
     inr (replicators, idle, refl, shared_is_4 (record { replicators = replicators; idle = idle }) input c.0 old new c.1 c.2)
 concludes_4 Replay input old new c = inl (refl, replay_is_4 input c.0 old new c.1 c.2)
-concludes_4 Dump input old new c = absurd (not_2_or_4 4 4 (inr refl) (count_is_0_1_or_3 input c.0 4 old new c.1 c.2) refl)
+concludes_4 Dump input old new c = absurd (not_2_or_4 4 4 (inr refl) (count_is_0_1_or_3 counts_line input c.0 4 old new c.1 c.2) refl)
+concludes_4 Dot input old new c = absurd (not_2_or_4 4 4 (inr refl) (count_is_0_1_or_3 dot_text input c.0 4 old new c.1 c.2) refl)
 
 pub concludes_run_fault : (input : List ℕ) (fault : RunFault) (status : ℕ) (old new : Option (List ℕ)) → run_of input ≡ Err fault → Concludes Run input status old new → (status ≡ 1) ⊎ (status ≡ 3)
 concludes_run_fault input fault status old new is c = run_of_fault (run_of input) fault c.0 status old new is c.1 c.2
 
-count_of_fault : (input : List ℕ) (fault : DumpFault) (outcome : Result (Unit {0}) LineFault) (status : ℕ) (old new : Option (List ℕ)) → graph_of_text input ≡ Err fault
-    → CountEnds input outcome old new → IsCountStatus outcome status → (status ≡ 1) ⊎ (status ≡ 3)
-count_of_fault input fault (Ok done) status old new is ends own = absurd (let read = ends.1 in cc)
-count_of_fault input fault (Err other) status old new is ends own =
-    elim (count_fault_is_1_or_3 input other old new ends) [ inl one ↦ inl (own ∙ one) | inr three ↦ inr (own ∙ three) ]
+count_of_fault : (text : GraphState → List ℕ) (input : List ℕ) (fault : DumpFault) (outcome : Result (Unit {0}) LineFault) (status : ℕ) (old new : Option (List ℕ)) → graph_of_text input ≡ Err fault
+    → DumpEnds text input outcome old new → IsCountStatus outcome status → (status ≡ 1) ⊎ (status ≡ 3)
+count_of_fault text input fault (Ok done) status old new is ends own = absurd (let read = ends.1 in cc)
+count_of_fault text input fault (Err other) status old new is ends own =
+    elim (count_fault_is_1_or_3 text input other old new ends) [ inl one ↦ inl (own ∙ one) | inr three ↦ inr (own ∙ three) ]
 
 pub concludes_dump_fault : (input : List ℕ) (fault : DumpFault) (status : ℕ) (old new : Option (List ℕ)) → graph_of_text input ≡ Err fault → Concludes Dump input status old new → (status ≡ 1) ⊎ (status ≡ 3)
-concludes_dump_fault input fault status old new is c = count_of_fault input fault c.0 status old new is c.1 c.2
+concludes_dump_fault input fault status old new is c = count_of_fault counts_line input fault c.0 status old new is c.1 c.2
+
+pub concludes_dot_fault : (input : List ℕ) (fault : DumpFault) (status : ℕ) (old new : Option (List ℕ)) → graph_of_text input ≡ Err fault → Concludes Dot input status old new → (status ≡ 1) ⊎ (status ≡ 3)
+concludes_dot_fault input fault status old new is c = count_of_fault dot_text input fault c.0 status old new is c.1 c.2
 
 history_of_fault : (input : List ℕ) (fault : HistoryFault) (outcome : Result Verdict LineFault) (status : ℕ) (old new : Option (List ℕ)) → history_of input ≡ Err fault
     → ReplayEnds input outcome old new → IsReplayStatus outcome status → (status ≡ 1) ⊎ (status ≡ 3)

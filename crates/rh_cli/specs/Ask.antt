@@ -5,7 +5,7 @@ use Rattle.rh_text.specs.Number.{number_of}
 use Rattle.clap.specs.declared.builder.action.ArgAction.TheVariants.{SetTrue}
 use Rattle.clap.specs.Words.{App, Kinds, Row, Rule, Text, new_app, new_rule, with_rule, with_subcommand, subcommand_of, fault_of, first_of, takes}
 use Rattle.rh_cli.specs.declared.ask.Subcommand.{Subcommand}
-use Rattle.rh_cli.specs.declared.ask.Subcommand.TheVariants.{Run, RunPaced, RunGrowing, Threads, Replay, Dump}
+use Rattle.rh_cli.specs.declared.ask.Subcommand.TheVariants.{Run, RunPaced, RunGrowing, Threads, Replay, Dump, Dot}
 use Rattle.rh_cli.specs.declared.ask.Ask.{Ask}
 use Rattle.rh_cli.specs.declared.fault.LineFault.{LineFault}
 use Rattle.rh_cli.specs.declared.fault.LineFault.TheVariants as faults
@@ -47,6 +47,14 @@ idle_rule = record (new_rule (codes "idle")) { long = Some (codes "idle"); value
 abbrev pub threads_app : App
 threads_app = with_rule (with_rule (file_app (codes "threads")) replicators_rule) idle_rule
 
+-- the option of `dump`, a flag
+abbrev pub dot_rule : Rule
+dot_rule = record (new_rule (codes "dot")) { long = Some (codes "dot"); action = Some SetTrue }
+
+-- the command `dump`: a file, and this option
+abbrev pub dump_app : App
+dump_app = with_rule (file_app (codes "dump")) dot_rule
+
 -- the program: a version, and a command that is required
 abbrev pub rheap_top : App
 rheap_top =
@@ -59,7 +67,7 @@ rheap_app =
     let with_run = with_subcommand rheap_top run_app.top
     in let with_threads = with_subcommand with_run threads_app.top
     in let with_replay = with_subcommand with_threads (file_app (codes "replay")).top
-    in with_subcommand with_replay (file_app (codes "dump")).top
+    in with_subcommand with_replay dump_app.top
 
 -- whether the value of the flag says that it was set
 abbrev pub is_set : Option Text → Bool
@@ -122,6 +130,12 @@ pub record Options : Type 0 where
   pub grow : Option Text
   pub replicators : Option Text
   pub idle : Option Text
+  pub dot : Option Text
+
+-- what is written of a dump: its graph for Graphviz where that is asked, and else its counts
+abbrev pub dump_asked : Bool → Subcommand
+dump_asked false = Dump
+dump_asked true = Dot
 
 -- the command of this name with its options, of those that are given
 abbrev pub command_named : Text → Options → Result Subcommand LineFault
@@ -130,7 +144,8 @@ command_named name given =
     then run_given (is_set given.paced) given.mark given.grow
     else (if bytes_eq name (codes "threads") then threads_asked given.replicators given.idle
     else (if bytes_eq name (codes "replay") then Ok Replay
-    else (if bytes_eq name (codes "dump") then Ok Dump else Err faults.Incomplete)))
+    else (if bytes_eq name (codes "dump") then Ok (dump_asked (is_set given.dot))
+    else Err faults.Incomplete)))
 
 -- a command with its file, or what is missing
 abbrev pub with_file : Result Subcommand LineFault → Option Text → Result (Subcommand × Text) LineFault
@@ -146,6 +161,7 @@ options_in rows = record {
   grow = first_of (codes "grow") rows;
   replicators = first_of (codes "replicators") rows;
   idle = first_of (codes "idle") rows;
+  dot = first_of (codes "dot") rows;
 }
 
 -- the command and the file that a parse holds: the command that it found, with its options, and the

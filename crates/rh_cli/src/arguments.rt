@@ -3,7 +3,7 @@
 ghost use Rattle.std.specs.Prelude.{◌≡◌, ◌≢◌, ◌⊎◌, [], map, option_map, false, Ok, Err, IsTrue, IfOk, IfErr, codes};
 ghost use Rattle.clap.specs.declared.builder.command.Command.TheViews.{out-Command as fields_of};
 ghost use Rattle.clap.specs.Words.{kind_of, app_of, subcommand_rows_of};
-ghost use Rattle.rh_cli.specs.Ask.{command_and_file, command_and_file_in, command_and_file_of, command_named, error_kinds, file_app, growing_asked, marked_app, number_within, run_app, run_given, rheap_app, is_set, is_taken, run_asked, threads_app, threads_asked};
+ghost use Rattle.rh_cli.specs.Ask.{command_and_file, command_and_file_in, command_and_file_of, command_named, error_kinds, dump_app, dump_asked, file_app, growing_asked, marked_app, number_within, run_app, run_given, rheap_app, is_set, is_taken, run_asked, threads_app, threads_asked};
 ghost use Rattle.rh_cli.specs.Fault.{IsArgumentsFault, IsClapFault};
 ghost use Rattle.rh_cli.specs.declared.ask.Ask.{Ask};
 
@@ -31,6 +31,7 @@ struct Options<'a> {
     grow: Option<&'a str>,
     replicators: Option<&'a str>,
     idle: Option<&'a str>,
+    dot: Option<&'a str>,
 }
 
 /// The command line as clap knows it.
@@ -106,11 +107,15 @@ fn replay_command<'a>(alloc: Global) -> Result<Command<'a>, AllocError>
 
 /// The command `dump` as clap knows it.
 fn dump_command<'a>(alloc: Global) -> Result<Command<'a>, AllocError>
-    ensures app { IfOk result (λ command. app_of command ≡ file_app (codes "dump")) }
+    ensures app { IfOk result (λ command. app_of command ≡ dump_app) }
     ensures local { IfOk result (λ command. (fields_of command).has_globals ≡ false) }
 {
     let about = "Reads a dump, and prints how many roots and objects it has";
-    file_command(alloc, "dump", about, help::DUMP)
+    let dot = Arg::new(alloc, "dot")
+        .long("dot")
+        .action(ArgAction::SetTrue)
+        .help("Prints its graph instead, as a text for Graphviz");
+    file_command(alloc, "dump", about, help::DUMP)?.arg(dot)
 }
 
 /// The command of this name, which takes a file, as clap knows it.
@@ -212,6 +217,7 @@ fn ask_of<'a>(matches: &ArgMatches<'a>) -> Result<Ask<'a>, LineFault>
         grow: values.get_str("grow"),
         replicators: values.get_str("replicators"),
         idle: values.get_str("idle"),
+        dot: values.get_str("dot"),
     };
     let subcommand = command_named(name, options)?;
     Ok(Ask { subcommand, file })
@@ -235,6 +241,7 @@ fn command_named(name: &str, given: Options<'_>) -> Result<Subcommand, LineFault
       grow = option_map (λ t. t.now) given.entry.grow;
       replicators = option_map (λ t. t.now) given.entry.replicators;
       idle = option_map (λ t. t.now) given.entry.idle;
+      dot = option_map (λ t. t.now) given.entry.dot;
     }) }
     ensures kinds { IfErr result (λ fault. IsArgumentsFault fault) }
 {
@@ -248,9 +255,20 @@ fn command_named(name: &str, given: Options<'_>) -> Result<Subcommand, LineFault
         return Ok(Subcommand::Replay);
     }
     if name == "dump" {
-        return Ok(Subcommand::Dump);
+        return Ok(dump_asked(is_set(given.dot)));
     }
     Err(LineFault::Incomplete)
+}
+
+/// What is written of a dump: its graph for Graphviz where that is asked, and else its counts.
+fn dump_asked(dot: bool) -> Subcommand
+    ensures { result ≡ dump_asked dot }
+{
+    if dot {
+        Subcommand::Dot
+    } else {
+        Subcommand::Dump
+    }
 }
 
 /// The run that is asked for. A mark is for paced runs alone.

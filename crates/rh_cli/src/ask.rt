@@ -27,6 +27,8 @@ pub enum Subcommand {
     Replay,
     /// Count what the dump in it has.
     Dump,
+    /// Write the graph that the dump in it has as a text for Graphviz.
+    Dot,
 }
 
 /// A command line that was understood.

@@ -58,10 +58,10 @@ fn write_counts<A: Allocator, O: Write>(graph: &Graph<A>, out: &mut O) -> Result
     conclude(sent, flushed.is_ok())
 }
 
-/// What the line and the flush after it come to.
-fn conclude(sent: Result<(), Unsent>, flushed: bool) -> Result<Ending, LineFault>
+/// What a text that was sent and the flush after it come to.
+pub(crate) fn conclude(sent: Result<(), Unsent>, flushed: bool) -> Result<Ending, LineFault>
     ensures status { IsSentStatus sent (status_after result) }
-    // The status is 0 exactly where the line was written and flushed.
+    // The status is 0 exactly where the text was written and flushed.
     ensures done { (status_after result ≡ 0) ↔ (IsOk sent × IsTrue flushed) }
     ensures late { IfErr result (λ fault. IsUsualFault fault) }
 {

@@ -11,6 +11,7 @@ use crate::ask::{Ask, Subcommand};
 use crate::counting::count;
 use crate::ending::Ending;
 use crate::fault::LineFault;
+use crate::graphing::print_graph;
 use crate::pacing::{run_by_growth, run_by_mark};
 use crate::replaying::replay;
 use crate::running::run;
@@ -91,6 +92,7 @@ where
         }
         Subcommand::Replay => replay(alloc, reader, out),
         Subcommand::Dump => count(alloc, reader, out),
+        Subcommand::Dot => print_graph(alloc, reader, out),
     }
 }
 

@@ -71,8 +71,8 @@ pub enum LineFault {
     /// history, 536,870,912 of a dump.
     #[error("rheap: read failed")]
     Read,
-    /// A write failed or took no byte, 33,554,432 writes of one line, or of a part of a dump's,
-    /// didn't come to its end, or the last flush failed.
+    /// A write failed or took no byte, 33,554,432 writes of one line, or of a part of a dump's or
+    /// of a text for Graphviz, didn't come to its end, or the last flush failed.
     #[error("rheap: write failed")]
     Write,
     /// The trace or the history has more than 16,777,216 bytes.

@@ -56,8 +56,8 @@ that isn't from -2^61 to 2^61 - 1 is refused IntRange. FIELD, from 0, FIELDS, MO
 `idle` and `tickets`, the WORDS of `resize` and T are 0 to 4294967295; an object of more than 4095
 FIELDS is refused FieldsRange. A number has no leading zero and no +, and -0 is none. TRAY is a
 letter a to z and at most 15 of a to z, 0 to 9 and _. What can't be done is answered `refused NAME`,
-changes nothing, and the run goes on. Two heaps are the same graph exactly where their dumps are the same text: cut them
-out, from `rheap 2` to `end`, and use cmp.
+changes nothing, and the run goes on. Two heaps are the same graph exactly where their dumps are the
+same text: cut them out, from `rheap 2` to `end`, and use cmp.
 
 With --paced the heap collects by itself, an increment of a cycle after each accepted allocation,
 and in a cycle after each accepted store. The trace has commands alone: once it has been read any
@@ -207,6 +207,10 @@ A dump is what the roots of a heap reach, as `dump` in a trace prints it:
 
 VALUE is nil (in objects alone), a whole number, or @K. What `run` prints has other answers around
 it: cut out the lines from `rheap 2` to `end`. What this command prints is no dump.
+
+With --dot the graph is printed in place of its counts, as a text for Graphviz, which draws it by
+`rheap dump FILE --dot | dot -Tsvg >FILE.svg`: roots are boxes at the left, objects are tables of
+their fields, raw ones with round corners, and each reference is an arrow.
 
 On failure standard error has one line, as `rheap: line 3: Order`, or `rheap: open failed`; the
 others are read failed, write failed and out of memory, as `rheap run --help` tells them. Where the

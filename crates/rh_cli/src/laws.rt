@@ -11,6 +11,7 @@ ghost use Rattle.rh_dump.specs.declared.reading.due.Version.TheVariants.{One};
 ghost use Rattle.rh_dump.specs.declared.reading.fault.DumpFault.{DumpFault as DumpFaultOf};
 ghost use Rattle.rh_dump.specs.texts.Line.{dump_text, text_in};
 ghost use Rattle.rh_dump.specs.texts.Reading.{graph_of_text};
+ghost use Rattle.rh_dot.specs.Dot.{dot_text};
 ghost use Rattle.rh_layout.specs.declared.command.Reply.{Reply};
 ghost use Rattle.rh_layout.specs.declared.refusal.Refusal.{Refusal};
 ghost use Rattle.rh_replay.specs.declared.checking.Verdict.{Verdict as VerdictOf};
@@ -54,7 +55,8 @@ use std::alloc::Global;
 
 /// 0 says that all was done: a run answered its whole trace, a paced run its whole trace of
 /// commands at its pace, a growing run its whole trace of commands, the history of one in threads
-/// is written, a history is legal and its report is written, or the counts of a dump's graph are.
+/// is written, a history is legal and its report is written, or the counts of a dump's graph are,
+/// or its text for Graphviz.
 pub fn status_0_says_done()
     ensures run { (input : List ℕ) (old new : Option (List ℕ))
         → Concludes SubcommandOf.Run input 0 old new
@@ -79,6 +81,9 @@ pub fn status_0_says_done()
     ensures dump { (input : List ℕ) (old new : Option (List ℕ))
         → Concludes SubcommandOf.Dump input 0 old new
         → (g : GraphState) × (graph_of_text input ≡ Ok g) × Appends old new (counts_line g) }
+    ensures dot { (input : List ℕ) (old new : Option (List ℕ))
+        → Concludes SubcommandOf.Dot input 0 old new
+        → (g : GraphState) × (graph_of_text input ≡ Ok g) × Appends old new (dot_text g) }
     ensures ending { (ending : EndingOf) → (ending_status ending ≡ 0) ↔ (ending ≡ EndingOf.Done) }
     // No fault has 0, but help and the version, which clap tells as errors.
     ensures fault { (fault : FaultOf) → status_of fault ≡ 0
@@ -112,6 +117,9 @@ pub fn a_faulty_input_ends_with_1_or_3()
     ensures dump { (input : List ℕ) (fault : DumpFaultOf) (status : ℕ)
         (old new : Option (List ℕ)) → graph_of_text input ≡ Err fault
         → Concludes SubcommandOf.Dump input status old new → (status ≡ 1) ⊎ (status ≡ 3) }
+    ensures dot { (input : List ℕ) (fault : DumpFaultOf) (status : ℕ)
+        (old new : Option (List ℕ)) → graph_of_text input ≡ Err fault
+        → Concludes SubcommandOf.Dot input status old new → (status ≡ 1) ⊎ (status ≡ 3) }
 {}
 
 /// 2 says that the command line isn't understood: no subcommand ends with it, and no fault but one
@@ -139,8 +147,8 @@ pub fn status_2_says_that_the_command_line_is_not_understood()
 {}
 
 /// 3 says that memory was refused, or a thread, and no other fault has it: a run has then written
-/// nothing of its total line, and a paced or a growing run, one in threads, a check and a count
-/// nothing at all.
+/// nothing of its total line, and a paced or a growing run, one in threads, a check, a count and a
+/// text for Graphviz nothing at all.
 pub fn status_3_says_want_of_memory()
     ensures fault { (fault : FaultOf) → (status_of fault ≡ 3) ↔ (fault ≡ FaultOf.OutOfMemory) }
     ensures run_fault { (fault : RunFaultOf)
@@ -159,6 +167,8 @@ pub fn status_3_says_want_of_memory()
         → Concludes SubcommandOf.Replay input 3 old new → Keeps old new }
     ensures dump { (input : List ℕ) (old new : Option (List ℕ))
         → Concludes SubcommandOf.Dump input 3 old new → Keeps old new }
+    ensures dot { (input : List ℕ) (old new : Option (List ℕ))
+        → Concludes SubcommandOf.Dot input 3 old new → Keeps old new }
 {}
 
 /// 4 says that a history is wrong, and that the whole report on it is written; or, of a run in
@@ -190,6 +200,13 @@ pub fn worked_command_lines()
         ≡ Ok (SubcommandOf.Replay, codes "x") }
     ensures dump { command_and_file_of (codes "rheap" ∷ codes "dump" ∷ codes "x" ∷ [])
         ≡ Ok (SubcommandOf.Dump, codes "x") }
+    ensures dot { command_and_file_of
+        (codes "rheap" ∷ codes "dump" ∷ codes "--dot" ∷ codes "x" ∷ [])
+        ≡ Ok (SubcommandOf.Dot, codes "x") }
+    ensures dot_run { false
+        ≡ is_taken (codes "rheap" ∷ codes "run" ∷ codes "x" ∷ codes "--dot" ∷ []) }
+    ensures dot_twice { false ≡ is_taken (codes "rheap" ∷ codes "dump" ∷ codes "x"
+        ∷ codes "--dot" ∷ codes "--dot" ∷ []) }
     ensures input { command_and_file_of (codes "rheap" ∷ codes "run" ∷ codes "-" ∷ [])
         ≡ Ok (SubcommandOf.Run, codes "-") }
     ensures paced { command_and_file_of

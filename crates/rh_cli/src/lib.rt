@@ -7,6 +7,7 @@ mod counting;
 mod driving;
 mod ending;
 mod fault;
+mod graphing;
 mod help;
 pub mod laws;
 mod pacing;

@@ -37,6 +37,11 @@ pub const DUMP: Ask<'static> = Ask {
     file: "-",
 };
 
+pub const DOT: Ask<'static> = Ask {
+    subcommand: Subcommand::Dot,
+    file: "-",
+};
+
 /// Does with the text what is asked, and compares the status and what is written to both writers.
 pub fn drives_to<R: AllocGlobal + Abort + Threads + Wait + Sync>(
     rt: &R,

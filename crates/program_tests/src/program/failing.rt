@@ -3,7 +3,7 @@
 
 use crate::devices::{Broken, SlowReader, SlowWriter, Unflushed};
 use crate::expectations::{Row, expect_bytes, expect_equal, expect_prefix, expect_refusals};
-use crate::program::driving::{DUMP, PACED, REPLAY, RUN, THREADS, is_refused};
+use crate::program::driving::{DOT, DUMP, PACED, REPLAY, RUN, THREADS, is_refused};
 use crate::texts::{
     JOINED, JOINED_ANSWERS, RIGHT, RIGHT_REPORT, STORED, STORED_HISTORY, TWO_FLIPS,
     TWO_FLIPS_ANSWERS, WHOLE_CYCLE, WHOLE_CYCLE_ANSWERS, WITHOUT_FIELDS, WITHOUT_FIELDS_ANSWERS,
@@ -60,6 +60,14 @@ const ITSELF: &[u8] = b"rheap 1\nroots 1\n1.0 @0\nobjects 1\n@0 1 @0\nend\n";
 const BESIDE_RAW: &[u8] =
     b"rheap 2\nroots 2\n0.3 @0\n1.0 -7\nobjects 2\n@0 4 @1 nil @0 5\n@1 raw 2 5 nil\nend\n";
 
+/// The second of these as a text for Graphviz.
+const BESIDE_RAW_GRAPH: &[u8] = b"digraph rheap { rankdir=LR\n\
+{ rank=source \"0.3\" [shape=box label=\"0.3 @0\"] }\n\"0.3\" -> \"@0\"\n\
+{ rank=source \"1.0\" [shape=box label=\"1.0 -7\"] }\n\
+\"@0\" [shape=record label=\"@0|<0>@1|<1>nil|<2>@0|<3>5\"]\n\
+\"@0\":0 -> \"@1\"\n\"@0\":2 -> \"@0\"\n\
+\"@1\" [shape=Mrecord label=\"@1|<0>5|<1>nil\"]\n}\n";
+
 /// What is asked, of which text, the status, and what is written.
 const PLAYED: &[(Ask<'static>, &[u8], u8, &[u8])] = &[
     (RUN, WITHOUT_FIELDS, 0, WITHOUT_FIELDS_ANSWERS),
@@ -75,6 +83,7 @@ const PLAYED: &[(Ask<'static>, &[u8], u8, &[u8])] = &[
     (REPLAY, WRONG, 4, WRONG_REPORT),
     (DUMP, ITSELF, 0, b"roots 1 objects 1\n"),
     (DUMP, BESIDE_RAW, 0, b"roots 2 objects 2\n"),
+    (DOT, BESIDE_RAW, 0, BESIDE_RAW_GRAPH),
 ];
 
 /// Does what is asked with a text that comes a byte a time, where the reads and writes fail that
@@ -158,7 +167,7 @@ fn devices_that_fail(rt: HostRuntime) {
         expect_bytes(&rt, &err, b"rheap: write failed\n");
         failed = failed.saturating_add(1);
     }
-    expect_equal(&rt, failed, 13);
+    expect_equal(&rt, failed, 14);
 }
 
 /// The first eight reads of a text that comes a byte a time, and the two after its last byte.
@@ -182,7 +191,7 @@ fn first_and_last_reads_fail(rt: HostRuntime) {
             failed = failed.saturating_add(1);
         }
     }
-    expect_equal(&rt, failed, 130);
+    expect_equal(&rt, failed, 140);
 }
 
 /// What is asked, of which text, what is wrong with it where it is cut: before its first byte,
@@ -323,7 +332,7 @@ fn each_allocation_is_refused(rt: HostRuntime) {
         refuse(&rt, &(ask, text, 1, b""), told, 1);
         refused = refused.saturating_add(1);
     }
-    expect_equal(&rt, refused, 21);
+    expect_equal(&rt, refused, 22);
 }
 
 /// Sizes around those at which vectors grow.

@@ -18,8 +18,9 @@ returns-in_err-subcommand-clause-none c =
       grow = option_map (λ t. t.now) c.get_str-4.result;
       replicators = option_map (λ t. t.now) c.get_str-5.result;
       idle = option_map (λ t. t.now) c.get_str-6.result;
+      dot = option_map (λ t. t.now) c.get_str-7.result;
     } in
-    let matched : AreMatched values given = record { paced = c.get_str-2.ensures; mark = c.get_str-3.ensures; grow = c.get_str-4.ensures; replicators = c.get_str-5.ensures; idle = c.get_str-6.ensures } in
+    let matched : AreMatched values given = record { paced = c.get_str-2.ensures; mark = c.get_str-3.ensures; grow = c.get_str-4.ensures; replicators = c.get_str-5.ensures; idle = c.get_str-6.ensures; dot = c.get_str-7.ensures } in
     let e = command_and_file_in-matches c.args.matches.now c.in-Some.name.now values (Some c.in-Some-get_str.file.now) given c.in-Some.ensures.name c.in-Some.ensures.rows c.in-Some-get_str.ensures matched in
     let named = ap (λ r. with_file r (Some c.in-Some-get_str.file.now)) (sym c.in_err-subcommand.ensures.named) in
     let p = err_from_is_err_and c.from_residual.result c.from_residual.ensures.1 in
@@ -34,7 +35,8 @@ returns-clause-found c =
       grow = option_map (λ t. t.now) c.get_str-4.result;
       replicators = option_map (λ t. t.now) c.get_str-5.result;
       idle = option_map (λ t. t.now) c.get_str-6.result;
+      dot = option_map (λ t. t.now) c.get_str-7.result;
     } in
-    let matched : AreMatched values given = record { paced = c.get_str-2.ensures; mark = c.get_str-3.ensures; grow = c.get_str-4.ensures; replicators = c.get_str-5.ensures; idle = c.get_str-6.ensures } in
+    let matched : AreMatched values given = record { paced = c.get_str-2.ensures; mark = c.get_str-3.ensures; grow = c.get_str-4.ensures; replicators = c.get_str-5.ensures; idle = c.get_str-6.ensures; dot = c.get_str-7.ensures } in
     let e = command_and_file_in-matches c.args.matches.now c.in-Some.name.now values (Some c.in-Some-get_str.file.now) given c.in-Some.ensures.name c.in-Some.ensures.rows c.in-Some-get_str.ensures matched in
     e ∙ ap (λ r. with_file r (Some c.in-Some-get_str.file.now)) (sym c.in_ok-subcommand.ensures.named)

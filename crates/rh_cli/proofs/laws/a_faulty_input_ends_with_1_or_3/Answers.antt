@@ -1,4 +1,4 @@
-use Rattle.rh_cli.proofs.StatusLaws.{concludes_run_fault, concludes_replay_fault, concludes_dump_fault, concludes_paced_fault, concludes_growing_fault}
+use Rattle.rh_cli.proofs.StatusLaws.{concludes_run_fault, concludes_replay_fault, concludes_dump_fault, concludes_dot_fault, concludes_paced_fault, concludes_growing_fault}
 use Rattle.rh_cli.proofs.SharedStatuses.{concludes_shared_fault}
 use Rattle.rh_cli.proofs.laws.a_faulty_input_ends_with_1_or_3.Goals as goal
 
@@ -19,3 +19,6 @@ returns-clause-paced c = concludes_paced_fault
 
 pub returns-clause-growing : goal.returns-clause-growing
 returns-clause-growing c = concludes_growing_fault
+
+pub returns-clause-dot : goal.returns-clause-dot
+returns-clause-dot c = concludes_dot_fault

@@ -1,4 +1,4 @@
-use Rattle.rh_cli.proofs.StatusLaws.{concludes_run_0, concludes_replay_0, concludes_dump_0, done_is_0, only_help_is_0, concludes_paced_run, concludes_growing_run}
+use Rattle.rh_cli.proofs.StatusLaws.{concludes_run_0, concludes_replay_0, concludes_dump_0, concludes_dot_0, done_is_0, only_help_is_0, concludes_paced_run, concludes_growing_run}
 use Rattle.rh_cli.proofs.SharedStatuses.{concludes_shared_0}
 use Rattle.rh_cli.proofs.laws.status_0_says_done.Goals as goal
 
@@ -25,3 +25,6 @@ returns-clause-paced c = concludes_paced_run
 
 pub returns-clause-growing : goal.returns-clause-growing
 returns-clause-growing c = concludes_growing_run
+
+pub returns-clause-dot : goal.returns-clause-dot
+returns-clause-dot c = concludes_dot_0

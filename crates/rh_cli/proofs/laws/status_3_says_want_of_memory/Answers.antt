@@ -1,4 +1,4 @@
-use Rattle.rh_cli.proofs.StatusLaws.{memory_is_3, run_memory_is_3, concludes_paced_3, concludes_growing_3, concludes_run_3, concludes_replay_3, concludes_dump_3, paced_memory_is_3}
+use Rattle.rh_cli.proofs.StatusLaws.{memory_is_3, run_memory_is_3, concludes_paced_3, concludes_growing_3, concludes_run_3, concludes_replay_3, concludes_dump_3, concludes_dot_3, paced_memory_is_3}
 use Rattle.rh_cli.proofs.SharedStatuses.{concludes_shared_3}
 use Rattle.rh_cli.proofs.laws.status_3_says_want_of_memory.Goals as goal
 
@@ -28,3 +28,6 @@ returns-clause-paced_fault c = paced_memory_is_3
 
 pub returns-clause-growing : goal.returns-clause-growing
 returns-clause-growing c = concludes_growing_3
+
+pub returns-clause-dot : goal.returns-clause-dot
+returns-clause-dot c = concludes_dot_3

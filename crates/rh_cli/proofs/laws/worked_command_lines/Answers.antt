@@ -108,3 +108,15 @@ returns-clause-grow_twice c = refl
 pub returns-clause-grow_threads : goal.returns-clause-grow_threads
 unfolding is_taken clap_on_literals
 returns-clause-grow_threads c = refl
+
+pub returns-clause-dot : goal.returns-clause-dot
+unfolding command_and_file_of clap_on_literals
+returns-clause-dot c = refl
+
+pub returns-clause-dot_run : goal.returns-clause-dot_run
+unfolding is_taken clap_on_literals
+returns-clause-dot_run c = refl
+
+pub returns-clause-dot_twice : goal.returns-clause-dot_twice
+unfolding is_taken clap_on_literals
+returns-clause-dot_twice c = refl
