@@ -1,0 +1,28 @@
+# Completions of rheap for bash. Made by share/make of what the program says of itself.
+_rheap() {
+    local word=${COMP_WORDS[COMP_CWORD]} before=${COMP_WORDS[COMP_CWORD - 1]} options= valued=
+    COMPREPLY=()
+    if [ "$COMP_CWORD" = 1 ]; then
+        mapfile -t COMPREPLY < <(compgen -W 'run threads replay dump help -h --help -V --version' -- "$word")
+        return
+    fi
+    case ${COMP_WORDS[1]} in
+    run) options='--paced --mark --grow -h --help' valued='--mark --grow' ;;
+    threads) options='--replicators --idle -h --help' valued='--replicators --idle' ;;
+    replay) options='-h --help' valued='' ;;
+    dump) options='--dot -h --help' valued='' ;;
+    help)
+        mapfile -t COMPREPLY < <(compgen -W 'run threads replay dump' -- "$word")
+        return
+        ;;
+    *) return ;;
+    esac
+    case " $valued " in
+    *" $before "*) return ;;
+    esac
+    case $word in
+    -*) mapfile -t COMPREPLY < <(compgen -W "$options" -- "$word") ;;
+    *) mapfile -t COMPREPLY < <(compgen -f -- "$word") ;;
+    esac
+}
+complete -o filenames -F _rheap rheap
