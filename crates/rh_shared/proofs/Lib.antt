@@ -10,3 +10,4 @@ pub mod Partings
 pub mod NewKept
 pub mod ComingAnswers
 pub mod CommandReplies
+pub mod Tickets

@@ -7,6 +7,7 @@ use Rattle.rh_layout.specs.declared.refusal.Refusal.{Refusal}
 use Rattle.rh_model.specs.Plain.{step}
 use Rattle.rh_mutator.specs.Commands.{LimitHolds}
 use Rattle.rh_mutator.specs.Mutator.{IsMutator, MutatorState, StandsFor}
+use Rattle.rh_watches.specs.Watches.{IsWatchTable}
 use Rattle.rh_watches.specs.declared.errors.RoomError.{RoomError}
 use Rattle.rh_watches.specs.declared.errors.RoomError.TheVariants.{Fewer}
 use Rattle.rh_core.specs.Heap.{HeapState, IsWellFormed}
@@ -21,12 +22,13 @@ use Rattle.rh_shared.specs.declared.kept.CallError.TheVariants as call_errors
 use Rattle.rh_shared.specs.Kept.{CallMeets, IsKept, KeptState, kept_call, kept_increment}
 
 -- What is known of all that may lie under a lock: the history is legal, and the heap stands for its
--- replay; heap and collector are what every heap and every collector is; and the history has no
--- more calls than its limit.
+-- replay; heap, collector and table of tickets are what every heap, every collector and every table
+-- is; and the history has no more calls than its limit.
 pub record IsUnderLock {A : Type 0} (k : KeptState A) : Type 0 where
   pub kept : IsKept k.recorder.history k.collector.heap
   pub heap : IsWellFormed k.collector.heap
   pub collector : IsCollector k.collector
+  pub tickets : IsWatchTable k.collector.heap.watches
   pub few : length k.recorder.history.calls ≤ k.recorder.limit
 
 -- Something that may lie under a lock answers this call of an owner so.
