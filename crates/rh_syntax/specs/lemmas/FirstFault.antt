@@ -49,30 +49,30 @@ number_is part n e = let m = number_means part n e in (n, m.1, m.0)
 judges-number : {A : Type 0} (part : List ℕ) (others : ℕ → Kind → Type 0) (f : ℕ → Result A Kind) → ((n : ℕ) → Judges others (f n)) → Judges (Number when (¬ IsNumber part) ▸ others) (number_or_fault part >>= f)
 judges-number part others f next = judges-found (number_of part) Number (¬ IsNumber part) others f (no_number part) (λ n e fails. fails (number_is part n e)) (λ n e. next n)
 
-no_root : (part : List ℕ) → root_of part ≡ None → ¬ IsRoot part
+pub no_root : (part : List ℕ) → root_of part ≡ None → ¬ IsRoot part
 no_root part e h = none_some (root_of part) h.0 e (ap root_of h.2 ∙ root_of-text h.0 h.1)
 
-root_is : (part : List ℕ) (r : RootId) → root_of part ≡ Some r → IsRoot part
+pub root_is : (part : List ℕ) (r : RootId) → root_of part ≡ Some r → IsRoot part
 root_is part r e = let m = root_means part r e in (r, m.1, m.0)
 
 judges-root : {A : Type 0} (part : List ℕ) (others : ℕ → Kind → Type 0) (f : RootId → Result A Kind) → ((r : RootId) → Judges others (f r)) → Judges (Root when (¬ IsRoot part) ▸ others) (root_or_fault part >>= f)
 judges-root part others f next = judges-found (root_of part) Root (¬ IsRoot part) others f (no_root part) (λ r e fails. fails (root_is part r e)) (λ r e. next r)
 
-no_integer : (part : List ℕ) → integer_of part ≡ None → ¬ IsInteger part
+pub no_integer : (part : List ℕ) → integer_of part ≡ None → ¬ IsInteger part
 no_integer part e h = none_some (integer_of part) h.0 e (ap integer_of h.2 ∙ integer_of-decimal h.0 h.1)
 
-integer_is : (part : List ℕ) (n : ℤ) → integer_of part ≡ Some n → IsInteger part
+pub integer_is : (part : List ℕ) (n : ℤ) → integer_of part ≡ Some n → IsInteger part
 integer_is part n e = let m = integer_means part n e in (n, m.1, m.0)
 
 dot_step : (here there : Bool) (P Q : Type 0) → Decides here P → Decides there Q → Decides (here || there) (P ⊎ Q)
 dot_step here there P Q h t = Decides-or here there h t
 
-has_dot-Decides : (part : List ℕ) → Decides (has_dot part) (HasDot part)
+pub has_dot-Decides : (part : List ℕ) → Decides (has_dot part) (HasDot part)
 has_dot-Decides [] = (λ e. false≢true e, λ h. absurd h)
 has_dot-Decides (b ∷ bs) = dot_step (eqb b 46) (has_dot bs) (b ≡ 46) (HasDot bs) (Decides-eqb b 46) (has_dot-Decides bs)
 
 -- nil has no dot
-nil_dotless : (part : List ℕ) → part ≡ codes "nil" → ¬ HasDot part
+pub nil_dotless : (part : List ℕ) → part ≡ codes "nil" → ¬ HasDot part
 nil_dotless part e h = false≢true (ap has_dot (sym e) ∙ (has_dot-Decides part).1 h)
 
 abbrev operand_faults : List ℕ → (ℕ → Kind → Type 0) → ℕ → Kind → Type 0
@@ -111,10 +111,10 @@ module _ {A : Type 0} (part : List ℕ) (others : ℕ → Kind → Type 0) (f : 
 
 -- ---- names of trays, and what is dealt
 
-no_tray : (part : List ℕ) → tray_name_of part ≡ None → ¬ IsTrayName part
+pub no_tray : (part : List ℕ) → tray_name_of part ≡ None → ¬ IsTrayName part
 no_tray part e h = none_some (tray_name_of part) part e (read-from_name part h)
 
-tray_is : (part name : List ℕ) → tray_name_of part ≡ Some name → IsTrayName part
+pub tray_is : (part name : List ℕ) → tray_name_of part ≡ Some name → IsTrayName part
 tray_is part name e = let m = name-from_read part name e in subst IsTrayName m.0 m.1
 
 judges-tray : {A : Type 0} (part : List ℕ) (others : ℕ → Kind → Type 0) (f : List ℕ → Result A Kind) → ((name : List ℕ) → Judges others (f name)) → Judges (Tray when (¬ IsTrayName part) ▸ others) (tray_or_fault part >>= f)
@@ -267,7 +267,7 @@ judges-no_owner first rest bare =
     judges-later Form (LacksKeyword parts) (word_faults (LacksCommand parts) parts (form_of command_forms parts)) (Err Word) (no_keyword first rest bare)
     (judges-here Word (LacksCommand parts (form_of command_forms parts)) (form_faults (form_of command_forms parts) parts) (inl bare))
 
-begins_with_digit-Decides : (part : List ℕ) → Decides (begins_with_digit part) (IsDigitFirst part)
+pub begins_with_digit-Decides : (part : List ℕ) → Decides (begins_with_digit part) (IsDigitFirst part)
 begins_with_digit-Decides [] = (λ e. false≢true e, λ h. absurd h)
 begins_with_digit-Decides (b ∷ bs) = in_range-Decides 48 57 b
 
@@ -375,10 +375,10 @@ judges-alike faults others r to from judged = record {
   least = λ kind e. let l = judged.least kind e in record { stage = l.stage; holds = to l.stage kind l.holds; least = λ p k h. l.least p k (from p k h) };
 }
 
-judges-with_owner : {A : Type 0} (parts : List (List ℕ)) (r : Result A Kind) → BeginsWithOwner parts → Judges (owned_part_faults owned_forms parts) r → Judges (line_part_faults parts) r
+pub judges-with_owner : {A : Type 0} (parts : List (List ℕ)) (r : Result A Kind) → BeginsWithOwner parts → Judges (owned_part_faults owned_forms parts) r → Judges (line_part_faults parts) r
 judges-with_owner parts r owned judged = judges-alike (owned_part_faults owned_forms parts) (line_part_faults parts) r (λ p k h. inl (owned, h)) (λ p k h. elim h [ inl command ↦ command.1 | inr other ↦ absurd (other.0 owned) ]) judged
 
-judges-without_owner : {A : Type 0} (parts : List (List ℕ)) (r : Result A Kind) → ¬ BeginsWithOwner parts → Judges (keyword_part_faults parts) r → Judges (line_part_faults parts) r
+pub judges-without_owner : {A : Type 0} (parts : List (List ℕ)) (r : Result A Kind) → ¬ BeginsWithOwner parts → Judges (keyword_part_faults parts) r → Judges (line_part_faults parts) r
 judges-without_owner parts r bare judged = judges-alike (keyword_part_faults parts) (line_part_faults parts) r (λ p k h. inr (bare, h)) (λ p k h. elim h [ inl command ↦ absurd (bare command.0) | inr other ↦ other.1 ]) judged
 
 by_owner : (t : Bool) (first : List ℕ) (rest : List (List ℕ)) → Decides t (IsDigitFirst first) → Judges (line_part_faults (first ∷ rest)) (cond t (owned_request first rest) (keyword_request first rest))
