@@ -1,0 +1,9 @@
+pub mod Parts
+pub mod Walk
+pub mod Lines
+pub mod Bytes
+pub mod PartColumns
+pub mod Legal
+pub mod Early
+pub mod Places
+pub mod Shown

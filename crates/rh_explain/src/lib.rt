@@ -1,0 +1,19 @@
+//! Where in a line of a trace its fault is, what is wrong there, and a block of text that shows it.
+#![tactic(auto)]
+
+mod block;
+mod columns;
+mod expected;
+mod finding;
+mod forms;
+mod keyword;
+mod near;
+mod part;
+mod why;
+
+pub use block::write_block;
+pub use expected::Expected;
+pub use finding::{fault_part, no_command_part};
+pub use keyword::Keyword;
+pub use part::Part;
+pub use why::Why;
