@@ -152,8 +152,8 @@ fn put_rows(
 }
 
 /// Writes the line of this number, given without its line end, carets under its faulty part, and
-/// the sentence that says what is wrong: three lines of printable ASCII. A byte that isn't
-/// printable is shown as `\xNN`, and a long line is cut round the part, with `..` where it is cut.
+/// the sentence that says what is wrong, each as a line. A byte that isn't printable is shown as
+/// `\xNN`. A long line is cut round the part, with `..` where it is cut.
 ///
 /// # Errors
 ///

@@ -1,0 +1,284 @@
+//! Where the fault of a line is, and what is wrong there.
+
+use rh_explain::{fault_part, no_command_part};
+use std::process::Abort;
+
+/// A faulty line: its number, its text, where its part begins and ends, and what is wrong there.
+type Faulty = (u32, &'static [u8], usize, usize, &'static str);
+
+/// A line for each fault, in the order of the format.
+const FAULTY: &[Faulty] = &[
+    (1_048_577, b"flip", 0, 4, "a text has at most 1048576 lines"),
+    (
+        2,
+        b"1\talloc 1.0 2",
+        1,
+        2,
+        "a tab stands between parts: one space does",
+    ),
+    (
+        2,
+        b"1 drop 1.0\r",
+        10,
+        11,
+        "the line ends with a carriage return: a line feed alone ends each line",
+    ),
+    (2, b"", 0, 0, "a blank line: each line has a keyword"),
+    (
+        2,
+        b"\x80",
+        0,
+        1,
+        "the byte 128 isn't printable ASCII: the bytes of a line are 32 to 126",
+    ),
+    (
+        2,
+        b"a\rb",
+        1,
+        2,
+        "the byte 13 isn't printable ASCII: the bytes of a line are 32 to 126",
+    ),
+    (
+        2,
+        b" flip",
+        0,
+        1,
+        "a space at the start: a line begins with its first part",
+    ),
+    (
+        2,
+        b"1  drop 1.0",
+        2,
+        3,
+        "a second space: one stands between two parts",
+    ),
+    (
+        2,
+        b"flip ",
+        4,
+        5,
+        "a space at the end: a line ends with its last part",
+    ),
+    (
+        1,
+        b"history 2 2",
+        0,
+        7,
+        "this is a history: rheap replay reads it",
+    ),
+    (1, b"rheap 2", 0, 5, "this is a dump: rheap dump reads it"),
+    (
+        1,
+        b"help 16 8 4 2 2",
+        0,
+        4,
+        "the first line is heap WORDS RATIO LOG OWNERS SLOTS",
+    ),
+    (
+        1,
+        b"heap 16 8 4 2",
+        13,
+        13,
+        "a number is missing: the first line is heap WORDS RATIO LOG OWNERS SLOTS",
+    ),
+    (
+        1,
+        b"heap 16 8 4 2 2 7",
+        16,
+        17,
+        "a part too many: the first line is heap WORDS RATIO LOG OWNERS SLOTS",
+    ),
+    (
+        1,
+        b"heap 16 x 4 2 2",
+        8,
+        9,
+        "a number stands here: digits without a leading zero, 0 to 4294967295",
+    ),
+    (
+        2,
+        b"1",
+        1,
+        1,
+        "a command is missing after the owner, as in 1 drop 1.0",
+    ),
+    (
+        2,
+        b"1 aloc 1.0 2",
+        2,
+        6,
+        "no such command; did you mean alloc?",
+    ),
+    (2, b"recal", 0, 5, "no such command; did you mean recall?"),
+    (2, b"frobnicate", 0, 10, "no such command"),
+    (2, b"1x frobnicate 7", 3, 13, "no such command"),
+    (
+        2,
+        b"drop 1.0",
+        0,
+        4,
+        "an owner is missing before drop, as 1 in 1 drop 1.0",
+    ),
+    (
+        2,
+        b"1 begin",
+        2,
+        7,
+        "no owner stands before begin: the line begins with it",
+    ),
+    (
+        2,
+        b"1 alloc 1.0",
+        11,
+        11,
+        "a number is missing: the line ends too early",
+    ),
+    (
+        2,
+        b"1 load 1.0",
+        10,
+        10,
+        "a root is missing: the line ends too early",
+    ),
+    (
+        2,
+        b"give",
+        4,
+        4,
+        "a tray is missing: the line ends too early",
+    ),
+    (
+        2,
+        b"deal",
+        4,
+        4,
+        "copies or entries is missing: the line ends too early",
+    ),
+    (
+        2,
+        b"1 store 1.0 0",
+        13,
+        13,
+        "nil, a root or a whole number is missing: the line ends too early",
+    ),
+    (
+        2,
+        b"deal x 1",
+        8,
+        8,
+        "a tray is missing: the line ends too early",
+    ),
+    (
+        2,
+        b"flip now",
+        5,
+        8,
+        "a part too many: the line ends before it",
+    ),
+    (
+        2,
+        b"deal x y T",
+        5,
+        6,
+        "what is dealt is missing: copies or entries stands here",
+    ),
+    (
+        2,
+        b"deal copies y T",
+        12,
+        13,
+        "a number stands here: digits without a leading zero, 0 to 4294967295",
+    ),
+    (
+        2,
+        b"deal copies 1 T",
+        14,
+        15,
+        "a tray stands here: a letter a to z, then at most 15 of a to z, 0 to 9 and _",
+    ),
+    (
+        2,
+        b"01 drop 1.0",
+        0,
+        2,
+        "a number stands here: digits without a leading zero, 0 to 4294967295",
+    ),
+    (
+        2,
+        b"idle 4294967296",
+        5,
+        15,
+        "a number out of its range: 0 to 4294967295",
+    ),
+    (
+        2,
+        b"1 drop 10",
+        7,
+        9,
+        "a root stands here: OWNER.SLOT as 1.0, two numbers from 0 to 4294967295",
+    ),
+    (
+        2,
+        b"1 store 1.0 0 1.x",
+        14,
+        17,
+        "a root stands here: OWNER.SLOT as 1.0, two numbers from 0 to 4294967295",
+    ),
+    (
+        2,
+        b"1 store 1.0 0 x",
+        14,
+        15,
+        "nil, a root as 1.0, or a whole number of 64 bits stands here",
+    ),
+];
+
+#[test]
+fn each_fault_has_its_place(rt: HostRuntime) {
+    for (row, &(number, line, begins, ends, sentence)) in FAULTY.iter().enumerate() {
+        let part = fault_part(number, line, true).expect(&rt, "a fault");
+        let why = part.why;
+        let text = format!(in rt.alloc(); "{why}").expect(&rt, "memory is ample");
+        assert!(rt; part.begins == begins && part.ends == ends, "row {row}");
+        assert!(rt; text.as_str() == sentence, "row {row}: {text}");
+    }
+}
+
+/// Lines that are read: their numbers and texts.
+const READ: &[(u32, &[u8])] = &[
+    (1, b"heap 16 8 4 2 2"),
+    (2, b"1 alloc 1.0 2"),
+    (2, b"1 store 1.0 0 -5"),
+    (2, b"1 watch 1.0"),
+    (2, b"deal entries 0 a_2z9"),
+    (1_048_576, b"flip"),
+];
+
+#[test]
+fn what_is_read_has_no_faulty_part(rt: HostRuntime) {
+    for (row, &(number, line)) in READ.iter().enumerate() {
+        assert!(rt; fault_part(number, line, true).is_none(), "row {row}");
+        let cut = fault_part(number, line, false).expect(&rt, "a fault");
+        let why = cut.why;
+        let text = format!(in rt.alloc(); "{why}").expect(&rt, "memory is ample");
+        assert!(rt;
+            cut.begins == line.len() && cut.ends == line.len(),
+            "row {row}"
+        );
+        assert!(rt; text.as_str() == "the line has no line end: a line feed ends each line");
+    }
+}
+
+#[test]
+fn a_line_that_is_no_command_fails_at_its_keyword(rt: HostRuntime) {
+    let begin = no_command_part(b"begin");
+    assert!(rt; begin.begins == 0 && begin.ends == 5);
+    let watch = no_command_part(b"1 watch 1.0");
+    assert!(rt; watch.begins == 2 && watch.ends == 7);
+    let why = watch.why;
+    let text = format!(in rt.alloc(); "{why}").expect(&rt, "memory is ample");
+    assert!(rt;
+        text.as_str()
+            == "only commands stand in this run: alloc, raw, load, store, copy, same and drop"
+    );
+}
