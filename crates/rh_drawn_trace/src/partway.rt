@@ -1,0 +1,50 @@
+//! A trace that is run up to one of its lines.
+
+ghost use Rattle.std.specs.Prelude.{◌≡◌, IfOk, IsErrOf, take};
+ghost use Rattle.rh_drawn_trace.specs.Partway.{engine_at as engine_of};
+
+use crate::stepping::play_quietly;
+use rh_core::{Heap, HeapError};
+use rh_layout::OutOfMemory;
+use rh_trace::{Engine, Request, RunFault, Trace, config_of};
+use std::alloc::Allocator;
+
+/// The first requests, so many of them or all.
+fn first_of(requests: &[Request], most: usize) -> &[Request]
+    ensures { result.now ≡ take most requests.now }
+{
+    if most < requests.len() {
+        &requests[..most]
+    } else {
+        requests
+    }
+}
+
+/// The engine of a trace once so many of its lines were played, of which the first is the heap's:
+/// all of them, where it has no more. What is answered to them isn't kept.
+///
+/// # Errors
+///
+/// `New` where the numbers of the first line make no heap, with the first fault of these.
+/// `OutOfMemory` where the allocator refused memory.
+pub fn engine_at<A: Allocator + Copy>(
+    alloc: A,
+    trace: &Trace<A>,
+    lines: u32,
+) -> Result<Engine<A>, RunFault>
+    ensures engine { IfOk result (λ engine. engine ≡ engine_of trace.now lines) }
+    ensures never_read { ¬ IsErrOf result RunFault.Read }
+    ensures never_write { ¬ IsErrOf result RunFault.Write }
+{
+    let heap = match Heap::new(alloc, config_of(trace.header())) {
+        Ok(heap) => heap,
+        Err(HeapError::Config(fault)) => return Err(RunFault::New(fault)),
+        Err(HeapError::OutOfMemory) => return Err(RunFault::OutOfMemory),
+    };
+    let mut engine = Engine::new(alloc, heap);
+    let requests = first_of(trace.requests(), lines.saturating_sub(1) as usize);
+    match play_quietly(alloc, &mut engine, requests) {
+        Ok(()) => Ok(engine),
+        Err(OutOfMemory) => Err(RunFault::OutOfMemory),
+    }
+}
