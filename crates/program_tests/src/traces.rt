@@ -1,5 +1,6 @@
 //! Traces: read, printed and run.
 
+mod drawing;
 mod leading;
 mod reading;
 mod recalling;
