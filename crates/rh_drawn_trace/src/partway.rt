@@ -1,6 +1,10 @@
 //! A trace that is run up to one of its lines.
 
-ghost use Rattle.std.specs.Prelude.{◌≡◌, IfOk, IsErrOf, take};
+ghost use Rattle.std.specs.Prelude.{◌≡◌, Some, Err, IfOk, IsErrOf, take};
+ghost use Rattle.rh_mutator.specs.declared.config.ConfigFault.{ConfigFault};
+ghost use Rattle.rh_core.specs.Config.{fault_of};
+ghost use Rattle.rh_trace.specs.declared.run_fault.RunFault.TheVariants as faults;
+ghost use Rattle.rh_trace.specs.Run.{config_of};
 ghost use Rattle.rh_drawn_trace.specs.Partway.{engine_at as engine_of};
 
 use crate::stepping::play_quietly;
@@ -33,6 +37,8 @@ pub fn engine_at<A: Allocator + Copy>(
     lines: u32,
 ) -> Result<Engine<A>, RunFault>
     ensures engine { IfOk result (λ engine. engine ≡ engine_of trace.now lines) }
+    ensures fault { (f : ConfigFault) → result ≡ Err (faults.New f)
+        → fault_of (config_of trace.now.header) ≡ Some f }
     ensures never_read { ¬ IsErrOf result RunFault.Read }
     ensures never_write { ¬ IsErrOf result RunFault.Write }
 {
