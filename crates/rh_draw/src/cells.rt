@@ -115,7 +115,7 @@ fn put_outline<B: Allocator>(
     let round = if object.raw { 12 } else { 0 };
     let end = u64::from(object.end());
     let mut word = u64::from(object.address);
-    for _ in 0..=object.fields {
+    for _ in 0..object.fields.saturating_add(2) {
         if word >= end {
             break;
         }

@@ -120,7 +120,7 @@ fn picture<A: Allocator + Copy, B: Allocator + Copy>(
 ///
 /// `Write` where a write failed, or 33,554,432 of them didn't come to the end: a prefix of the
 /// picture was written then (`draw_logged` says that it comes nowhere else). `OutOfMemory` where a
-/// growth of the text was refused: nothing was written then.
+/// growth of the text, or of the lists of what is drawn, was refused: nothing was written then.
 pub fn draw<A: Allocator + Copy, B: Allocator + Copy, W: io::Write>(
     alloc: B,
     heap: &Heap<A>,

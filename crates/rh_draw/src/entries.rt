@@ -25,7 +25,7 @@ pub struct Filled {
 pub struct Entry {
     /// The number of its store.
     pub number: u64,
-    /// Whether a deal has looked at it: then it was joined to a tray, or passed over.
+    /// Whether a deal or a hold has looked at it.
     pub is_past: bool,
     /// The field with its number; `None` where a later store has taken it.
     pub current: Option<Filled>,

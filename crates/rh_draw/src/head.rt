@@ -6,7 +6,7 @@ use rh_core::Stat;
 use rh_layout::OutOfMemory;
 use std::alloc::Allocator;
 
-/// Puts a text at the end, as XML spells it. What XML has no spelling for becomes a space.
+/// Puts a text at the end, as XML spells it. Control characters, U+FFFE and U+FFFF become spaces.
 fn put_spelled<B: Allocator>(svg: &mut String<B>, text: &str) -> Result<(), OutOfMemory> {
     for letter in text.chars() {
         match letter {

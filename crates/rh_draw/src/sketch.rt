@@ -30,13 +30,13 @@ impl Object {
 /// What of a heap is drawn.
 #[derive(Drop)]
 pub struct Sketch<B: Allocator> {
-    /// The objects of from-space, in order of their addresses, and at most one more than are drawn.
+    /// The objects of from-space, in order of their addresses.
     pub objects: Vec<Object, B>,
     /// The replicas, in the same order.
     pub replicas: Vec<Object, B>,
     /// The roots that aren't nil, in order of owner, then slot, with what they hold.
     pub roots: Vec<(RootId, Value), B>,
-    /// The entries of the log; none where there are more than are drawn.
+    /// The entries of the log.
     pub entries: Vec<Entry, B>,
 }
 

@@ -1,6 +1,6 @@
 //! How the parts of a picture look, on light and on dark pages.
 
-/// The style of a picture. Each mark differs from the others by its shape, too.
+/// The style of a picture. No mark differs from another by its colour alone.
 pub const STYLE: &str = "<style>
 text{font-family:sans-serif;font-size:13px;fill:#1f2328}
 .page{fill:#ffffff}
