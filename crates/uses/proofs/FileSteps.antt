@@ -1,5 +1,5 @@
 -- What a heap makes of its tickets where one comes to watch, and where one is told.
-use Rattle.std.proofs.Common.{◌≡◌, ◌≢◌, ◌↔◌, Bool, true, false, ℕ, zero, suc, ◌+◌, ◌<◌, ◌≤◌, ◌⊎◌, inl, inr, if◌then◌else◌, List, [], ◌∷◌, length, get_or, set, replicate, get_or-set_same, get_or-set_other, Option, Some, None, Result, Ok, Err, refl, sym, ap, subst, ◌∙◌, arith}
+use Rattle.std.proofs.Common.{◌≡◌, ◌≢◌, ◌↔◌, Bool, true, false, ℕ, zero, suc, ◌+◌, ◌<◌, inl, inr, if◌then◌else◌, List, [], ◌∷◌, length, get_or, set, replicate, get_or-set_same, get_or-set_other, Option, Some, None, Result, Ok, Err, refl, sym, ap, subst, ◌∙◌, arith}
 use Rattle.std.specs.Prelude.{◌&&◌, nat_lt, slice_get, is_ok, IfSome, IfNone, OnErr}
 use Rattle.std.proofs.lemmas.Bool.{cases_lt}
 use Rattle.std.proofs.lemmas.List.{get_or_past}
@@ -8,9 +8,8 @@ use Rattle.rh_layout.specs.declared.value.Value.{Value}
 use Rattle.rh_layout.specs.declared.value.Value.TheVariants.{Nil, Int, Ref}
 use Rattle.rh_layout.specs.declared.command.RootId.{RootId}
 use Rattle.rh_layout.specs.Root.{has_root, may_use}
-use Rattle.rh_watches.specs.declared.watch.Watch.{Watch}
 use Rattle.rh_watches.specs.declared.watch.Watch.TheVariants.{Free, On, Gone}
-use Rattle.rh_watches.specs.Watches.{WatchTable, IsWatchTable, least_free, ticket_at, told_first, with_room, with_told, with_watch}
+use Rattle.rh_watches.specs.Watches.{WatchTable, least_free, ticket_at, told_first, with_room, with_told, with_watch}
 use Rattle.rh_model.specs.Graph.{root_value}
 use Rattle.rh_mutator.specs.Mutator.{graph_of}
 use Rattle.rh_core.specs.declared.errors.WatchError.{WatchError}

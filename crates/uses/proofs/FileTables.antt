@@ -1,12 +1,11 @@
 -- Tables of files by ticket: what they have once a ticket got a file, or let go of it.
-use Rattle.std.proofs.Common.{◌≡◌, ◌≢◌, ◌↔◌, Bool, true, false, ℕ, zero, suc, ◌+◌, ◌-◌, ◌<◌, ◌≤◌, ◌==◌, ◌⊎◌, inl, inr, if◌then◌else◌, List, [], ◌∷◌, ◌++◌, length, get_or, set, replicate, take, Option, Some, None, IsSome, refl, sym, ap, subst, ◌∙◌, arith, length-set, get_or-set_same, get_or-set_other}
+use Rattle.std.proofs.Common.{◌≡◌, ◌≢◌, ◌↔◌, Bool, true, ℕ, zero, suc, ◌+◌, ◌-◌, ◌<◌, ◌≤◌, ◌==◌, ◌⊎◌, inl, inr, if◌then◌else◌, List, [], ◌∷◌, ◌++◌, length, get_or, set, replicate, take, Option, Some, None, refl, sym, ap, ◌∙◌, arith, length-set, get_or-set_same, get_or-set_other}
 use Rattle.std.specs.Prelude.{is_some}
-use Rattle.std.specs.List.{count_by}
 use Rattle.std.proofs.lemmas.Bool.{cases_eq, cases_lt}
 use Rattle.std.proofs.lemmas.List.{get_or_past, length-replicate, take_all}
 use Rattle.std.proofs.lemmas.List.Sums.{sum_by-set, sum_by-cons, count_by-le-length}
 use Rattle.rh_watches.specs.declared.watch.Watch.{Watch}
-use Rattle.rh_watches.specs.declared.watch.Watch.TheVariants.{Free, On, Gone}
+use Rattle.rh_watches.specs.declared.watch.Watch.TheVariants.{Free, Gone}
 use Rattle.rh_watches.specs.Watches.{WatchTable, no_watches, ticket_at, with_room}
 use Rattle.rh_model.specs.Graph.{Graph}
 use Rattle.uses.specs.Files.{AreFiles, TicketsFollow, file_at, files_open, is_file, times_open}

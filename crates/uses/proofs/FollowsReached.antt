@@ -1,5 +1,5 @@
 -- Tickets over an increment, a command and a collection: one whose object is reached goes on.
-use Rattle.std.proofs.Common.{◌≡◌, ◌↔◌, ℕ, zero, suc, ◌-◌, Bool, true, false, List, length, Option, Some, None, Result, Ok, Err, refl, sym, ap, subst, ◌∙◌}
+use Rattle.std.proofs.Common.{◌≡◌, ◌↔◌, ℕ, Bool, true, false, Option, Some, None, Result, Ok, Err, refl, sym, ap, subst, ◌∙◌}
 use Rattle.std.specs.Prelude.{if◌then◌else◌}
 use Rattle.std.proofs.lemmas.List.{length-map}
 use Rattle.rh_layout.specs.declared.command.Command.{Command}
@@ -11,10 +11,8 @@ use Rattle.rh_watches.specs.declared.watch.Watch.TheVariants.{Free, On, Gone}
 use Rattle.rh_watches.specs.Watches.{WatchTable, followed, on_or_gone, ticket_at, watch_after}
 use Rattle.rh_watches.specs.lemmas.Following.{ticket_at-followed}
 use Rattle.rh_model.specs.Graph.{Graph}
-use Rattle.rh_model.specs.Reach.{Reached}
 use Rattle.rh_model.specs.SameGraph.{IsPairing}
 use Rattle.rh_mutator.specs.Mutator.{graph_of}
-use Rattle.rh_core.specs.declared.errors.FlipError.{FlipError}
 use Rattle.rh_core.specs.declared.event.Event.{Event}
 use Rattle.rh_core.specs.declared.event.Event.TheVariants as events
 use Rattle.rh_core.specs.declared.outcomes.Flipped.{Flipped}

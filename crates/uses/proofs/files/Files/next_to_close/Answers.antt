@@ -1,5 +1,5 @@
-use Rattle.std.proofs.Common.{ℕ, Some, None, Option, arith, sym, ap, subst, ◌∙◌}
-use Rattle.rh_watches.specs.Watches.{WatchTable, IsWatchTable}
+use Rattle.std.proofs.Common.{arith, sym, ap, subst, ◌∙◌}
+use Rattle.rh_watches.specs.Watches.{IsWatchTable}
 use Rattle.rh_core.specs.Heap.{HeapState}
 use Rattle.rh_pace.specs.Paced.{PacedState}
 use Rattle.rh_growing.specs.Growing.{GrowingState}
