@@ -10,3 +10,4 @@ mod RoomKept
 mod Served
 mod StackCalls
 mod Stacks
+mod TextTables

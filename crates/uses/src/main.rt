@@ -13,6 +13,7 @@ mod recorded;
 mod renewal;
 mod rows;
 mod stack;
+mod texts;
 mod threads;
 
 use problem::Problem;
@@ -44,6 +45,8 @@ fn run(rt: &(impl Print + AllocGlobal + Threads + Wait + Sync)) -> Result<(), Pr
     println!(rt; "stack numbers {pushed} short {short:?}")?;
     let closed = files::run(alloc)?;
     println!(rt; "files closed {closed}")?;
+    let (freed, bytes) = texts::run(alloc)?;
+    println!(rt; "texts freed {freed} bytes of the rest {bytes}")?;
     let (calls, objects) = recorded::run(alloc, &mut io::writer(rt))?;
     println!(rt; "recorded calls {calls} objects {objects}")?;
     Ok(())
