@@ -3,3 +3,4 @@ mod Nodes
 mod Edges
 mod LineCount
 mod Texts
+mod Same

@@ -41,7 +41,7 @@ root_printed : (r : RootId) → r.owner < 2 ^ 64 → r.slot < 2 ^ 64 → list_al
 root_printed r owner slot = all_append is_printable (decimal r.owner) (46 ∷ decimal r.slot) (number_printed r.owner owner) (number_printed r.slot slot)
 
 -- a reference is to one of the objects that a dump may have
-abbrev IsShort : Value → Type 0
+abbrev pub IsShort : Value → Type 0
 IsShort Nil = ⊤
 IsShort (Int n) = ⊤
 IsShort (Ref k) = k < 16777216
@@ -65,21 +65,22 @@ cells_printed field (v ∷ values) few told short =
 -- ---- what is known of each line: it can be printed, and the numbers of an edge are small
 
 abbrev pub IsSmallLine : DotLine → Type 0
+IsSmallLine (root_node root value) = (root.owner < 2 ^ 64) × (root.slot < 2 ^ 64) × IsTold value × IsShort value
 IsSmallLine (root_edge root to) = (root.owner < 2 ^ 64) × (root.slot < 2 ^ 64) × (to < 2 ^ 64)
-IsSmallLine (object_node number object) = number < 2 ^ 64
+IsSmallLine (object_node number object) = (number < 2 ^ 64) × AllByRecursion IsTold object.fields × AllByRecursion IsShort object.fields
 IsSmallLine (field_edge number field to) = (number < 2 ^ 64) × (field < 2 ^ 64) × (to < 2 ^ 64)
 IsSmallLine line = ⊤
 
-record IsRead (line : DotLine) : Type 0 where
-  printed : list_all is_printable (dot_line_text line) ≡ true
-  small : IsSmallLine line
+pub record IsRead (line : DotLine) : Type 0 where
+  pub printed : list_all is_printable (dot_line_text line) ≡ true
+  pub small : IsSmallLine line
 
 root_node_read : (r : RootId) (v : Value) → IsRootTold (r, v) → IsShort v → IsRead (root_node r v)
 root_node_read r v told short =
     let root = root_printed r (omega (arith, told.0)) (omega (arith, told.1)) in
     let end = all_append is_printable (value_text v) (codes "\"] }") (value_printed v told.3 short) refl in
     let label = all_append is_printable (root_text r) (32 ∷ (value_text v ++ codes "\"] }")) root end in
-    record { printed = all_append is_printable (root_text r) (codes "\" [shape=box label=\"" ++ (root_text r ++ 32 ∷ (value_text v ++ codes "\"] }"))) root label; small = tt }
+    record { printed = all_append is_printable (root_text r) (codes "\" [shape=box label=\"" ++ (root_text r ++ 32 ∷ (value_text v ++ codes "\"] }"))) root label; small = (omega (arith, told.0), omega (arith, told.1), told.3, short) }
 
 root_edge_read : (r : RootId) (to : ℕ) → r.owner < 16 → r.slot < 256 → to < 16777216 → IsRead (root_edge r to)
 root_edge_read r to owner slot short =
@@ -123,7 +124,7 @@ object_node_read number o own told short =
     let kind = all_append is_printable (kind_text o.raw) (codes " label=\"@" ++ decimal number) (kind_printed o.raw) n in
     let head = all_append is_printable (decimal number) (codes "\" [shape=" ++ (kind_text o.raw ++ (codes " label=\"@" ++ decimal number))) n kind in
     let cells = all_append is_printable (cells_text 0 o.fields) (codes "\"]") (cells_printed 0 o.fields (omega (arith, told.few)) told.told short) refl in
-    record { printed = all_append is_printable (object_head_text number o.raw) (cells_text 0 o.fields ++ codes "\"]") head cells; small = omega (arith, own) }
+    record { printed = all_append is_printable (object_head_text number o.raw) (cells_text 0 o.fields ++ codes "\"]") head cells; small = (omega (arith, own), told.told, short) }
 
 by_parts : {A : Type 0} (P : A → Type 0) (xs ys : List A) → AllByRecursion P (xs ++ ys) → AllByRecursion P xs × AllByRecursion P ys
 by_parts P [] ys h = (tt, h)
@@ -147,7 +148,7 @@ all_short : (met : ℕ) (values : List Value) → met_after met values ≤ 16777
 all_short met [] h = tt
 all_short met (v ∷ values) h = (short_one v met (omega (arith, h, met_after_grows (met_with met v) values)), all_short (met_with met v) values h)
 
-lines_read : (g : GraphState) → IsGraph g → All IsRead (dot_lines g)
+pub lines_read : (g : GraphState) → IsGraph g → All IsRead (dot_lines g)
 lines_read g is =
     let few : met_after 0 (values_of g) ≤ 16777216 = omega (arith, is.all_met, is.few_objects) in
     let p = by_parts IsShort (root_values g.roots) (flat_map (λ (object : PlainObject). object.fields) g.objects) (all_short 0 (values_of g) few) in
@@ -161,7 +162,7 @@ lines_read g is =
 abbrev pub raw_line : DotLine → RawLine
 raw_line line = ended_line (dot_line_text line)
 
-lines_are : (lines : List DotLine) → All IsRead lines → lines_of (flat_map spell_dot_line lines) ≡ map raw_line lines
+pub lines_are : (lines : List DotLine) → All IsRead lines → lines_of (flat_map spell_dot_line lines) ≡ map raw_line lines
 lines_are [] h = refl
 lines_are (l ∷ lines) h =
     let text = flat_map spell_dot_line lines in
@@ -185,11 +186,11 @@ raw_of_line (m ∷ lines) l there =
 
 -- ---- the text of an edge is that of no other line
 
-abbrev head_of : List ℕ → ℕ
+abbrev pub head_of : List ℕ → ℕ
 head_of [] = 0
 head_of (b ∷ bs) = b
 
-abbrev tail_of : List ℕ → List ℕ
+abbrev pub tail_of : List ℕ → List ℕ
 tail_of [] = []
 tail_of (b ∷ bs) = bs
 
@@ -213,7 +214,7 @@ module _ (c m n : ℕ) (a b : List ℕ) (low : c < 48) (small_m : m < 2 ^ 64) (s
   same_rest : a ≡ b
   same_rest = ap (λ (p : List ℕ × List ℕ). p.1) both
 
-digit_first : (xs ys : List ℕ) → is_filled xs ≡ true → list_all is_decimal_digit xs ≡ true → head_of (xs ++ ys) ≤ 57
+pub digit_first : (xs ys : List ℕ) → is_filled xs ≡ true → list_all is_decimal_digit xs ≡ true → head_of (xs ++ ys) ≤ 57
 digit_first [] ys filled h = absurd (cc)
 digit_first (x ∷ xs) ys filled h = (bounds 48 57 x (and_parts (is_decimal_digit x) (list_all is_decimal_digit xs) h).0).1
 
@@ -281,7 +282,7 @@ field_edge_of (root_node q v) n f t small own e = let byte : 123 ≡ 34 = ap hea
 field_edge_of (root_edge q s) n f t small own e =
     let second : head_of (root_text q ++ (codes "\" -> \"@" ++ (decimal s ++ 34 ∷ []))) ≡ 64 = ap (λ (x : List ℕ). head_of (tail_of x)) e in
     absurd (omega (arith, second, root_first q (codes "\" -> \"@" ++ (decimal s ++ 34 ∷ [])) small.0))
-field_edge_of (object_node m o) n f t small own e = absurd (no_node_is_edge m n f t o small own.0 e)
+field_edge_of (object_node m o) n f t small own e = absurd (no_node_is_edge m n f t o small.0 own.0 e)
 field_edge_of (field_edge m h s) n f t small own e = same_field_edges m n h f s t small own e
 field_edge_of close_line n f t small own e = let byte : 125 ≡ 34 = ap head_of e in absurd (omega (arith, byte))
 

@@ -53,3 +53,8 @@ pub fn references_are_read_from_the_text()
         ↔ ((object : PlainObject) × (slice_get g.objects number ≡ Some object)
         × (slice_get object.fields field ≡ Some (Ref to))) }
 {}
+
+/// Two graphs with the same text are equal, so that each root, object, field and kind is told.
+pub fn each_text_is_of_one_graph()
+    ensures { (g h : GraphState) → IsGraph g → IsGraph h → dot_text g ≡ dot_text h → g ≡ h }
+{}

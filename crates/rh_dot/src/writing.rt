@@ -3,7 +3,7 @@
 ghost use Rattle.std.specs.Prelude.{◌≡◌, ◌∷◌, length, false, OnOk, OnErr};
 ghost use Rattle.std.specs.Io.KnownBytes.{Appends};
 ghost use Rattle.std.specs.List.{flat_map};
-ghost use Rattle.rh_text.specs.IoLog.{AreSpent};
+ghost use Rattle.rh_text.specs.IoLog.{AreSpent, AreSpentSince, MadeSince};
 ghost use Rattle.rh_text.specs.Output.{AppendsLess};
 ghost use Rattle.rh_dump.specs.Graph.{objects_in, total};
 ghost use Rattle.rh_dot.specs.Dot.{cells_text, dot_text, field_edges, object_lines, object_node, root_lines, spell_dot_line};
@@ -29,6 +29,8 @@ fn write_roots<W: io::Write>(
         (flat_map spell_dot_line (flat_map root_lines roots.now))) }
     ensures failed { OnErr result (AreSpent writes.new) }
     ensures none_failed { OnOk result (writes.new.failed ≡ false) }
+    ensures spent { OnErr result (AreSpentSince writes.old writes.new) }
+    ensures counted { MadeSince 0 writes.old writes.new }
 {
     for entry in roots {
         put_root_lines(text, entry.0, entry.1);
@@ -51,6 +53,8 @@ fn write_cells<W: io::Write>(
         (cells_text 0 fields.now)) }
     ensures failed { OnErr result (AreSpent writes.new) }
     ensures none_failed { OnOk result (writes.new.failed ≡ false) }
+    ensures spent { OnErr result (AreSpentSince writes.old writes.new) }
+    ensures counted { MadeSince 0 writes.old writes.new }
 {
     let mut field = 0;
     for value in fields {
@@ -76,6 +80,8 @@ fn write_edges<W: io::Write>(
         (flat_map spell_dot_line (field_edges number 0 fields.now))) }
     ensures failed { OnErr result (AreSpent writes.new) }
     ensures none_failed { OnOk result (writes.new.failed ≡ false) }
+    ensures spent { OnErr result (AreSpentSince writes.old writes.new) }
+    ensures counted { MadeSince 0 writes.old writes.new }
 {
     let mut field = 0;
     for value in fields {
@@ -106,6 +112,8 @@ fn write_object<W: io::Write>(
         ∷ field_edges number 0 fields.now))) }
     ensures failed { OnErr result (AreSpent writes.new) }
     ensures none_failed { OnOk result (writes.new.failed ≡ false) }
+    ensures spent { OnErr result (AreSpentSince writes.old writes.new) }
+    ensures counted { MadeSince 0 writes.old writes.new }
 {
     put_object_head(text, number, raw);
     send(writer, writes, text.as_bytes())?;
@@ -130,6 +138,8 @@ fn write_objects<W: io::Write>(
         (flat_map spell_dot_line (object_lines 0 (objects_in shapes.now values.now)))) }
     ensures failed { OnErr result (AreSpent writes.new) }
     ensures none_failed { OnOk result (writes.new.failed ≡ false) }
+    ensures spent { OnErr result (AreSpentSince writes.old writes.new) }
+    ensures counted { MadeSince 0 writes.old writes.new }
 {
     let mut rest = values;
     let mut number = 0;
@@ -164,6 +174,10 @@ pub fn write_dot<A: Allocator, W: io::Write>(
     // It is refused only where a write failed or none was left, and no write failed where it isn't.
     ensures failed { OnErr result (AreSpent writes.new) }
     ensures none_failed { OnOk result (writes.new.failed ≡ false) }
+    // Where it is refused and no write failed, at least 33,554,432 were made in this call, unless
+    // the count of calls is full. That each text has its own is `send`'s to say.
+    ensures spent { OnErr result (AreSpentSince writes.old writes.new) }
+    ensures counted { MadeSince 0 writes.old writes.new }
 {
     let (shapes, values) = graph.object_parts();
     let mut text = LineText::new();

@@ -1,6 +1,6 @@
 use Rattle.std.proofs.lemmas.Result.{err_from_is_err_and}
 use Rattle.rh_dump.specs.Graph.{objects_in}
-use Rattle.rh_dump.proofs.texts.Counts.{err_ok, err_err}
+use Rattle.rh_dump.proofs.texts.Counts.{made_by, spent_by, made_after, spent_after, made_more, spent_more, err_ok, err_err}
 use Rattle.rh_dump.proofs.texts.Sending.{on_ok, on_err, Sent-last, Sent-last_less}
 use Rattle.rh_dot.specs.Dot.{dot_text}
 use Rattle.rh_dot.proofs.Parts.{text_close, open_next, open_less, roots_next, roots_less, all_next, all_less}
@@ -82,3 +82,46 @@ returns-clause-failed g c = c.send-2.ensures.failed
 
 pub returns-clause-none_failed : goal.returns-clause-none_failed
 returns-clause-none_failed g c = c.send-2.ensures.none_failed
+
+pub returns-in_err-send-clause-spent : goal.returns-in_err-send-clause-spent
+returns-in_err-send-clause-spent g c =
+    err_err c.from_residual.result (spent_by c.args.writes.now c.send.new.writes c.in_err-send.ensures.failed c.send.ensures.counted)
+
+pub returns-in_err-send-clause-counted : goal.returns-in_err-send-clause-counted
+returns-in_err-send-clause-counted g c = made_by c.args.writes.now c.send.new.writes c.send.ensures.counted
+
+pub returns-in_err-write_roots-clause-spent : goal.returns-in_err-write_roots-clause-spent
+returns-in_err-write_roots-clause-spent g c =
+    let head = made_by c.args.writes.now c.send.new.writes c.send.ensures.counted in
+    err_err c.from_residual-in_err-write_roots.result (spent_after c.args.writes.now c.send.new.writes c.write_roots.new.writes head c.in_err-write_roots.ensures.spent)
+
+pub returns-in_err-write_roots-clause-counted : goal.returns-in_err-write_roots-clause-counted
+returns-in_err-write_roots-clause-counted g c =
+    let head = made_by c.args.writes.now c.send.new.writes c.send.ensures.counted in
+    made_after c.args.writes.now c.send.new.writes c.write_roots.new.writes head c.write_roots.ensures.counted
+
+pub returns-in_err-write_objects-clause-spent : goal.returns-in_err-write_objects-clause-spent
+returns-in_err-write_objects-clause-spent g c =
+    let head = made_by c.args.writes.now c.send.new.writes c.send.ensures.counted in
+    let roots = made_after c.args.writes.now c.send.new.writes c.write_roots.new.writes head c.write_roots.ensures.counted in
+    err_err c.from_residual-in_err-write_objects.result (spent_after c.args.writes.now c.write_roots.new.writes c.write_objects.new.writes roots c.in_err-write_objects.ensures.spent)
+
+pub returns-in_err-write_objects-clause-counted : goal.returns-in_err-write_objects-clause-counted
+returns-in_err-write_objects-clause-counted g c =
+    let head = made_by c.args.writes.now c.send.new.writes c.send.ensures.counted in
+    let roots = made_after c.args.writes.now c.send.new.writes c.write_roots.new.writes head c.write_roots.ensures.counted in
+    made_after c.args.writes.now c.write_roots.new.writes c.write_objects.new.writes roots c.write_objects.ensures.counted
+
+pub returns-clause-spent : goal.returns-clause-spent
+returns-clause-spent g c =
+    let head = made_by c.args.writes.now c.send.new.writes c.send.ensures.counted in
+    let roots = made_after c.args.writes.now c.send.new.writes c.write_roots.new.writes head c.write_roots.ensures.counted in
+    let objects = made_after c.args.writes.now c.write_roots.new.writes c.write_objects.new.writes roots c.write_objects.ensures.counted in
+    on_err c.send-2.result (λ spent. spent_more c.args.writes.now c.write_objects.new.writes c.send-2.new.writes objects spent c.send-2.ensures.counted) c.send-2.ensures.failed
+
+pub returns-clause-counted : goal.returns-clause-counted
+returns-clause-counted g c =
+    let head = made_by c.args.writes.now c.send.new.writes c.send.ensures.counted in
+    let roots = made_after c.args.writes.now c.send.new.writes c.write_roots.new.writes head c.write_roots.ensures.counted in
+    let objects = made_after c.args.writes.now c.write_roots.new.writes c.write_objects.new.writes roots c.write_objects.ensures.counted in
+    made_more c.args.writes.now c.write_objects.new.writes c.send-2.new.writes objects c.send-2.ensures.counted

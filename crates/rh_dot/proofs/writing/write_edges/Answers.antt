@@ -2,7 +2,7 @@ use Rattle.std.proofs.Common.{List, drop, ap, refl, ◌∙◌, arith}
 use Rattle.std.proofs.lemmas.Result.{err_from_is_err_and}
 use Rattle.std.proofs.lemmas.List.{drop_all}
 use Rattle.rh_layout.specs.declared.value.Value.{Value}
-use Rattle.rh_dump.proofs.texts.Counts.{err_ok, err_err}
+use Rattle.rh_dump.proofs.texts.Counts.{made_none, made_more, spent_more, err_ok, err_err}
 use Rattle.rh_dump.proofs.texts.Sending.{Sent-begin, Sent-all}
 use Rattle.rh_dot.proofs.Parts.{counted_next, counted_less, edges_text, edge_part, edges_step}
 use Rattle.rh_dot.proofs.writing.write_edges.Goals as goal
@@ -22,6 +22,7 @@ loop-value-preserved g c =
       sent = counted_next (edges_text c.args.number) (edge_part c.args.number) (edges_step c.args.number) (known c.args.writer.now) (known c.loop-value.writer) (known c.send.new.writer) (edges_text c.args.number 0 fields) c.as_bytes.result.now fields c.loop-value.field c.loop-value.value-index _ c.loop-value-test.true (c.as_bytes.ensures ∙ c.put_edge.ensures) c.loop-value.invariant.sent c.in_ok-send.ensures.ok;
       field = omega (arith, c.loop-value.invariant.field);
       none_failed = c.in_ok-send.ensures.none_failed;
+      counted = made_more c.args.writes.now c.loop-value.writes c.send.new.writes c.loop-value.invariant.counted c.send.ensures.counted;
     }
 
 pub loop-value-init : goal.loop-value-init
@@ -29,6 +30,7 @@ loop-value-init g c = record {
   sent = Sent-begin (g.W.Write.contents c.args.writer.now) (edges_text c.args.number 0 c.args.fields.now);
   field = refl;
   none_failed = c.requires;
+  counted = made_none c.args.writes.now;
 }
 
 pub send-requires : goal.send-requires
@@ -60,3 +62,16 @@ returns-clause-failed g c = tt
 
 pub returns-clause-none_failed : goal.returns-clause-none_failed
 returns-clause-none_failed g c = c.loop-value.invariant.none_failed
+
+pub returns-in_err-send-clause-spent : goal.returns-in_err-send-clause-spent
+returns-in_err-send-clause-spent g c =
+    err_err c.from_residual.result (spent_more c.args.writes.now c.loop-value.writes c.send.new.writes c.loop-value.invariant.counted c.in_err-send.ensures.failed c.send.ensures.counted)
+
+pub returns-in_err-send-clause-counted : goal.returns-in_err-send-clause-counted
+returns-in_err-send-clause-counted g c = made_more c.args.writes.now c.loop-value.writes c.send.new.writes c.loop-value.invariant.counted c.send.ensures.counted
+
+pub returns-clause-spent : goal.returns-clause-spent
+returns-clause-spent g c = tt
+
+pub returns-clause-counted : goal.returns-clause-counted
+returns-clause-counted g c = c.loop-value.invariant.counted

@@ -1,7 +1,7 @@
 use Rattle.std.proofs.Common.{◌≡◌, ◌++◌, ap, sym, ◌∙◌, refl, codes}
 use Rattle.std.proofs.lemmas.Result.{err_from_is_err_and}
 use Rattle.rh_dot.specs.Dot.{cells_text}
-use Rattle.rh_dump.proofs.texts.Counts.{err_ok, err_err}
+use Rattle.rh_dump.proofs.texts.Counts.{made_by, spent_by, made_after, spent_after, made_more, spent_more, err_ok, err_err}
 use Rattle.rh_dump.proofs.texts.Sending.{Sent-begin, Sent-next, Sent-less, Sent-last, Sent-last_less, on_ok, on_err}
 use Rattle.rh_dot.proofs.Parts.{after_cells, edges_text, object_of, object_part, object_parts}
 use Rattle.rh_dot.proofs.writing.write_object.Goals as goal
@@ -107,3 +107,46 @@ returns-clause-failed g c = c.write_edges.ensures.failed
 
 pub returns-clause-none_failed : goal.returns-clause-none_failed
 returns-clause-none_failed g c = c.write_edges.ensures.none_failed
+
+pub returns-in_err-send-clause-spent : goal.returns-in_err-send-clause-spent
+returns-in_err-send-clause-spent g c =
+    err_err c.from_residual.result (spent_by c.args.writes.now c.send.new.writes c.in_err-send.ensures.failed c.send.ensures.counted)
+
+pub returns-in_err-send-clause-counted : goal.returns-in_err-send-clause-counted
+returns-in_err-send-clause-counted g c = made_by c.args.writes.now c.send.new.writes c.send.ensures.counted
+
+pub returns-in_err-write_cells-clause-spent : goal.returns-in_err-write_cells-clause-spent
+returns-in_err-write_cells-clause-spent g c =
+    let head = made_by c.args.writes.now c.send.new.writes c.send.ensures.counted in
+    err_err c.from_residual-in_err-write_cells.result (spent_after c.args.writes.now c.send.new.writes c.write_cells.new.writes head c.in_err-write_cells.ensures.spent)
+
+pub returns-in_err-write_cells-clause-counted : goal.returns-in_err-write_cells-clause-counted
+returns-in_err-write_cells-clause-counted g c =
+    let head = made_by c.args.writes.now c.send.new.writes c.send.ensures.counted in
+    made_after c.args.writes.now c.send.new.writes c.write_cells.new.writes head c.write_cells.ensures.counted
+
+pub returns-in_err-send-2-clause-spent : goal.returns-in_err-send-2-clause-spent
+returns-in_err-send-2-clause-spent g c =
+    let head = made_by c.args.writes.now c.send.new.writes c.send.ensures.counted in
+    let cells = made_after c.args.writes.now c.send.new.writes c.write_cells.new.writes head c.write_cells.ensures.counted in
+    err_err c.from_residual-in_err-send-2.result (spent_more c.args.writes.now c.write_cells.new.writes c.send-2.new.writes cells c.in_err-send-2.ensures.failed c.send-2.ensures.counted)
+
+pub returns-in_err-send-2-clause-counted : goal.returns-in_err-send-2-clause-counted
+returns-in_err-send-2-clause-counted g c =
+    let head = made_by c.args.writes.now c.send.new.writes c.send.ensures.counted in
+    let cells = made_after c.args.writes.now c.send.new.writes c.write_cells.new.writes head c.write_cells.ensures.counted in
+    made_more c.args.writes.now c.write_cells.new.writes c.send-2.new.writes cells c.send-2.ensures.counted
+
+pub returns-clause-spent : goal.returns-clause-spent
+returns-clause-spent g c =
+    let head = made_by c.args.writes.now c.send.new.writes c.send.ensures.counted in
+    let cells = made_after c.args.writes.now c.send.new.writes c.write_cells.new.writes head c.write_cells.ensures.counted in
+    let close = made_more c.args.writes.now c.write_cells.new.writes c.send-2.new.writes cells c.send-2.ensures.counted in
+    on_err c.write_edges.result (spent_after c.args.writes.now c.send-2.new.writes c.write_edges.new.writes close) c.write_edges.ensures.spent
+
+pub returns-clause-counted : goal.returns-clause-counted
+returns-clause-counted g c =
+    let head = made_by c.args.writes.now c.send.new.writes c.send.ensures.counted in
+    let cells = made_after c.args.writes.now c.send.new.writes c.write_cells.new.writes head c.write_cells.ensures.counted in
+    let close = made_more c.args.writes.now c.write_cells.new.writes c.send-2.new.writes cells c.send-2.ensures.counted in
+    made_after c.args.writes.now c.send-2.new.writes c.write_edges.new.writes close c.write_edges.ensures.counted

@@ -2,7 +2,7 @@ use Rattle.std.proofs.Common.{List, length, drop, ap, refl, arith}
 use Rattle.std.proofs.lemmas.Result.{err_from_is_err_and}
 use Rattle.std.proofs.lemmas.List.{drop_all}
 use Rattle.rh_layout.specs.declared.shape.Shape.{Shape}
-use Rattle.rh_dump.proofs.texts.Counts.{err_ok, err_err}
+use Rattle.rh_dump.proofs.texts.Counts.{made_none, made_after, spent_after, err_ok, err_err}
 use Rattle.rh_dump.proofs.texts.Sending.{Sent-begin, Sent-all, total_more}
 use Rattle.rh_dot.proofs.Parts.{objects_text, objects_next, objects_less}
 use Rattle.rh_dot.proofs.writing.write_objects.Goals as goal
@@ -23,6 +23,7 @@ loop-shape-preserved g c =
       filled = total_more c.args.shapes.now _ c.loop-shape.shape-index (length c.loop-shape.rest.now) (length s.1.now) c.loop-shape-test.true c.loop-shape.invariant.filled c.split_at.ensures.back_len;
       number = omega (arith, c.loop-shape.invariant.number);
       none_failed = c.in_ok-write_object.ensures.none_failed;
+      counted = made_after c.args.writes.now c.loop-shape.writes c.write_object.new.writes c.loop-shape.invariant.counted c.write_object.ensures.counted;
     }
 
 pub loop-shape-init : goal.loop-shape-init
@@ -31,6 +32,7 @@ loop-shape-init g c = record {
   filled = c.requires.filled;
   number = refl;
   none_failed = c.requires.none_failed;
+  counted = made_none c.args.writes.now;
 }
 
 pub write_object-requires : goal.write_object-requires
@@ -63,3 +65,17 @@ returns-clause-failed g c = tt
 
 pub returns-clause-none_failed : goal.returns-clause-none_failed
 returns-clause-none_failed g c = c.loop-shape.invariant.none_failed
+
+pub returns-in_err-write_object-clause-spent : goal.returns-in_err-write_object-clause-spent
+returns-in_err-write_object-clause-spent g c =
+    err_err c.from_residual.result (spent_after c.args.writes.now c.loop-shape.writes c.write_object.new.writes c.loop-shape.invariant.counted c.in_err-write_object.ensures.spent)
+
+pub returns-in_err-write_object-clause-counted : goal.returns-in_err-write_object-clause-counted
+returns-in_err-write_object-clause-counted g c =
+    made_after c.args.writes.now c.loop-shape.writes c.write_object.new.writes c.loop-shape.invariant.counted c.write_object.ensures.counted
+
+pub returns-clause-spent : goal.returns-clause-spent
+returns-clause-spent g c = tt
+
+pub returns-clause-counted : goal.returns-clause-counted
+returns-clause-counted g c = c.loop-shape.invariant.counted

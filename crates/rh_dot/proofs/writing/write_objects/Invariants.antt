@@ -1,6 +1,7 @@
 use Rattle.std.proofs.Common.{◌≡◌, false, drop, length}
 use Rattle.std.specs.List.{flat_map}
 use Rattle.rh_text.specs.lemmas.Appends.{Sent}
+use Rattle.rh_text.specs.IoLog.{MadeSince}
 use Rattle.rh_dump.specs.Graph.{objects_in, total}
 use Rattle.rh_dot.specs.Dot.{object_lines, spell_dot_line}
 use Rattle.rh_dot.proofs.writing.write_objects.Given as goal
@@ -11,4 +12,5 @@ invariant-loop-shape g l = record {
   filled : total (drop l.shape-index l.shapes) ≡ length l.rest;
   number : l.number ≡ l.shape-index;
   none_failed : l.writes.failed ≡ false;
+  counted : MadeSince 0 l.fn.writes l.writes;
 }
