@@ -151,9 +151,31 @@ fn put_rows(
     text.put(b"\n");
 }
 
+/// Writes the line of this number, given without its line end, and under it carets under the bytes
+/// from one column to another, or one where something is missing. A byte that isn't printable is
+/// shown as `\xNN`. A long line is cut round these columns, with `..` where it is cut.
+///
+/// # Errors
+///
+/// `Write` where a write failed.
+pub fn write_rows<W: io::Write>(
+    out: &mut W,
+    number: u32,
+    line: &[u8],
+    begins: usize,
+    ends: usize,
+) -> Result<(), Write>
+    requires { (begins ≤ ends) × (ends ≤ length line.now) }
+{
+    let (from, to) = window(line, begins);
+    let mut text = LineText::new();
+    let shown = if ends < to { ends } else { to };
+    put_rows(&mut text, number, line, begins, shown, from, to);
+    send(out, &mut IoLog::new(), text.as_bytes())
+}
+
 /// Writes the line of this number, given without its line end, carets under its faulty part, and
-/// the sentence that says what is wrong, each as a line. A byte that isn't printable is shown as
-/// `\xNN`. A long line is cut round the part, with `..` where it is cut.
+/// the sentence that says what is wrong, each as a line. The line is shown as `write_rows` shows it.
 ///
 /// # Errors
 ///
@@ -166,11 +188,7 @@ pub fn write_block<W: io::Write>(
 ) -> Result<(), Write>
     requires { (part.now.begins ≤ part.now.ends) × (part.now.ends ≤ length line.now) }
 {
-    let (from, to) = window(line, part.begins);
-    let mut text = LineText::new();
-    let ends = if part.ends < to { part.ends } else { to };
-    put_rows(&mut text, number, line, part.begins, ends, from, to);
-    send(out, &mut IoLog::new(), text.as_bytes())?;
+    write_rows(out, number, line, part.begins, part.ends)?;
     let why = part.why;
     match writeln!(out, "{why}") {
         Ok(()) => Ok(()),

@@ -11,7 +11,8 @@ mod near;
 mod part;
 mod why;
 
-pub use block::write_block;
+pub use block::{write_block, write_rows};
+pub use columns::columns_of;
 pub use expected::Expected;
 pub use finding::{fault_part, no_command_part};
 pub use keyword::Keyword;
