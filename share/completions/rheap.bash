@@ -7,10 +7,10 @@ _rheap() {
         return
     fi
     case ${COMP_WORDS[1]} in
-    run) options='--paced --mark --grow -h --help' valued='--mark --grow' ;;
-    threads) options='--replicators --idle -h --help' valued='--replicators --idle' ;;
-    replay) options='-h --help' valued='' ;;
-    dump) options='--dot -h --help' valued='' ;;
+    run) options='--explain --paced --mark --grow -h --help' valued='--mark --grow' ;;
+    threads) options='--explain --replicators --idle -h --help' valued='--replicators --idle' ;;
+    replay) options='--explain -h --help' valued='' ;;
+    dump) options='--explain --dot -h --help' valued='' ;;
     help)
         mapfile -t COMPREPLY < <(compgen -W 'run threads replay dump' -- "$word")
         return

@@ -2,6 +2,7 @@
 
 mod command_line;
 mod driving;
+mod explaining;
 mod failing;
 mod faults;
 mod growing;

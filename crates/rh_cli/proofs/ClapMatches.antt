@@ -9,7 +9,7 @@ use Rattle.clap.specs.declared.parser.matches.ArgMatches.TheViews.{out-ArgMatche
 use Rattle.std.specs.Box.{box_value}
 use Rattle.clap.proofs.WalkLemmas.{first_value-rows}
 use Rattle.clap.proofs.OnLiterals.{clap_on_literals}
-use Rattle.rh_cli.specs.Ask.{command_and_file_in, command_and_file_of, command_named, error_kinds, options_in, with_file, rheap_app, is_taken, Options}
+use Rattle.rh_cli.specs.Ask.{command_and_file_in, command_and_file_of, command_named, error_kinds, explains_in, explains_of, is_set, options_in, with_file, rheap_app, is_taken, Options}
 use Rattle.rh_cli.specs.Fault.{IsClapFault}
 use Rattle.rh_cli.specs.declared.fault.LineFault.{LineFault}
 use Rattle.rh_cli.specs.declared.fault.LineFault.TheVariants as faults
@@ -33,6 +33,7 @@ pub record AreHeld (rows : List Row) (given : Options) : Type 0 where
   pub replicators : given.replicators ≡ first_of (codes "replicators") rows
   pub idle : given.idle ≡ first_of (codes "idle") rows
   pub dot : given.dot ≡ first_of (codes "dot") rows
+  pub explain : given.explain ≡ first_of (codes "explain") rows
 
 -- the same, of matches
 pub record AreMatched (values : ArgMatches) (given : Options) : Type 0 where
@@ -42,6 +43,7 @@ pub record AreMatched (values : ArgMatches) (given : Options) : Type 0 where
   pub replicators : given.replicators ≡ first_value (found_of values) (codes "replicators")
   pub idle : given.idle ≡ first_value (found_of values) (codes "idle")
   pub dot : given.dot ≡ first_value (found_of values) (codes "dot")
+  pub explain : given.explain ≡ first_value (found_of values) (codes "explain")
 
 -- the options that matches hold
 abbrev pub options_of : ArgMatches → Options
@@ -52,10 +54,11 @@ options_of values = record {
   replicators = first_value (found_of values) (codes "replicators");
   idle = first_value (found_of values) (codes "idle");
   dot = first_value (found_of values) (codes "dot");
+  explain = first_value (found_of values) (codes "explain");
 }
 
 pub all_matched : (values : ArgMatches) → AreMatched values (options_of values)
-all_matched values = record { paced = refl; mark = refl; grow = refl; replicators = refl; idle = refl; dot = refl }
+all_matched values = record { paced = refl; mark = refl; grow = refl; replicators = refl; idle = refl; dot = refl; explain = refl }
 
 held_by_matches : (values : ArgMatches) (given : Options) → AreMatched values given → AreHeld (rows_of (found_of values)) given
 held_by_matches values given m =
@@ -66,11 +69,12 @@ held_by_matches values given m =
       replicators = m.replicators ∙ first_value-rows found (codes "replicators");
       idle = m.idle ∙ first_value-rows found (codes "idle");
       dot = m.dot ∙ first_value-rows found (codes "dot");
+      explain = m.explain ∙ first_value-rows found (codes "explain");
     }
 
 held_options : (rows : List Row) (given : Options) → AreHeld rows given → options_in rows ≡ given
 held_options rows given held =
-    sym (rw held.paced (rw held.mark (rw held.grow (rw held.replicators (rw held.idle (rw held.dot refl))))))
+    sym (rw held.paced (rw held.mark (rw held.grow (rw held.replicators (rw held.idle (rw held.dot (rw held.explain refl)))))))
 
 -- what a file and options of the same matches hold
 from_values : (rows : List Row) (n : Text) (file : Option Text) (given : Options) → file ≡ first_of (codes "FILE") rows → AreHeld rows given
@@ -88,6 +92,16 @@ command_and_file_in-matches m n values file given name rows is matched =
     let entered = rows_are (λ b. (out-SubCommand (box_value b)).name.now) (λ b. rows_of (found_of (out-SubCommand (box_value b)).matches)) (out-ArgMatches m).subcommand n (rows_of found) name rows in
     ap command_and_file_in entered ∙ from_values (rows_of found) n file given (is ∙ first_value-rows found (codes "FILE")) (held_by_matches values given matched)
 
+-- what a subcommand with these matches says of explanations
+pub explains_in-matches : (m : ArgMatches) (n : Text) (values : ArgMatches) (given : Options) → Some n ≡ subcommand_name_of m
+    → Some (rows_of (found_of values)) ≡ option_map (λ (p : Text × List Row). p.1) (subcommand_rows_of m)
+    → AreMatched values given
+    → explains_in (subcommand_rows_of m) ≡ is_set given.explain
+explains_in-matches m n values given name rows matched =
+    let found = found_of values in
+    let entered = rows_are (λ b. (out-SubCommand (box_value b)).name.now) (λ b. rows_of (found_of (out-SubCommand (box_value b)).matches)) (out-ArgMatches m).subcommand n (rows_of found) name rows in
+    ap explains_in entered ∙ ap (λ (o : Options). is_set o.explain) (held_options (rows_of found) given (held_by_matches values given matched))
+
 is_simple_line : is_simple rheap_app ≡ true
 unfolding clap_on_literals
 is_simple_line = refl
@@ -98,6 +112,13 @@ unfolding command_and_file_of
 command_and_file_of-matches a arguments m is h =
     let entered = (h (ap is_simple is ∙ is_simple_line)).1 in
     ap command_and_file_in (sym (entered ∙ ap (λ (x : App). subcommand_of x arguments) is))
+
+-- so it is with explanations
+pub explains_of-matches : (a : App) (arguments : List Text) (m : ArgMatches) → a ≡ rheap_app → HasMatchesOf a arguments m → explains_of arguments ≡ explains_in (subcommand_rows_of m)
+unfolding explains_of
+explains_of-matches a arguments m is h =
+    let entered = (h (ap is_simple is ∙ is_simple_line)).1 in
+    ap explains_in (sym (entered ∙ ap (λ (x : App). subcommand_of x arguments) is))
 
 -- arguments that clap takes are taken by the same command line under another name
 pub taken-app : (a : App) (arguments : List Text) → a ≡ rheap_app → is_taken arguments ≡ true → takes a arguments ≡ true

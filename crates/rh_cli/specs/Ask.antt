@@ -14,9 +14,14 @@ use Rattle.rh_cli.specs.declared.fault.LineFault.TheVariants as faults
 abbrev pub file_rule : Rule
 file_rule = record (new_rule (codes "FILE")) { required = true }
 
+-- whether a fault is explained, a flag of each command
+abbrev pub explain_rule : Rule
+explain_rule =
+    record (new_rule (codes "explain")) { long = Some (codes "explain"); action = Some SetTrue }
+
 -- a command of this name that takes a file, as `run FILE`
 abbrev pub file_app : Text → App
-file_app name = with_rule (new_app name) file_rule
+file_app name = with_rule (with_rule (new_app name) file_rule) explain_rule
 
 -- the options of `run`: a flag, and two with a value
 abbrev pub paced_rule : Rule
@@ -131,6 +136,7 @@ pub record Options : Type 0 where
   pub replicators : Option Text
   pub idle : Option Text
   pub dot : Option Text
+  pub explain : Option Text
 
 -- what is written of a dump: its graph for Graphviz where that is asked, and else its counts
 abbrev pub dump_asked : Bool → Subcommand
@@ -162,6 +168,7 @@ options_in rows = record {
   replicators = first_of (codes "replicators") rows;
   idle = first_of (codes "idle") rows;
   dot = first_of (codes "dot") rows;
+  explain = first_of (codes "explain") rows;
 }
 
 -- the command and the file that a parse holds: the command that it found, with its options, and the
@@ -170,6 +177,15 @@ abbrev pub command_and_file_in : Option (Text × List Row) → Result (Subcomman
 command_and_file_in None = Err faults.Incomplete
 command_and_file_in (Some found) =
     with_file (command_named found.0 (options_in found.1)) (first_of (codes "FILE") found.1)
+
+-- whether a parse holds that a fault is to be explained
+abbrev pub explains_in : Option (Text × List Row) → Bool
+explains_in None = false
+explains_in (Some found) = is_set (options_in found.1).explain
+
+-- whether clap's parse of the arguments does
+unfoldable pub explains_of : List Text → Bool
+explains_of arguments = explains_in (subcommand_of rheap_app arguments)
 
 -- the command and the file that clap's parse of the arguments holds
 unfoldable pub command_and_file_of : List Text → Result (Subcommand × Text) LineFault

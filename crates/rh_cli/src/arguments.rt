@@ -3,7 +3,7 @@
 ghost use Rattle.std.specs.Prelude.{◌≡◌, ◌≢◌, ◌⊎◌, [], map, option_map, false, Ok, Err, IsTrue, IfOk, IfErr, codes};
 ghost use Rattle.clap.specs.declared.builder.command.Command.TheViews.{out-Command as fields_of};
 ghost use Rattle.clap.specs.Words.{kind_of, app_of, subcommand_rows_of};
-ghost use Rattle.rh_cli.specs.Ask.{command_and_file, command_and_file_in, command_and_file_of, command_named, error_kinds, dump_app, dump_asked, file_app, growing_asked, marked_app, number_within, run_app, run_given, rheap_app, is_set, is_taken, run_asked, threads_app, threads_asked};
+ghost use Rattle.rh_cli.specs.Ask.{command_and_file, command_and_file_in, command_and_file_of, command_named, error_kinds, explains_in, explains_of, dump_app, dump_asked, file_app, growing_asked, marked_app, number_within, run_app, run_given, rheap_app, is_set, is_taken, run_asked, threads_app, threads_asked};
 ghost use Rattle.rh_cli.specs.Fault.{IsArgumentsFault, IsClapFault};
 ghost use Rattle.rh_cli.specs.declared.ask.Ask.{Ask};
 
@@ -32,6 +32,7 @@ struct Options<'a> {
     replicators: Option<&'a str>,
     idle: Option<&'a str>,
     dot: Option<&'a str>,
+    explain: Option<&'a str>,
 }
 
 /// The command line as clap knows it.
@@ -55,7 +56,7 @@ fn run_command<'a>(alloc: Global) -> Result<Command<'a>, AllocError>
     ensures local { IfOk result (λ command. (fields_of command).has_globals ≡ false) }
 {
     let grow = Arg::new(alloc, "grow").long("grow").value_name("N").help(
-        "With --paced, without --mark: the heap grows to at most N words in each of its spaces",
+        "With --paced, without --mark: each of its spaces grows to at most N words",
     );
     marked_command(alloc)?.arg(grow)
 }
@@ -89,7 +90,7 @@ fn threads_command<'a>(alloc: Global) -> Result<Command<'a>, AllocError>
         .value_name("N")
         .help("The replicators, in threads of their own: 0 to 8, 2 where it isn't said");
     let idle = Arg::new(alloc, "idle").long("idle").value_name("N").help(
-        "The idle words of an increment in a cycle: 0 to 65535, 0 where it isn't said",
+        "The idle words of an increment in a cycle: 0 to 65535, 0 if it isn't said",
     );
     file_command(alloc, "threads", about, help::THREADS)?
         .arg(replicators)?
@@ -131,10 +132,15 @@ fn file_command<'a>(
     let file = Arg::new(alloc, "FILE")
         .required(true)
         .help("The file to read; - is standard input");
+    let explain = Arg::new(alloc, "explain")
+        .long("explain")
+        .action(ArgAction::SetTrue)
+        .help("Shows the part of a line that is wrong, and says what may stand there");
     Command::new(alloc, name)
         .about(about)
         .after_help(after_help)
-        .arg(file)
+        .arg(file)?
+        .arg(explain)
 }
 
 /// What the arguments ask for. The first one is the program's name. Clap takes its memory from the
@@ -152,6 +158,9 @@ pub fn read_words<'a>(alloc: Global, arguments: &'a [&'a str]) -> Result<Ask<'a>
     // The request has the command and the file that clap's parse of the arguments holds.
     ensures asked { IfOk result (λ ask.
         command_and_file_of (map (λ a. a.now) arguments.now) ≡ Ok (command_and_file ask)) }
+    // It asks for explanations exactly where that parse has the flag for them.
+    ensures explained { IfOk result (λ ask.
+        ask.explain ≡ explains_of (map (λ a. a.now) arguments.now)) }
     // A request comes only where clap refuses nothing.
     ensures taken { IfOk result (λ ask. error_kinds (map (λ a. a.now) arguments.now) ≡ []) }
     // Arguments that clap takes, and that hold a request, are refused for want of memory alone.
@@ -183,6 +192,8 @@ fn matches_of<'a>(alloc: Global, arguments: &'a [&'a str]) -> Result<ArgMatches<
     ensures held { IfOk result (λ matches.
         command_and_file_of (map (λ a. a.now) arguments.now)
         ≡ command_and_file_in (subcommand_rows_of matches)) }
+    ensures explained { IfOk result (λ matches. explains_of (map (λ a. a.now) arguments.now)
+        ≡ explains_in (subcommand_rows_of matches)) }
     ensures taken { IfOk result (λ matches. error_kinds (map (λ a. a.now) arguments.now) ≡ []) }
     ensures refused { IfErr result (λ fault. IsTrue (is_taken (map (λ a. a.now) arguments.now))
         → fault ≡ LineFault.OutOfMemory) }
@@ -201,6 +212,8 @@ fn matches_of<'a>(alloc: Global, arguments: &'a [&'a str]) -> Result<ArgMatches<
 fn ask_of<'a>(matches: &ArgMatches<'a>) -> Result<Ask<'a>, LineFault>
     ensures found { IfOk result (λ ask.
         command_and_file_in (subcommand_rows_of matches.now) ≡ Ok (command_and_file ask)) }
+    ensures explained { IfOk result (λ ask.
+        explains_in (subcommand_rows_of matches.now) ≡ ask.explain) }
     ensures none { IfErr result (λ fault.
         command_and_file_in (subcommand_rows_of matches.now) ≡ Err fault) }
     ensures kinds { IfErr result (λ fault. IsArgumentsFault fault) }
@@ -218,9 +231,15 @@ fn ask_of<'a>(matches: &ArgMatches<'a>) -> Result<Ask<'a>, LineFault>
         replicators: values.get_str("replicators"),
         idle: values.get_str("idle"),
         dot: values.get_str("dot"),
+        explain: values.get_str("explain"),
     };
     let subcommand = command_named(name, options)?;
-    Ok(Ask { subcommand, file })
+    let explain = is_set(options.explain);
+    Ok(Ask {
+        subcommand,
+        file,
+        explain,
+    })
 }
 
 /// Whether the value of a flag says that it was set.
@@ -242,6 +261,7 @@ fn command_named(name: &str, given: Options<'_>) -> Result<Subcommand, LineFault
       replicators = option_map (λ t. t.now) given.entry.replicators;
       idle = option_map (λ t. t.now) given.entry.idle;
       dot = option_map (λ t. t.now) given.entry.dot;
+      explain = option_map (λ t. t.now) given.entry.explain;
     }) }
     ensures kinds { IfErr result (λ fault. IsArgumentsFault fault) }
 {

@@ -38,4 +38,6 @@ pub struct Ask<'a> {
     pub subcommand: Subcommand,
     /// The file's name; `-` is standard input.
     pub file: &'a str,
+    /// Whether a fault is to be explained, also where standard error is no terminal.
+    pub explain: bool,
 }

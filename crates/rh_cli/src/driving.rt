@@ -60,7 +60,7 @@ where
 }
 
 /// Does what a subcommand asks.
-fn act<T, A, R, O>(
+pub(crate) fn act<T, A, R, O>(
     rt: &T,
     alloc: A,
     subcommand: Subcommand,

@@ -81,7 +81,8 @@ Statuses:
   3  memory was refused
 
 On failure standard error has one line, as `rheap: line 3: Cut` or `rheap: heap: BadSpace`; where
-the command line isn't understood it may have several.
+the command line isn't understood it may have several. With --explain, and always on a terminal, the
+file's line comes after it, carets under the part that is wrong, and what may stand there.
   line L: KIND   the first faulty line and its fault, as below; a history or a dump given to `run`
                  is the fault Header
   heap: NAME     the first of these that is out of range: BadSpace (WORDS), BadRatio (RATIO),
@@ -144,7 +145,7 @@ Statuses:
   4  the history isn't that of the calls, not of the trace, or not legal, and isn't printed
 
 On failure standard error has one line, as `rheap: line 3: Word`; where the command line isn't
-understood it may have several. Faults are those of `run`, and
+understood it may have several. --explain adds what it adds to `run`. Faults are those of `run`, and
   line L: Word     the line is no command
   line L: Root     the line's owner isn't below OWNERS
   history differs  the status is 4
@@ -167,7 +168,9 @@ N`, or `wrong AT expected ANSWER` for the first call, counted from 1, whose answ
 heap that never moves its objects.
 
 On failure standard error has one line, as `rheap: line 3: Cut`, or as `run` has it where no line is
-at fault; where the command line isn't understood it may have several.
+at fault; where the command line isn't understood it may have several. With --explain, and always on
+a terminal, the file's line comes after it, carets under the part that is wrong, and what may stand
+there.
 
 Faults of a line, of which the first that holds is told:
   Empty     the file has no byte
@@ -214,7 +217,8 @@ their fields, raw ones with round corners, and each reference is an arrow.
 
 On failure standard error has one line, as `rheap: line 3: Order`, or `rheap: open failed`; the
 others are read failed, write failed and out of memory, as `rheap run --help` tells them. Where the
-command line isn't understood it may have several.
+command line isn't understood it may have several. With --explain, and always on a terminal, the
+file's line comes after it, carets under the part that is wrong, and what may stand there.
 
 Faults of a line, of which the first that holds is told, the last three part by part, from left to
 right:

@@ -12,11 +12,13 @@ ghost use Rattle.rh_cli.specs.declared.ask.Ask.{Ask as AskOf};
 use crate::arguments::read_words;
 use crate::ask::Ask;
 use crate::driving::{drive, show, tell};
+use crate::explaining::drive_explained;
 use crate::fault::LineFault;
+use crate::keeping::KeptReader;
 use std::alloc::Global;
 use std::env::{self, Args};
 use std::fs::File;
-use std::io::{self, BufWriter, ErrorKind, Write};
+use std::io::{self, BufWriter, ErrorKind, Read, Write};
 use std::rt::{Env, Files};
 use std::sync::Wait;
 use std::thread::Threads;
@@ -26,15 +28,16 @@ const OUTPUT_BYTES: usize = 65_536;
 
 /// Reads the command line, does what it asks, and answers the status to end with. Answers, help and
 /// the version go to standard output, and what went wrong to `err`. What is done in threads is done
-/// in those of `threads`.
-pub fn play<R, T, E>(rt: &R, threads: &T, err: &mut E) -> u8
+/// in those of `threads`. Where `explains` is set a fault is explained, whatever the command line
+/// says of that.
+pub fn play<R, T, E>(rt: &R, threads: &T, err: &mut E, explains: bool) -> u8
 where
     R: Env + Files + Input + Print + AllocGlobal,
     T: Threads + Wait + Sync,
     E: Write,
     ensures { result ≤ 4 }
 {
-    match carry_out(rt, threads, err) {
+    match carry_out(rt, threads, err, explains) {
         Ok(status) => status,
         Err(fault) if fault.status() == 0 => show(&fault, &mut io::writer(rt), err),
         Err(fault) => tell(&fault, err),
@@ -42,7 +45,7 @@ where
 }
 
 /// Carries out what the command line asks. An `Err` is for what went wrong before that.
-fn carry_out<R, T, E>(rt: &R, threads: &T, err: &mut E) -> Result<u8, LineFault>
+fn carry_out<R, T, E>(rt: &R, threads: &T, err: &mut E, explains: bool) -> Result<u8, LineFault>
 where
     R: Env + Files + Input + Print + AllocGlobal,
     T: Threads + Wait + Sync,
@@ -52,7 +55,7 @@ where
 {
     let arguments = arguments_of(rt.alloc(), env::args(rt))?;
     let words = words_of(rt.alloc(), arguments.as_slice())?;
-    with_arguments(rt, threads, words.as_slice(), err)
+    with_arguments(rt, threads, words.as_slice(), err, explains)
 }
 
 /// The arguments that were read, where they are text and memory isn't refused.
@@ -109,6 +112,7 @@ fn with_arguments<'a, R, T, E>(
     threads: &T,
     arguments: &'a [&'a str],
     err: &mut E,
+    explains: bool,
 ) -> Result<u8, LineFault>
 where
     R: Files + Input + Print + AllocGlobal,
@@ -127,7 +131,7 @@ where
     ensures early { IfErr result (λ fault. IsEarlyFault fault) }
 {
     let ask = read_words(rt.alloc(), arguments)?;
-    with_file(rt, threads, &ask, err)
+    with_file(rt, threads, &ask, err, explains)
 }
 
 /// Carries out a request with its file.
@@ -136,6 +140,7 @@ pub(crate) fn with_file<R, T, E>(
     threads: &T,
     ask: &Ask<'_>,
     err: &mut E,
+    explains: bool,
 ) -> Result<u8, LineFault>
 where
     R: Files + Input + Print + AllocGlobal,
@@ -150,10 +155,43 @@ where
 {
     let mut out = gathering(rt.alloc(), io::writer(rt))?;
     if is_standard_input(ask.file) {
-        return Ok(drive(threads, rt.alloc(), ask, &mut rt.reader(), &mut out, err));
+        return Ok(carried_out(
+            threads,
+            rt.alloc(),
+            ask,
+            rt.reader(),
+            &mut out,
+            err,
+            explains,
+        ));
     }
-    let mut file = opened(rt, ask.file)?;
-    Ok(drive(threads, rt.alloc(), ask, &mut file, &mut out, err))
+    let file = opened(rt, ask.file)?;
+    Ok(carried_out(threads, rt.alloc(), ask, file, &mut out, err, explains))
+}
+
+/// Carries out a request with what the reader gives, and explains a fault where that is asked.
+fn carried_out<T, R, O, E>(
+    threads: &T,
+    alloc: Global,
+    ask: &Ask<'_>,
+    reader: R,
+    out: &mut O,
+    err: &mut E,
+    explains: bool,
+) -> u8
+where
+    T: Threads + Wait + Sync,
+    R: Read + Drop,
+    O: Write,
+    E: Write,
+    ensures { IsLateStatus result }
+{
+    if explains || ask.explain {
+        let mut kept = KeptReader::new(alloc, reader);
+        return drive_explained(threads, alloc, ask, &mut kept, out, err);
+    }
+    let mut plain = reader;
+    drive(threads, alloc, ask, &mut plain, out, err)
 }
 
 /// A writer that gathers what is written before the other writes it.

@@ -30,7 +30,7 @@ fn arguments_that_ask_for_each_command(rt: HostRuntime) {
         let file = "first";
         let words = ["rheap", name, file];
         let ask = read_words(rt.alloc(), &words);
-        assert!(rt; matches!(ask, Ok(ask) if ask == Ask { subcommand, file }));
+        assert!(rt; matches!(ask, Ok(ask) if ask == Ask { subcommand, file, explain: false }));
     }
 }
 
@@ -61,7 +61,7 @@ fn expect_played(
         is_closed,
         printed: RefCell::new(Vec::new(rt.alloc())),
     };
-    expect_equal(test, play(&terminal, test, &mut told), status);
+    expect_equal(test, play(&terminal, test, &mut told, false), status);
     expect_written(test, &terminal.printed.into_inner(), out);
     expect_written(test, &told, err);
 }
@@ -308,6 +308,44 @@ const THREADS: &[(&[&[u8]], u8, &[u8], &[u8])] = &[
     ),
 ];
 
+/// What a trace that is no history is told as, where that is explained.
+const HEADER_EXPLAINED: &[u8] =
+    b"rheap: line 1: Header\n1 | heap 16 8 4 2 2\n    ^^^^\nthis is a trace: rheap run reads it\n";
+
+/// What each command does where faults are to be explained.
+const EXPLAINED: &[(&[&[u8]], u8, &[u8], &[u8])] = &[
+    (
+        &[b"rheap", b"replay", b"-", b"--explain"],
+        1,
+        b"",
+        HEADER_EXPLAINED,
+    ),
+    (
+        &[b"rheap", b"run", b"--explain", b"-"],
+        0,
+        WITHOUT_FIELDS_ANSWERS,
+        b"",
+    ),
+    (
+        &[b"rheap", b"run", b"/dev/null", b"--explain"],
+        1,
+        b"",
+        b"rheap: line 1: Empty\n1 | \n    ^\nthe file has no byte: a trace begins with heap WORDS RATIO LOG OWNERS SLOTS\n",
+    ),
+    (
+        &[b"rheap", b"run", b"no such file", b"--explain"],
+        1,
+        b"",
+        b"rheap: open failed\n",
+    ),
+    (
+        &[b"rheap", b"run", b"-", b"--explain=1"],
+        2,
+        b"",
+        b"error: ",
+    ),
+];
+
 /// The same where standard output is closed.
 const CLOSED: &[(&[&[u8]], u8, &[u8], &[u8])] = &[
     (&[b"rheap", b"--version"], 1, b"", b"rheap: write failed\n"),
@@ -332,6 +370,9 @@ fn calls_of_the_program(rt: HostRuntime) {
         expect_played(&Row { rt: &rt, row }, &rt, false, call);
     }
     for (row, call) in THREADS.iter().enumerate() {
+        expect_played(&Row { rt: &rt, row }, &rt, false, call);
+    }
+    for (row, call) in EXPLAINED.iter().enumerate() {
         expect_played(&Row { rt: &rt, row }, &rt, false, call);
     }
     for (row, call) in CLOSED.iter().enumerate() {

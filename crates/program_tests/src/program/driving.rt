@@ -12,11 +12,13 @@ use std::thread::Threads;
 pub const RUN: Ask<'static> = Ask {
     subcommand: Subcommand::Run,
     file: "-",
+    explain: false,
 };
 
 pub const PACED: Ask<'static> = Ask {
     subcommand: Subcommand::RunPaced { mark: None },
     file: "-",
+    explain: false,
 };
 
 pub const THREADS: Ask<'static> = Ask {
@@ -25,21 +27,25 @@ pub const THREADS: Ask<'static> = Ask {
         idle: 0,
     },
     file: "-",
+    explain: false,
 };
 
 pub const REPLAY: Ask<'static> = Ask {
     subcommand: Subcommand::Replay,
     file: "-",
+    explain: false,
 };
 
 pub const DUMP: Ask<'static> = Ask {
     subcommand: Subcommand::Dump,
     file: "-",
+    explain: false,
 };
 
 pub const DOT: Ask<'static> = Ask {
     subcommand: Subcommand::Dot,
     file: "-",
+    explain: false,
 };
 
 /// Does with the text what is asked, and compares the status and what is written to both writers.

@@ -25,11 +25,13 @@ use std::thread::Threads;
 const MARKED: Ask<'static> = Ask {
     subcommand: Subcommand::RunPaced { mark: Some(20) },
     file: "-",
+    explain: false,
 };
 
 const GROWING: Ask<'static> = Ask {
     subcommand: Subcommand::RunGrowing { at_most: 29 },
     file: "-",
+    explain: false,
 };
 
 const ALONE: Ask<'static> = Ask {
@@ -38,6 +40,7 @@ const ALONE: Ask<'static> = Ask {
         idle: 0,
     },
     file: "-",
+    explain: false,
 };
 
 const CROWDED: Ask<'static> = Ask {
@@ -46,6 +49,7 @@ const CROWDED: Ask<'static> = Ask {
         idle: 65_535,
     },
     file: "-",
+    explain: false,
 };
 
 /// The answers of a paced run of the two flips' trace at that mark, and of that growing run. Cycles

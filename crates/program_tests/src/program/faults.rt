@@ -334,12 +334,14 @@ fn first_faults_of_dumps(rt: HostRuntime) -> Result<(), Fail> {
 const MARKED: Ask<'static> = Ask {
     subcommand: Subcommand::RunPaced { mark: Some(9) },
     file: "-",
+    explain: false,
 };
 
 /// Runs that grow to at most so many words, which is more than a heap can have.
 const GROWING: Ask<'static> = Ask {
     subcommand: Subcommand::RunGrowing { at_most: 1_000 },
     file: "-",
+    explain: false,
 };
 
 const BOUNDLESS: Ask<'static> = Ask {
@@ -347,6 +349,7 @@ const BOUNDLESS: Ask<'static> = Ask {
         at_most: 16_777_217,
     },
     file: "-",
+    explain: false,
 };
 
 /// Runs that can't be made, each with why: by the first line; and where a pace is asked for by the

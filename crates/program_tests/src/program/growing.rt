@@ -17,6 +17,7 @@ fn growing(at_most: u32) -> Ask<'static> {
     Ask {
         subcommand: Subcommand::RunGrowing { at_most },
         file: "-",
+        explain: false,
     }
 }
 

@@ -1,7 +1,7 @@
 use Rattle.std.proofs.Common.{◌∙◌, ap, sym, option_map, Some, None, Err}
 use Rattle.std.proofs.lemmas.Result.{err_from_is_err_and}
 use Rattle.rh_cli.specs.Ask.{with_file, Options}
-use Rattle.rh_cli.proofs.ClapMatches.{command_and_file_in-matches, all_matched, options_of, AreMatched}
+use Rattle.rh_cli.proofs.ClapMatches.{command_and_file_in-matches, all_matched, options_of, AreMatched, explains_in-matches}
 use Rattle.rh_cli.proofs.arguments.ask_of.Goals as goal
 
 pub returns-in_default-get_str-clause-none : goal.returns-in_default-get_str-clause-none
@@ -19,8 +19,9 @@ returns-in_err-subcommand-clause-none c =
       replicators = option_map (λ t. t.now) c.get_str-5.result;
       idle = option_map (λ t. t.now) c.get_str-6.result;
       dot = option_map (λ t. t.now) c.get_str-7.result;
+      explain = option_map (λ t. t.now) c.get_str-8.result;
     } in
-    let matched : AreMatched values given = record { paced = c.get_str-2.ensures; mark = c.get_str-3.ensures; grow = c.get_str-4.ensures; replicators = c.get_str-5.ensures; idle = c.get_str-6.ensures; dot = c.get_str-7.ensures } in
+    let matched : AreMatched values given = record { paced = c.get_str-2.ensures; mark = c.get_str-3.ensures; grow = c.get_str-4.ensures; replicators = c.get_str-5.ensures; idle = c.get_str-6.ensures; dot = c.get_str-7.ensures; explain = c.get_str-8.ensures } in
     let e = command_and_file_in-matches c.args.matches.now c.in-Some.name.now values (Some c.in-Some-get_str.file.now) given c.in-Some.ensures.name c.in-Some.ensures.rows c.in-Some-get_str.ensures matched in
     let named = ap (λ r. with_file r (Some c.in-Some-get_str.file.now)) (sym c.in_err-subcommand.ensures.named) in
     let p = err_from_is_err_and c.from_residual.result c.from_residual.ensures.1 in
@@ -36,7 +37,23 @@ returns-clause-found c =
       replicators = option_map (λ t. t.now) c.get_str-5.result;
       idle = option_map (λ t. t.now) c.get_str-6.result;
       dot = option_map (λ t. t.now) c.get_str-7.result;
+      explain = option_map (λ t. t.now) c.get_str-8.result;
     } in
-    let matched : AreMatched values given = record { paced = c.get_str-2.ensures; mark = c.get_str-3.ensures; grow = c.get_str-4.ensures; replicators = c.get_str-5.ensures; idle = c.get_str-6.ensures; dot = c.get_str-7.ensures } in
+    let matched : AreMatched values given = record { paced = c.get_str-2.ensures; mark = c.get_str-3.ensures; grow = c.get_str-4.ensures; replicators = c.get_str-5.ensures; idle = c.get_str-6.ensures; dot = c.get_str-7.ensures; explain = c.get_str-8.ensures } in
     let e = command_and_file_in-matches c.args.matches.now c.in-Some.name.now values (Some c.in-Some-get_str.file.now) given c.in-Some.ensures.name c.in-Some.ensures.rows c.in-Some-get_str.ensures matched in
     e ∙ ap (λ r. with_file r (Some c.in-Some-get_str.file.now)) (sym c.in_ok-subcommand.ensures.named)
+
+pub returns-clause-explained : goal.returns-clause-explained
+returns-clause-explained c =
+    let values = c.in-Some.values.now in
+    let given : Options = record {
+      paced = option_map (λ t. t.now) c.get_str-2.result;
+      mark = option_map (λ t. t.now) c.get_str-3.result;
+      grow = option_map (λ t. t.now) c.get_str-4.result;
+      replicators = option_map (λ t. t.now) c.get_str-5.result;
+      idle = option_map (λ t. t.now) c.get_str-6.result;
+      dot = option_map (λ t. t.now) c.get_str-7.result;
+      explain = option_map (λ t. t.now) c.get_str-8.result;
+    } in
+    let matched : AreMatched values given = record { paced = c.get_str-2.ensures; mark = c.get_str-3.ensures; grow = c.get_str-4.ensures; replicators = c.get_str-5.ensures; idle = c.get_str-6.ensures; dot = c.get_str-7.ensures; explain = c.get_str-8.ensures } in
+    explains_in-matches c.args.matches.now c.in-Some.name.now values given c.in-Some.ensures.name c.in-Some.ensures.rows matched ∙ sym c.is_set.ensures
