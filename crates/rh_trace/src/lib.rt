@@ -14,15 +14,17 @@ mod summary;
 
 pub use answers::put_total;
 pub use heap_dump::graph;
+pub use playing::play_request;
 pub use rh_engine::{
     DealRefusal, Engine, GiveRefusal, JoinRefusal, ResizeRefusal, TicketsRefusal, TrayDeal, Trays,
 };
 pub use rh_syntax::{
-    Header, Kind, Line, ParseError, Request, Trace, TraceFault, TrayName, command_of, parse, print,
-    print_logged, tray_name_of, write_answer, write_answer_logged, write_command,
-    write_command_logged,
+    Header, Kind, Line, ParseError, Request, Trace, TraceFault, TrayName, command_of,
+    header_or_fault, parse, print, print_logged, request_or_fault, tray_name_of, write_answer,
+    write_answer_logged, write_command, write_command_logged,
 };
 pub use rh_text::Write;
 pub use run_fault::RunFault;
 pub use running::{config_of, run_bytes, run_trace, run_trace_logged};
+pub use stop::Stop;
 pub use summary::Summary;

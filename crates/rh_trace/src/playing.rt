@@ -174,9 +174,15 @@ fn put_numbers<A: Allocator + Copy>(heap: &Heap<A>, text: &mut LineText)
 }
 
 /// Runs a request, counts it where it is a command or a flip that was done, and writes what is
-/// answered.
+/// answered: one line in each write that the writer takes whole. The text is used for that line.
+///
+/// # Errors
+///
+/// `Write` where a write failed, or 33,554,432 writes of one line, or of a part of a dump's, didn't
+/// come to its end. `OutOfMemory` where the allocator refused memory, at a deal, a join, a resize,
+/// room for tickets, a `gone` or a dump. A prefix of the answer may be written then, and not all.
 #[inline(always)]
-fn play_request<A: Allocator + Copy, W: io::Write>(
+pub fn play_request<A: Allocator + Copy, W: io::Write>(
     alloc: A,
     engine: &mut Engine<A>,
     request: &Request,

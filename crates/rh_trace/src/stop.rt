@@ -7,9 +7,9 @@ use rh_layout::OutOfMemory;
 use rh_text::Write;
 
 /// Why a run of lines stopped before all of them were answered.
-#[derive(Clone, Copy)]
-pub(crate) enum Stop {
-    /// A write failed.
+#[derive(Clone, Copy, Debug, PartialEq, Eq)]
+pub enum Stop {
+    /// A write failed, or 33,554,432 of them didn't come to the end of one text.
     Write,
     /// The allocator refused memory.
     OutOfMemory,
