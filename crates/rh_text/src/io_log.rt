@@ -126,6 +126,7 @@ impl IoLog {
     /// One write, whose answer it hands on. It fails where it answers an error and was not
     /// interrupted, or takes no byte of some. A write of none is not made: it answers that it took
     /// none, and all stays as it was.
+    #[inline(always)]
     pub fn write<W: io::Write>(&mut self, writer: &mut W, buf: &[u8]) -> io::Result<usize>
         requires none_failed { self.old.failed ≡ false }
         requires some_left { 0 < self.old.left }
@@ -172,6 +173,7 @@ fn has_ended(before: bool, answer: &io::Result<usize>, room: &[u8]) -> bool
 }
 
 /// Whether a write of these bytes that answers so failed.
+#[inline(always)]
 fn is_failed_write(answer: &io::Result<usize>, bytes: &[u8]) -> bool
     ensures { IsTrue result ↔ IsFailedWrite answer.now bytes.now }
 {

@@ -1,9 +1,10 @@
 //! Text in a buffer of a fixed size, so that writing it takes no memory.
 
-ghost use Rattle.std.specs.Prelude.{◌≡◌, ◌+◌, ◌≤◌, List, [], ◌∷◌, ◌++◌, length, decimal};
+ghost use Rattle.std.specs.Prelude.{◌≡◌, ◌+◌, ◌<◌, ◌≤◌, List, [], ◌∷◌, ◌++◌, length, decimal};
+ghost use Rattle.std.specs.Fmt.{signed_decimal};
 ghost use Rattle.rh_text.specs.Root.{root_text};
 
-use itoa::{Buffer, Integer};
+use itoa::{Buffer, Integer, write_digits};
 use rh_layout::RootId;
 use std::marker::Model;
 
@@ -25,6 +26,23 @@ impl Model for LineText {
     ghost view = { λ t. take t.len t.bytes };
 
     ghost invariant = { λ t. t.len ≤ 256 };
+}
+
+/// How many digits the decimal of a number below 1,000 has: 1 to 3. 0 for any other number.
+#[inline(always)]
+fn few_digits(number: u64) -> usize
+    ensures few { result ≤ 3 }
+    ensures exact { 0 < result → length (decimal number) ≡ result }
+{
+    if number < 10 {
+        1
+    } else if number < 100 {
+        2
+    } else if number < 1000 {
+        3
+    } else {
+        0
+    }
 }
 
 impl LineText {
@@ -71,6 +89,37 @@ impl LineText {
     {
         let mut buffer = Buffer::new();
         self.put(buffer.format(number).as_bytes());
+    }
+
+    /// Puts the decimal of a number at the end. One below 1,000 is written in place.
+    #[inline(always)]
+    pub fn put_number(&mut self, number: u64)
+        requires { length self.old ≤ 236 }
+        ensures value { self.new ≡ self.old ++ decimal number }
+        ensures len { length self.new ≤ length self.old + 20 }
+    {
+        let digits = few_digits(number);
+        if digits == 0 {
+            self.put_integer(number);
+            return;
+        }
+        let end = self.len + digits;
+        write_digits(number, &mut self.bytes, end);
+        self.len = end;
+    }
+
+    /// Puts the text of a whole number at the end. One from 0 to 999 is written in place.
+    #[inline(always)]
+    pub fn put_whole(&mut self, number: i64)
+        requires { length self.old ≤ 236 }
+        ensures value { self.new ≡ self.old ++ signed_decimal number }
+        ensures len { length self.new ≤ length self.old + 20 }
+    {
+        if number < 0 {
+            self.put_integer(number);
+        } else {
+            self.put_number(number.unsigned_abs());
+        }
     }
 
     /// Puts bytes and the text of an integer at the end.

@@ -36,6 +36,35 @@ pub fn send<W: io::Write>(writer: &mut W, writes: &mut IoLog, text: &[u8]) -> Re
     ensures counted { CountsDown MAX_CALLS writes.old writes.new }
 {
     writes.renew();
+    if text.is_empty() {
+        return Ok(());
+    }
+    match writes.write(writer, text) {
+        Ok(n) if n == text.len() => Ok(()),
+        Ok(0) => Err(Write),
+        Ok(n) => send_rest(writer, writes, text.split_at(n).1),
+        Err(error) => {
+            if !is_interrupted(&error) {
+                return Err(Write);
+            }
+            send_rest(writer, writes, text)
+        }
+    }
+}
+
+/// Writes all that is left of a text by the writes that are left. It stands apart, so that the one
+/// write of most texts is inlined.
+#[cold]
+#[inline(never)]
+fn send_rest<W: io::Write>(writer: &mut W, writes: &mut IoLog, text: &[u8]) -> Result<(), Write>
+    requires { writes.old.failed ≡ false }
+    ensures ok { OnOk result (Appends (W.contents writer.old) (W.contents writer.new) text.now) }
+    ensures err { OnErr result
+        (AppendsLess (W.contents writer.old) (W.contents writer.new) text.now) }
+    ensures failed { OnErr result (AreSpent writes.new) }
+    ensures none_failed { OnOk result (writes.new.failed ≡ false) }
+    ensures counted { CountsDown writes.old.left writes.old writes.new }
+{
     let mut rest = text;
     while !rest.is_empty() {
         if writes.left() == 0 {

@@ -1,20 +1,19 @@
-use Rattle.std.proofs.Common.{◌<◌, ◌∙◌, sym, length, arith, rules}
-use Rattle.std.proofs.lemmas.Bool.{eqb-false, false_from_ne_true}
-use Rattle.rh_text.specs.lemmas.Appends.{Sent-more}
+use Rattle.std.proofs.Common.{ℕ, List, Option, Result, Ok, Err, OnErr, take, drop, subst}
+use Rattle.std.specs.Io.KnownBytes.{Appends}
+use Rattle.std.proofs.lemmas.List.{take-append-drop}
+use Rattle.rh_text.specs.Output.{AppendsLess}
+use Rattle.rh_text.specs.lemmas.Appends.{Appends-less}
 use Rattle.rh_text.proofs.output.send.Goals as goal
 
-pub loop-rest-init : goal.loop-rest-init
-loop-rest-init g c = search rules
+-- a text of which some was written, and then less than all of what was left
+less_of_rest : {X E : Type 0} (r : Result X E) (a b c : Option (List ℕ)) (text : List ℕ) (n : ℕ) → Appends a b (take n text) → OnErr r (AppendsLess b c (drop n text)) → OnErr r (AppendsLess a c text)
+less_of_rest (Ok x) a b c text n some less = tt
+less_of_rest (Err e) a b c text n some less =
+    subst (AppendsLess a c) (take-append-drop n text) (Appends-less a b c (take n text) (drop n text) some less)
 
-pub loop-rest-preserved-in-Ok : goal.loop-rest-preserved-in-Ok
-loop-rest-preserved-in-Ok g c =
+pub returns-in-Ok-2-clause-err : goal.returns-in-Ok-2-clause-err
+returns-in-Ok-2-clause-err g c =
     let known = g.W.Write.contents in
-    let filled : 0 < length c.loop-rest.rest.now = omega (arith, eqb-false (length c.loop-rest.rest.now) 0 (sym c.is_empty.ensures ∙ c.loop-rest-test.true)) in
-    record {
-      sent = rw c.split_at.ensures.back (Sent-more (known c.args.writer.now) (known c.loop-rest.writer) (known c.write.new.writer) c.args.text.now c.loop-rest.rest.now c.in-Ok.n c.loop-rest.invariant.sent c.in-Ok.ensures.bytes);
-      none_failed = false_from_ne_true c.write.new.self.failed (λ failed. c.in-Ok.n-test.1 (c.in-Ok.ensures.failed.0 failed).0);
-      counted = grind (arith, c.in-Ok.ensures.made filled, c.in-Ok.ensures.left filled, c.loop-rest.invariant.counted);
-    }
-
-pub returns-in-Ok-eq0-clause-ok : goal.returns-in-Ok-eq0-clause-ok
-returns-in-Ok-eq0-clause-ok g c = tt
+    let sent = c.send_rest in
+    let less = subst (λ (rest : List ℕ). OnErr sent.result (AppendsLess (known c.write.new.writer) (known sent.new.writer) rest)) c.split_at.ensures.back sent.ensures.err in
+    less_of_rest sent.result (known c.args.writer.now) (known c.write.new.writer) (known sent.new.writer) c.args.text.now c.in-Ok.n c.in-Ok.ensures.bytes less
