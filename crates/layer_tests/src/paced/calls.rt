@@ -35,11 +35,11 @@ const C: RootId = RootId { owner: 0, slot: 0 };
 const D: RootId = RootId { owner: 0, slot: 1 };
 
 /// A command of owner 1, its answer, and what its increment did, field by field: nothing new where
-/// none followed.
+/// none followed. The last field is how many objects a flip kept.
 type Step = (
     Command,
     Result<Reply, Refusal>,
-    Option<(bool, u64, u32, Option<Flipped>)>,
+    Option<(bool, u64, u32, Option<Flipped>, u32)>,
 );
 
 /// Two objects of 2 and 6 fields leave 20 words free, and no cycle begins; the third one begins it,
@@ -51,23 +51,23 @@ pub const STEPS: &[Step] = &[
     (
         Command::Alloc { dst: A, fields: 2 },
         Ok(Reply::Object(2)),
-        Some((false, 0, 0, None)),
+        Some((false, 0, 0, None, 0)),
     ),
     (
         Command::Alloc { dst: B, fields: 6 },
         Ok(Reply::Object(6)),
-        Some((false, 0, 0, None)),
+        Some((false, 0, 0, None, 0)),
     ),
     (
         Command::Alloc { dst: C, fields: 0 },
         Ok(Reply::Object(0)),
-        Some((true, 0, 0, None)),
+        Some((true, 0, 0, None, 0)),
     ),
     (Command::Drop { root: C }, Ok(Reply::Done), None),
     (
         Command::Alloc { dst: D, fields: 0 },
         Ok(Reply::Object(0)),
-        Some((false, 1, 3, None)),
+        Some((false, 1, 3, None, 0)),
     ),
     (
         Command::Load {
@@ -86,7 +86,7 @@ pub const STEPS: &[Step] = &[
             operand: Operand::Root(B),
         },
         Ok(Reply::Done),
-        Some((false, 3, 0, None)),
+        Some((false, 3, 0, None, 0)),
     ),
     (
         Command::Store {
@@ -108,6 +108,7 @@ pub const STEPS: &[Step] = &[
                 roots: 4,
                 live_words: 17,
             }),
+            4,
         )),
     ),
     (
@@ -122,7 +123,7 @@ pub const STEPS: &[Step] = &[
     (
         Command::Alloc { dst: C, fields: 11 },
         Ok(Reply::Object(11)),
-        Some((true, 0, 0, None)),
+        Some((true, 0, 0, None, 0)),
     ),
     (
         Command::Alloc { dst: D, fields: 4 },
@@ -145,11 +146,12 @@ pub fn play<M: Allocator + Copy>(rt: &impl Abort, heap: &mut PacedHeap<M>, steps
         let before = heap.last_did();
         expect_equal(rt, heap.command(1, command), *answer);
         let told = match *done {
-            Some((began, held, shaded, flipped)) => Did {
+            Some((began, held, shaded, flipped, objects)) => Did {
                 began,
                 held,
                 shaded,
                 flipped,
+                objects,
             },
             None => before,
         };
