@@ -56,4 +56,4 @@ returns-clause-explained c =
       explain = option_map (λ t. t.now) c.get_str-8.result;
     } in
     let matched : AreMatched values given = record { paced = c.get_str-2.ensures; mark = c.get_str-3.ensures; grow = c.get_str-4.ensures; replicators = c.get_str-5.ensures; idle = c.get_str-6.ensures; dot = c.get_str-7.ensures; explain = c.get_str-8.ensures } in
-    explains_in-matches c.args.matches.now c.in-Some.name.now values given c.in-Some.ensures.name c.in-Some.ensures.rows matched ∙ sym c.is_set.ensures
+    explains_in-matches c.args.matches.now c.in-Some.name.now values given c.in-Some.ensures.name c.in-Some.ensures.rows matched ∙ sym c.is_set-explain.ensures
