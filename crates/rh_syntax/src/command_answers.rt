@@ -1,12 +1,18 @@
 //! The texts of the answers to commands.
 
-ghost use Rattle.std.specs.Prelude.{◌≡◌, ◌≤◌, length};
+ghost use Rattle.std.specs.Prelude.{◌≡◌, ◌≤◌, [], ◌∷◌, ◌++◌, length, false, OnErr, OnOk};
+ghost use Rattle.std.specs.Io.KnownBytes.{Appends};
+ghost use Rattle.rh_text.specs.IoLog.{AreSpent, CountsDown};
+ghost use Rattle.rh_text.specs.Output.{AppendsLess};
 ghost use Rattle.rh_syntax.specs.CommandAnswers.{reply_text, refusal_name, refused_text, answer_text};
 
+use rh_layout::limits::MAX_CALLS;
 use rh_layout::{Refusal, Reply};
-use rh_text::LineText;
+use rh_text::{IoLog, LineText, Write, send};
+use std::io;
 
 /// The text becomes that of a reply.
+#[inline(always)]
 fn put_reply(text: &mut LineText, reply: Reply)
     ensures value { text.new ≡ reply_text reply }
     ensures len { length text.new ≤ 60 }
@@ -17,15 +23,15 @@ fn put_reply(text: &mut LineText, reply: Reply)
         Reply::Nil => text.put(b"nil"),
         Reply::Int(n) => {
             text.put(b"int ");
-            text.put_integer(n);
+            text.put_whole(n);
         }
         Reply::Object(fields) => {
             text.put(b"object ");
-            text.put_integer(fields);
+            text.put_number(fields.into());
         }
         Reply::Raw(fields) => {
             text.put(b"raw ");
-            text.put_integer(fields);
+            text.put_number(fields.into());
         }
         Reply::Same(true) => text.put(b"same yes"),
         Reply::Same(false) => text.put(b"same no"),
@@ -66,6 +72,7 @@ fn put_refusal(text: &mut LineText, refusal: Refusal)
 }
 
 /// The text becomes that of an answer, without a line end.
+#[inline(always)]
 pub fn put_answer_text(text: &mut LineText, answer: Result<Reply, Refusal>)
     ensures value { text.new ≡ answer_text answer }
     ensures len { length text.new ≤ 100 }
@@ -73,5 +80,40 @@ pub fn put_answer_text(text: &mut LineText, answer: Result<Reply, Refusal>)
     match answer {
         Ok(reply) => put_reply(text, reply),
         Err(refusal) => put_refusal(text, refusal),
+    }
+}
+
+/// Sends the line of an answer: its text and a line end, in one write. The text that is lent may be
+/// used for it.
+///
+/// # Errors
+///
+/// As `rh_text::send`.
+#[inline(always)]
+pub fn send_answer<W: io::Write>(
+    answer: Result<Reply, Refusal>,
+    text: &mut LineText,
+    writer: &mut W,
+    writes: &mut IoLog,
+) -> Result<(), Write>
+    requires { writes.old.failed ≡ false }
+    ensures ok { OnOk result (Appends (W.contents writer.old) (W.contents writer.new)
+        (answer_text answer ++ 10 ∷ [])) }
+    ensures err { OnErr result (AppendsLess (W.contents writer.old) (W.contents writer.new)
+        (answer_text answer ++ 10 ∷ [])) }
+    ensures failed { OnErr result (AreSpent writes.new) }
+    ensures none_failed { OnOk result (writes.new.failed ≡ false) }
+    ensures counted { CountsDown MAX_CALLS writes.old writes.new }
+{
+    match answer {
+        Ok(Reply::Done) => send(writer, writes, b"done\n"),
+        Ok(Reply::Nil) => send(writer, writes, b"nil\n"),
+        Ok(Reply::Same(true)) => send(writer, writes, b"same yes\n"),
+        Ok(Reply::Same(false)) => send(writer, writes, b"same no\n"),
+        _ => {
+            put_answer_text(text, answer);
+            text.put(b"\n");
+            send(writer, writes, text.as_bytes())
+        }
     }
 }

@@ -14,7 +14,7 @@ mod trace;
 mod tray_name;
 mod values;
 
-pub use command_answers::put_answer_text;
+pub use command_answers::{put_answer_text, send_answer};
 pub use fault::{Kind, ParseError, TraceFault};
 pub use line::{Header, Line};
 pub use lines::commands::{owned_command, put_command_text};

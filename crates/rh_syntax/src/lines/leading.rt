@@ -14,6 +14,10 @@ use rh_layout::limits::MAX_LINES;
 use rh_layout::{Command, Operand, RootId};
 use rh_text::{after_byte, after_bytes, leading_number, leading_root};
 
+/// A line is read from so many bytes of a text, of which the compiler knows that each is there. No
+/// line that is read here has more than 60.
+const WINDOW: usize = 64;
+
 /// The operand with which the text begins, and what stands after it.
 #[inline(always)]
 fn leading_operand(text: &[u8]) -> Option<(Operand, &[u8])>
@@ -160,8 +164,8 @@ fn leading_command(owner: u32, text: &[u8]) -> Option<(u32, Command, &[u8])>
 
 /// The command line of this number with which the text begins, and what stands after it, read from
 /// left to right, without looking for the line's end or its parts first. It is `None` also for
-/// lines that ask for more, such as one whose number has more than eight digits: `request_or_fault`
-/// reads these.
+/// lines that ask for more, such as one whose number has more than eight digits, and where the text
+/// has fewer than 64 bytes: `request_or_fault` reads these.
 #[inline(always)]
 pub fn leading_command_line(number: u32, text: &[u8]) -> Option<(u32, Command, &[u8])>
     ensures { IfSome result (λ x. number ≤ MAX_LINES × CommandFits x.0 x.1
@@ -170,9 +174,10 @@ pub fn leading_command_line(number: u32, text: &[u8]) -> Option<(u32, Command, &
     if number > MAX_LINES {
         return None;
     }
-    let (owner, rest) = leading_number(text)?;
+    let window: &[u8] = text.first_chunk::<WINDOW>()?;
+    let (owner, rest) = leading_number(window)?;
     let rest = after_byte(b' ', rest)?;
     let (owner, command, rest) = leading_command(owner, rest)?;
     let rest = after_byte(b'\n', rest)?;
-    Some((owner, command, rest))
+    Some((owner, command, text.split_at(WINDOW - rest.len()).1))
 }
