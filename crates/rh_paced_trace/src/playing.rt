@@ -2,41 +2,16 @@
 
 ghost use Rattle.std.specs.Prelude.{◌≡◌, ℕ, false, IfOk, OnOk, OnErr};
 ghost use Rattle.std.specs.Io.KnownBytes.{Appends};
-ghost use Rattle.rh_text.specs.IoLog.{AreSpent, AreSpentSince, CountsDown};
+ghost use Rattle.rh_text.specs.IoLog.{AreSpent, AreSpentSince};
 ghost use Rattle.rh_text.specs.Output.{AppendsLess};
-ghost use Rattle.rh_trace.specs.Answers.{answer_line};
 ghost use Rattle.rh_paced_trace.specs.Lines.{commands_in};
 ghost use Rattle.rh_paced_trace.specs.Playing.{output_by, summary_by};
 
 use crate::trace_heap::TraceHeap;
-use rh_layout::limits::MAX_CALLS;
-use rh_layout::{Refusal, Reply};
-use rh_syntax::{Request, put_answer_text};
+use rh_syntax::{Request, send_answer};
 use rh_text::{IoLog, LineText, Write, send};
 use rh_trace::{Summary, put_total};
 use std::io;
-
-/// Writes the line of an answer in one write.
-#[inline(always)]
-fn write_answer<W: io::Write>(
-    answer: Result<Reply, Refusal>,
-    text: &mut LineText,
-    writer: &mut W,
-    writes: &mut IoLog,
-) -> Result<(), Write>
-    requires { writes.old.failed ≡ false }
-    ensures ok { OnOk result (Appends (W.contents writer.old) (W.contents writer.new)
-        (answer_line answer)) }
-    ensures err { OnErr result (AppendsLess (W.contents writer.old) (W.contents writer.new)
-        (answer_line answer)) }
-    ensures failed { OnErr result (AreSpent writes.new) }
-    ensures none_failed { OnOk result (writes.new.failed ≡ false) }
-    ensures counted { CountsDown MAX_CALLS writes.old writes.new }
-{
-    put_answer_text(text, answer);
-    text.put(b"\n");
-    send(writer, writes, text.as_bytes())
-}
 
 /// Runs all commands among the requests, and writes the line of each answer and the total line.
 pub fn play<H: TraceHeap, W: io::Write>(
@@ -63,7 +38,7 @@ pub fn play<H: TraceHeap, W: io::Write>(
     for request in requests {
         if let Request::Command { owner, ref command } = *request {
             let answer = heap.answer(owner, command);
-            write_answer(answer, &mut text, writer, writes)?;
+            send_answer(answer, &mut text, writer, writes)?;
             commands += 1;
             refused += u64::from(answer.is_err());
         }

@@ -7,8 +7,7 @@ ghost use Rattle.rh_text.specs.Output.{AppendsLess};
 ghost use Rattle.rh_core.specs.Stat.{stat_of};
 ghost use Rattle.rh_dump.specs.texts.Line.{dump_text};
 ghost use Rattle.rh_trace.specs.Answers as answers;
-ghost use Rattle.rh_syntax.specs.CommandAnswers.{answer_text};
-ghost use Rattle.rh_trace.specs.Answers.{answered_text, with_line_end, trays_text};
+ghost use Rattle.rh_trace.specs.Answers.{answer_line, answered_text, with_line_end, trays_text};
 ghost use Rattle.rh_engine.specs.CycleAnswers.{flip_text, stat_text};
 ghost use Rattle.rh_engine.specs.Engine.{command_step, flip_line_step, gone_line_step};
 ghost use Rattle.rh_engine.specs.WatchAnswers.{gone_text};
@@ -26,9 +25,9 @@ use rh_engine::{
     put_join, put_recall, put_resize, put_shade, put_stat, put_tickets, put_tray, put_unwatch,
     put_watch,
 };
-use rh_layout::Command;
 use rh_layout::limits::MAX_CALLS;
-use rh_syntax::{Request, put_answer_text};
+use rh_layout::{Command, Refusal, Reply};
+use rh_syntax::{Request, send_answer};
 use rh_text::{IoLog, LineText, send};
 use std::alloc::Allocator;
 use std::io;
@@ -119,27 +118,44 @@ fn write_gone<A: Allocator + Copy, W: io::Write>(
     Ok(())
 }
 
-/// Runs a command and counts it. The text becomes that of the answer.
+/// Runs a command and counts it.
 #[inline(always)]
 fn answer_command<A: Allocator + Copy>(
     engine: &mut Engine<A>,
     owner: u32,
     command: &Command,
-    text: &mut LineText,
     summary: &mut Summary,
-)
+) -> Result<Reply, Refusal>
     requires few_commands { summary.old.commands < 2 ^ 63 }
     requires few_refused { summary.old.refused < 2 ^ 63 }
+    ensures answer { result ≡ (command_step engine.old owner command.now).1 }
     ensures state { engine.new ≡ (command_step engine.old owner command.now).0 }
     ensures summary { summary.new ≡ summary_with summary.old
         (answers.Answer (command_step engine.old owner command.now).1) }
-    ensures value { text.new ≡ answer_text (command_step engine.old owner command.now).1 }
-    ensures len { length text.new ≤ 100 }
 {
     let answer = engine.command(owner, command);
     summary.commands += 1;
     summary.refused += u64::from(answer.is_err());
-    put_answer_text(text, answer);
+    answer
+}
+
+/// Writes the line of an answer in one write.
+#[inline(always)]
+fn write_answer<W: io::Write>(
+    answer: Result<Reply, Refusal>,
+    text: &mut LineText,
+    writer: &mut W,
+    writes: &mut IoLog,
+) -> Result<(), Stop>
+    requires { writes.old.failed ≡ false }
+    ensures written { Writes (answer_line answer) result (W.contents writer.old)
+        (W.contents writer.new) }
+    ensures failed { IsErrOf result Stop.Write → AreSpent writes.new }
+    ensures none_failed { ¬ IsErrOf result Stop.Write → writes.new.failed ≡ false }
+    ensures counted { CountsDown MAX_CALLS writes.old writes.new }
+{
+    send_answer(answer, text, writer, writes)?;
+    Ok(())
 }
 
 /// Moves the roots, and counts the flip where it was done. The text becomes that of the answer.
@@ -171,6 +187,59 @@ fn put_numbers<A: Allocator + Copy>(heap: &Heap<A>, text: &mut LineText)
     ensures len { length text.new ≤ 245 }
 {
     put_stat(text, &heap.stat());
+}
+
+/// Runs a request as `play_request` does. It stands apart, so that a command's way is short.
+#[inline(never)]
+fn play_any<A: Allocator + Copy, W: io::Write>(
+    alloc: A,
+    engine: &mut Engine<A>,
+    request: &Request,
+    text: &mut LineText,
+    summary: &mut Summary,
+    writer: &mut W,
+    writes: &mut IoLog,
+) -> Result<(), Stop>
+    requires none_failed { writes.old.failed ≡ false }
+    requires few_commands { summary.old.commands < 2 ^ 63 }
+    requires few_refused { summary.old.refused < 2 ^ 63 }
+    requires few_flips { summary.old.flips < 2 ^ 63 }
+    requires few_root_words { summary.old.root_words < 2 ^ 127 }
+    ensures state { OnOk result (engine.new ≡ (request_step engine.old request.now).0) }
+    ensures summary { OnOk result (summary.new
+        ≡ summary_with summary.old (request_step engine.old request.now).1) }
+    ensures few_roots { summary.new.root_words ≤ summary.old.root_words + 2 ^ 32 }
+    ensures written { Writes (answered_text (request_step engine.old request.now).1) result
+        (W.contents writer.old) (W.contents writer.new) }
+    ensures failed { IsErrOf result Stop.Write → AreSpent writes.new }
+    ensures none_failed { ¬ IsErrOf result Stop.Write → writes.new.failed ≡ false }
+    ensures spent { IsErrOf result Stop.Write → AreSpentSince writes.old writes.new }
+    ensures counted { MadeSince 0 writes.old writes.new }
+{
+    match *request {
+        Request::Command { owner, ref command } => {
+            let answer = answer_command(engine, owner, command, summary);
+            return write_answer(answer, text, writer, writes);
+        }
+        Request::Begin => put_begin(text, engine.begin()),
+        Request::Shade { root } => put_shade(text, engine.shade(root)),
+        Request::Deal { kind, most, tray } => put_deal(text, engine.deal(kind, most, tray)?),
+        Request::Give { tray } => put_give(text, engine.give(tray)),
+        Request::Join { into, other } => put_join(text, engine.join(into, other)?),
+        Request::Flip => answer_flip(engine, text, summary),
+        Request::Recall => put_recall(text, engine.recall()),
+        Request::Abandon => put_abandon(text, engine.abandon()),
+        Request::Idle { words } => put_idle(text, engine.idle(words.into())),
+        Request::Resize { words } => put_resize(text, engine.resize(words)?),
+        Request::Tickets { tickets } => put_tickets(text, engine.tickets(tickets)?),
+        Request::Watch { owner, root } => put_watch(text, engine.watch(owner, root)),
+        Request::Unwatch { ticket } => put_unwatch(text, engine.unwatch(ticket)),
+        Request::Gone => return write_gone(alloc, engine, writer, writes),
+        Request::Trays => return write_trays(engine.trays(), text, writer, writes),
+        Request::Stat => put_numbers(engine.heap(), text),
+        Request::Dump => return write_heap_dump(alloc, engine.heap(), writer, writes),
+    }
+    write_line(text, writer, writes)
 }
 
 /// Runs a request, counts it where it is a command or a flip that was done, and writes what is
@@ -207,29 +276,11 @@ pub fn play_request<A: Allocator + Copy, W: io::Write>(
     ensures spent { IsErrOf result Stop.Write → AreSpentSince writes.old writes.new }
     ensures counted { MadeSince 0 writes.old writes.new }
 {
-    match *request {
-        Request::Command { owner, ref command } => {
-            answer_command(engine, owner, command, text, summary)
-        }
-        Request::Begin => put_begin(text, engine.begin()),
-        Request::Shade { root } => put_shade(text, engine.shade(root)),
-        Request::Deal { kind, most, tray } => put_deal(text, engine.deal(kind, most, tray)?),
-        Request::Give { tray } => put_give(text, engine.give(tray)),
-        Request::Join { into, other } => put_join(text, engine.join(into, other)?),
-        Request::Flip => answer_flip(engine, text, summary),
-        Request::Recall => put_recall(text, engine.recall()),
-        Request::Abandon => put_abandon(text, engine.abandon()),
-        Request::Idle { words } => put_idle(text, engine.idle(words.into())),
-        Request::Resize { words } => put_resize(text, engine.resize(words)?),
-        Request::Tickets { tickets } => put_tickets(text, engine.tickets(tickets)?),
-        Request::Watch { owner, root } => put_watch(text, engine.watch(owner, root)),
-        Request::Unwatch { ticket } => put_unwatch(text, engine.unwatch(ticket)),
-        Request::Gone => return write_gone(alloc, engine, writer, writes),
-        Request::Trays => return write_trays(engine.trays(), text, writer, writes),
-        Request::Stat => put_numbers(engine.heap(), text),
-        Request::Dump => return write_heap_dump(alloc, engine.heap(), writer, writes),
+    if let Request::Command { owner, ref command } = *request {
+        let answer = answer_command(engine, owner, command, summary);
+        return write_answer(answer, text, writer, writes);
     }
-    write_line(text, writer, writes)
+    play_any(alloc, engine, request, text, summary, writer, writes)
 }
 
 /// Runs all requests, and writes what is answered to each and the total line.

@@ -10,7 +10,7 @@ use Rattle.rh_trace.specs.Answers.{answer_line}
 use Rattle.rh_paced_trace.specs.Lines.{commands_in}
 use Rattle.rh_paced_trace.proofs.InTurn.{Left-first, bit_le, cut_at, cut_total_at, done_at, next_at, skip_at}
 use Rattle.rh_paced_trace.proofs.playing.play.Goals as goal
-use Rattle.rh_paced_trace.proofs.playing.play.Goals.{in-Command+in_ok-write_answer, in_default}
+use Rattle.rh_paced_trace.proofs.playing.play.Goals.{in-Command+in_ok-send_answer, in_default}
 
 pub loop-request-init : goal.loop-request-init
 loop-request-init g c = record {
@@ -21,31 +21,31 @@ loop-request-init g c = record {
   counted = λ few. omega arith;
 }
 
-pub returns-in_err-write_answer-clause-err : goal.returns-in_err-write_answer-clause-err
-returns-in_err-write_answer-clause-err g c =
+pub returns-in_err-send_answer-clause-err : goal.returns-in_err-send_answer-clause-err
+returns-in_err-send_answer-clause-err g c =
     let known = g.W.Write.contents in
     let p = err_from_is_err_and c.from_residual.result c.from_residual.ensures.1 in
     let l = c.loop-request in
     let told = c.answer-answer.ensures in
-    rw p.1 (cut_at g.H.TraceHeap.step g.H.TraceHeap.paced g.H.TraceHeap.usual c.args.heap.now c.args.requests.now l.heap l.request-index l.commands l.refused (known c.args.writer.now) (known l.writer) l.invariant.left c.request-item.result _ _ c.loop-request-test.true c.request-item.is c.in-Command.is told.0 (known c.write_answer.new.writer)
-    (subst (λ (a : Result Reply Refusal). AppendsLess (known l.writer) (known c.write_answer.new.writer) (answer_line a)) told.2 c.in_err-write_answer.ensures.err))
+    rw p.1 (cut_at g.H.TraceHeap.step g.H.TraceHeap.paced g.H.TraceHeap.usual c.args.heap.now c.args.requests.now l.heap l.request-index l.commands l.refused (known c.args.writer.now) (known l.writer) l.invariant.left c.request-item.result _ _ c.loop-request-test.true c.request-item.is c.in-Command.is told.0 (known c.send_answer.new.writer)
+    (subst (λ (a : Result Reply Refusal). AppendsLess (known l.writer) (known c.send_answer.new.writer) (answer_line a)) told.2 c.in_err-send_answer.ensures.err))
 
 pub loop-request-preserved : goal.loop-request-preserved
 loop-request-preserved g c = elim c.match-request.branch [
-  | in-Command+in_ok-write_answer w ↦
+  | in-Command+in_ok-send_answer w ↦
       let known = g.W.Write.contents in
       let l = c.loop-request in
-      let new = w.write_answer.new in
+      let new = w.send_answer.new in
       let told = w.answer-answer.ensures in
-      let sent = subst (λ (a : Result Reply Refusal). Appends (known l.writer) (known new.writer) (answer_line a)) told.2 w.in_ok-write_answer.ensures.ok in
+      let sent = subst (λ (a : Result Reply Refusal). Appends (known l.writer) (known new.writer) (answer_line a)) told.2 w.in_ok-send_answer.ensures.ok in
       let refused_is = w.is_err.ensures.value ∙ ap is_err told.2 in
       let more = next_at g.H.TraceHeap.step g.H.TraceHeap.paced g.H.TraceHeap.usual c.args.heap.now c.args.requests.now l.heap l.request-index l.commands l.refused (known c.args.writer.now) (known l.writer) l.invariant.left c.request-item.result _ _ c.loop-request-test.true c.request-item.is w.in-Command.is told.0 w.is_err.result w.from-refused.result w.answer-answer.new.self (known new.writer) w.from-refused.ensures told.1 refused_is sent in
-      let counted : MadeSince 0 c.args.writes.now new.writes = grind (arith, w.in_ok-write_answer.ensures.counted, l.invariant.counted) in
+      let counted : MadeSince 0 c.args.writes.now new.writes = grind (arith, w.in_ok-send_answer.ensures.counted, l.invariant.counted) in
       record {
         left = rw (w.heap-is, w.writer-is, w.commands-is, w.refused-is) more;
         few_commands = omega (arith, w.commands-is, l.invariant.few_commands);
         few_refused = omega (arith, w.refused-is, w.from-refused.ensures, l.invariant.few_refused, bit_le w.is_err.result);
-        none_failed = ap (λ writes. writes.failed) w.writes-is ∙ w.in_ok-write_answer.ensures.none_failed;
+        none_failed = ap (λ writes. writes.failed) w.writes-is ∙ w.in_ok-send_answer.ensures.none_failed;
         counted = subst (MadeSince 0 c.args.writes.now) (sym w.writes-is) counted;
       }
   | in_default w ↦

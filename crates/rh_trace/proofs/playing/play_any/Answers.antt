@@ -9,7 +9,7 @@ use Rattle.rh_engine.specs.WatchAnswers.{tickets_text}
 use Rattle.rh_engine.specs.Engine.{EngineState, deal_line_step, join_line_step, resize_line_step, tickets_line_step}
 use Rattle.rh_trace.specs.Run.{request_step}
 use Rattle.rh_trace.proofs.WrittenInTurn.{nothing_of_line}
-use Rattle.rh_trace.proofs.playing.play_request.Goals as goal
+use Rattle.rh_trace.proofs.playing.play_any.Goals as goal
 
 -- of what is answered to a request in one line, nothing was written
 unanswered : (a : Option (List ℕ)) (e : EngineState) (request it : Request) (text : List ℕ) → request ≡ it → answered_text (request_step e it).1 ≡ with_line_end text → AppendsLess a a (answered_text (request_step e request).1)
