@@ -3,7 +3,7 @@ _rheap() {
     local word=${COMP_WORDS[COMP_CWORD]} before=${COMP_WORDS[COMP_CWORD - 1]} options= valued=
     COMPREPLY=()
     if [ "$COMP_CWORD" = 1 ]; then
-        mapfile -t COMPREPLY < <(compgen -W 'run threads replay dump help -h --help -V --version' -- "$word")
+        mapfile -t COMPREPLY < <(compgen -W 'run threads replay dump draw help -h --help -V --version' -- "$word")
         return
     fi
     case ${COMP_WORDS[1]} in
@@ -11,8 +11,9 @@ _rheap() {
     threads) options='--explain --replicators --idle -h --help' valued='--replicators --idle' ;;
     replay) options='--explain -h --help' valued='' ;;
     dump) options='--explain --dot -h --help' valued='' ;;
+    draw) options='--explain --line -h --help' valued='--line' ;;
     help)
-        mapfile -t COMPREPLY < <(compgen -W 'run threads replay dump' -- "$word")
+        mapfile -t COMPREPLY < <(compgen -W 'run threads replay dump draw' -- "$word")
         return
         ;;
     *) return ;;

@@ -34,6 +34,7 @@ pub record AreHeld (rows : List Row) (given : Options) : Type 0 where
   pub idle : given.idle ≡ first_of (codes "idle") rows
   pub dot : given.dot ≡ first_of (codes "dot") rows
   pub explain : given.explain ≡ first_of (codes "explain") rows
+  pub line : given.line ≡ first_of (codes "line") rows
 
 -- the same, of matches
 pub record AreMatched (values : ArgMatches) (given : Options) : Type 0 where
@@ -44,6 +45,7 @@ pub record AreMatched (values : ArgMatches) (given : Options) : Type 0 where
   pub idle : given.idle ≡ first_value (found_of values) (codes "idle")
   pub dot : given.dot ≡ first_value (found_of values) (codes "dot")
   pub explain : given.explain ≡ first_value (found_of values) (codes "explain")
+  pub line : given.line ≡ first_value (found_of values) (codes "line")
 
 -- the options that matches hold
 abbrev pub options_of : ArgMatches → Options
@@ -55,10 +57,11 @@ options_of values = record {
   idle = first_value (found_of values) (codes "idle");
   dot = first_value (found_of values) (codes "dot");
   explain = first_value (found_of values) (codes "explain");
+  line = first_value (found_of values) (codes "line");
 }
 
 pub all_matched : (values : ArgMatches) → AreMatched values (options_of values)
-all_matched values = record { paced = refl; mark = refl; grow = refl; replicators = refl; idle = refl; dot = refl; explain = refl }
+all_matched values = record { paced = refl; mark = refl; grow = refl; replicators = refl; idle = refl; dot = refl; explain = refl; line = refl }
 
 held_by_matches : (values : ArgMatches) (given : Options) → AreMatched values given → AreHeld (rows_of (found_of values)) given
 held_by_matches values given m =
@@ -70,11 +73,12 @@ held_by_matches values given m =
       idle = m.idle ∙ first_value-rows found (codes "idle");
       dot = m.dot ∙ first_value-rows found (codes "dot");
       explain = m.explain ∙ first_value-rows found (codes "explain");
+      line = m.line ∙ first_value-rows found (codes "line");
     }
 
 held_options : (rows : List Row) (given : Options) → AreHeld rows given → options_in rows ≡ given
 held_options rows given held =
-    sym (rw held.paced (rw held.mark (rw held.grow (rw held.replicators (rw held.idle (rw held.dot (rw held.explain refl)))))))
+    sym (rw held.paced (rw held.mark (rw held.grow (rw held.replicators (rw held.idle (rw held.dot (rw held.explain (rw held.line refl))))))))
 
 -- what a file and options of the same matches hold
 from_values : (rows : List Row) (n : Text) (file : Option Text) (given : Options) → file ≡ first_of (codes "FILE") rows → AreHeld rows given

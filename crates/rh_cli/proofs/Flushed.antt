@@ -19,7 +19,7 @@ use Rattle.rh_cli.specs.Drive.{ConcludesRun, IsRunStatus}
 use Rattle.rh_cli.specs.Shared.{ConcludesShared, IsSharedStatus}
 use Rattle.rh_cli.specs.Paced.{ConcludesGrowing, ConcludesPaced, IsPacedStatus}
 
-Keeps-kept : (old mid new : Option (List ℕ)) → Keeps old mid → Keeps mid new → Keeps old new
+pub Keeps-kept : (old mid new : Option (List ℕ)) → Keeps old mid → Keeps mid new → Keeps old new
 Keeps-kept None mid new k l = tt
 Keeps-kept (Some xs) None new k l = absurd k
 Keeps-kept (Some xs) (Some ys) None k l = absurd l
@@ -32,7 +32,7 @@ Appends-kept (Some xs) (Some ys) None bytes a l = absurd l
 Appends-kept (Some xs) (Some ys) (Some zs) bytes a l = l ∙ a
 
 -- so does what was written of a text, and not all
-AppendsLess-kept : (old mid new : Option (List ℕ)) (text : List ℕ) → AppendsLess old mid text → Keeps mid new → AppendsLess old new text
+pub AppendsLess-kept : (old mid new : Option (List ℕ)) (text : List ℕ) → AppendsLess old mid text → Keeps mid new → AppendsLess old new text
 AppendsLess-kept old mid new text e k = (e.0, e.1, e.2, e.3, Appends-kept old mid new e.0 e.4 k)
 
 StopsBeforeTotal-kept : (due : Result (List ℕ × Summary) RunFault) (old mid new : Option (List ℕ)) → StopsBeforeTotal due old mid → Keeps mid new → StopsBeforeTotal due old new

@@ -1,5 +1,6 @@
 pub mod ClapMatches
 pub mod Counted
+pub mod Drawn
 pub mod Flushed
 pub mod Inputs
 pub mod SharedStatuses

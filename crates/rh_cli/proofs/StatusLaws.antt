@@ -23,6 +23,7 @@ use Rattle.rh_trace.specs.declared.run_fault.RunFault.{RunFault}
 use Rattle.rh_trace.specs.declared.run_fault.RunFault.TheVariants as run_faults
 use Rattle.rh_trace.specs.declared.summary.Summary.{Summary}
 use Rattle.rh_cli.specs.Count.{DumpEnds, IsCountStatus, counts_line}
+use Rattle.rh_cli.specs.Draw.{DrawEnds}
 use Rattle.rh_cli.specs.Drive.{Concludes, IsRunStatus, run_status}
 use Rattle.rh_cli.specs.Fault.{arguments_status, ending_status, status_of, IsLateStatus}
 use Rattle.rh_syntax.specs.Spelling.{Script}
@@ -35,7 +36,7 @@ use Rattle.rh_paced_trace.specs.declared.fault.PacedFault.TheVariants as paced_f
 use Rattle.rh_cli.proofs.SharedStatuses.{shared_is_0_1_3_or_4, shared_is_4}
 use Rattle.rh_cli.specs.Replay.{IsJudged, IsReplayStatus, ReplayEnds}
 use Rattle.rh_cli.specs.declared.ask.Subcommand.{Subcommand}
-use Rattle.rh_cli.specs.declared.ask.Subcommand.TheVariants.{Run, RunPaced, RunGrowing, Threads, Replay, Dump, Dot}
+use Rattle.rh_cli.specs.declared.ask.Subcommand.TheVariants.{Run, RunPaced, RunGrowing, Threads, Replay, Dump, Dot, Draw}
 use Rattle.rh_cli.specs.declared.ending.Ending.{Ending}
 use Rattle.rh_cli.specs.declared.ending.Ending.TheVariants.{Done, WrongHistory}
 use Rattle.rh_cli.specs.declared.fault.LineFault.{LineFault}
@@ -81,6 +82,8 @@ memory_is_3 faults.Mark = (λ is. absurd (omega (arith, is)), λ is. cc)
 memory_is_3 faults.Grow = (λ is. absurd (omega (arith, is)), λ is. cc)
 memory_is_3 faults.Replicators = (λ is. absurd (omega (arith, is)), λ is. cc)
 memory_is_3 faults.Idle = (λ is. absurd (omega (arith, is)), λ is. cc)
+memory_is_3 faults.Line = (λ is. absurd (omega (arith, is)), λ is. cc)
+memory_is_3 faults.NoLine = (λ is. absurd (omega (arith, is)), λ is. cc)
 memory_is_3 (faults.Trace fault) = (λ is. absurd (omega (arith, is)), λ is. cc)
 memory_is_3 (faults.History fault) = (λ is. absurd (omega (arith, is)), λ is. cc)
 memory_is_3 (faults.Dump fault) = (λ is. absurd (omega (arith, is)), λ is. cc)
@@ -109,6 +112,8 @@ differs_is_4 faults.Mark = (λ is. absurd (omega (arith, is)), λ is. cc)
 differs_is_4 faults.Grow = (λ is. absurd (omega (arith, is)), λ is. cc)
 differs_is_4 faults.Replicators = (λ is. absurd (omega (arith, is)), λ is. cc)
 differs_is_4 faults.Idle = (λ is. absurd (omega (arith, is)), λ is. cc)
+differs_is_4 faults.Line = (λ is. absurd (omega (arith, is)), λ is. cc)
+differs_is_4 faults.NoLine = (λ is. absurd (omega (arith, is)), λ is. cc)
 differs_is_4 (faults.Trace fault) = (λ is. absurd (omega (arith, is)), λ is. cc)
 differs_is_4 (faults.History fault) = (λ is. absurd (omega (arith, is)), λ is. cc)
 differs_is_4 (faults.Dump fault) = (λ is. absurd (omega (arith, is)), λ is. cc)
@@ -126,14 +131,16 @@ differs_is_4 faults.HistoryDiffers = (λ is. refl, λ is. refl)
 -- a fault with 2 is one of the command line
 pub only_the_line_is_2 : (fault : LineFault) → status_of fault ≡ 2
     → (fault ≡ faults.NoText) ⊎ ((fault ≡ faults.Incomplete) ⊎ ((fault ≡ faults.Mark) ⊎ ((fault ≡ faults.Grow) ⊎ ((fault ≡ faults.Replicators)
-    ⊎ ((fault ≡ faults.Idle) ⊎ ((error : ClapError) × (fault ≡ faults.Arguments error)))))))
-only_the_line_is_2 (faults.Arguments error) is = inr (inr (inr (inr (inr (inr (error, refl))))))
+    ⊎ ((fault ≡ faults.Idle) ⊎ ((fault ≡ faults.Line) ⊎ ((error : ClapError) × (fault ≡ faults.Arguments error))))))))
+only_the_line_is_2 (faults.Arguments error) is = inr (inr (inr (inr (inr (inr (inr (error, refl)))))))
 only_the_line_is_2 faults.NoText is = inl refl
 only_the_line_is_2 faults.Incomplete is = inr (inl refl)
 only_the_line_is_2 faults.Mark is = inr (inr (inl refl))
 only_the_line_is_2 faults.Grow is = inr (inr (inr (inl refl)))
 only_the_line_is_2 faults.Replicators is = inr (inr (inr (inr (inl refl))))
 only_the_line_is_2 faults.Idle is = inr (inr (inr (inr (inr (inl refl)))))
+only_the_line_is_2 faults.Line is = inr (inr (inr (inr (inr (inr (inl refl))))))
+only_the_line_is_2 faults.NoLine is = absurd (omega (arith, is))
 only_the_line_is_2 (faults.Trace fault) is = absurd (omega (arith, is))
 only_the_line_is_2 (faults.History fault) is = absurd (omega (arith, is))
 only_the_line_is_2 (faults.Dump fault) is = absurd (omega (arith, is))
@@ -163,6 +170,8 @@ only_help_is_0 faults.Mark is = absurd (omega (arith, is))
 only_help_is_0 faults.Grow is = absurd (omega (arith, is))
 only_help_is_0 faults.Replicators is = absurd (omega (arith, is))
 only_help_is_0 faults.Idle is = absurd (omega (arith, is))
+only_help_is_0 faults.Line is = absurd (omega (arith, is))
+only_help_is_0 faults.NoLine is = absurd (omega (arith, is))
 only_help_is_0 (faults.Trace fault) is = absurd (omega (arith, is))
 only_help_is_0 (faults.History fault) is = absurd (omega (arith, is))
 only_help_is_0 (faults.Dump fault) is = absurd (omega (arith, is))
@@ -340,6 +349,50 @@ late_of_four status (inl (inr is)) = (omega (arith, is), λ two. omega (arith, i
 late_of_four status (inr (inl is)) = (omega (arith, is), λ two. omega (arith, is, two))
 late_of_four status (inr (inr is)) = (omega (arith, is), λ two. omega (arith, is, two))
 
+-- a picture's fault has 1 or 3, and with 3 nothing is written
+draw_fault_is_1_or_3 : (fault : LineFault) (old new : Option (List ℕ)) → DrawEnds (Err fault) old new → (status_of fault ≡ 1) ⊎ (status_of fault ≡ 3)
+draw_fault_is_1_or_3 faults.Write old new ends = inl refl
+draw_fault_is_1_or_3 (faults.Trace fault) old new ends = inl refl
+draw_fault_is_1_or_3 (faults.Heap fault) old new ends = inl refl
+draw_fault_is_1_or_3 faults.NoLine old new ends = inl refl
+draw_fault_is_1_or_3 faults.TooLong old new ends = inl refl
+draw_fault_is_1_or_3 faults.Read old new ends = inl refl
+draw_fault_is_1_or_3 faults.OutOfMemory old new ends = inr refl
+draw_fault_is_1_or_3 fault old new ends = absurd ends
+
+draw_is_0_1_or_3 : (outcome : Result (Unit {0}) LineFault) (status : ℕ) (old new : Option (List ℕ)) → DrawEnds outcome old new → IsCountStatus outcome status
+    → (status ≡ 0) ⊎ ((status ≡ 1) ⊎ (status ≡ 3))
+draw_is_0_1_or_3 (Ok done) status old new ends (inl is) = inl is
+draw_is_0_1_or_3 (Ok done) status old new ends (inr is) = inr (inl is)
+draw_is_0_1_or_3 (Err fault) status old new ends is =
+    elim (draw_fault_is_1_or_3 fault old new ends) [ inl one ↦ inr (inl (is ∙ one)) | inr three ↦ inr (inr (is ∙ three)) ]
+
+draw_memory_keeps : (fault : LineFault) (old new : Option (List ℕ)) → DrawEnds (Err fault) old new → status_of fault ≡ 3 → Keeps old new
+draw_memory_keeps faults.Write old new ends is = absurd (omega (arith, is))
+draw_memory_keeps (faults.Trace fault) old new ends is = ends
+draw_memory_keeps (faults.Heap fault) old new ends is = ends
+draw_memory_keeps faults.NoLine old new ends is = ends
+draw_memory_keeps faults.TooLong old new ends is = ends
+draw_memory_keeps faults.Read old new ends is = ends
+draw_memory_keeps faults.OutOfMemory old new ends is = ends
+draw_memory_keeps fault old new ends is = absurd ends
+
+draw_is_3 : (outcome : Result (Unit {0}) LineFault) (old new : Option (List ℕ)) → DrawEnds outcome old new → IsCountStatus outcome 3 → Keeps old new
+draw_is_3 (Ok done) old new ends (inl is) = absurd (omega (arith, is))
+draw_is_3 (Ok done) old new ends (inr is) = absurd (omega (arith, is))
+draw_is_3 (Err fault) old new ends is = draw_memory_keeps fault old new ends (sym is)
+
+draw_is_0 : (outcome : Result (Unit {0}) LineFault) (old new : Option (List ℕ)) → DrawEnds outcome old new → IsCountStatus outcome 0 → (text : List ℕ) × Appends old new text
+draw_is_0 (Ok done) old new ends is = ends
+draw_is_0 (Err fault) old new ends is =
+    elim (draw_fault_is_1_or_3 fault old new ends) [ inl one ↦ absurd (omega (arith, is, one)) | inr three ↦ absurd (omega (arith, is, three)) ]
+
+pub concludes_draw_0 : (line : Option ℕ) (input : List ℕ) (old new : Option (List ℕ)) → Concludes (Draw line) input 0 old new → (text : List ℕ) × Appends old new text
+concludes_draw_0 line input old new c = draw_is_0 c.0 old new c.1 c.2
+
+pub concludes_draw_3 : (line : Option ℕ) (input : List ℕ) (old new : Option (List ℕ)) → Concludes (Draw line) input 3 old new → Keeps old new
+concludes_draw_3 line input old new c = draw_is_3 c.0 old new c.1 c.2
+
 -- what a subcommand ends with is at most 4 and isn't 2
 pub concludes_late : (subcommand : Subcommand) (input : List ℕ) (status : ℕ) (old new : Option (List ℕ)) → Concludes subcommand input status old new → IsLateStatus status
 concludes_late Run input status old new c = late_of_three status (run_is_0_1_or_3 c.0 status c.2)
@@ -349,6 +402,7 @@ concludes_late (Threads replicators idle) input status old new c = late_of_four 
 concludes_late Replay input status old new c = late_of_four status (replay_is_0_1_3_or_4 input c.0 status old new c.1 c.2)
 concludes_late Dump input status old new c = late_of_three status (count_is_0_1_or_3 counts_line input c.0 status old new c.1 c.2)
 concludes_late Dot input status old new c = late_of_three status (count_is_0_1_or_3 dot_text input c.0 status old new c.1 c.2)
+concludes_late (Draw line) input status old new c = late_of_three status (draw_is_0_1_or_3 c.0 status old new c.1 c.2)
 
 pub concludes_run_0 : (input : List ℕ) (old new : Option (List ℕ)) → Concludes Run input 0 old new → (run : List ℕ × Summary) × (run_of input ≡ Ok run) × Appends old new run.0
 concludes_run_0 input old new c = run_is_0 (run_of input) c.0 old new c.1 c.2
@@ -386,6 +440,7 @@ concludes_4 (Threads replicators idle) input old new c =
 concludes_4 Replay input old new c = inl (refl, replay_is_4 input c.0 old new c.1 c.2)
 concludes_4 Dump input old new c = absurd (not_2_or_4 4 4 (inr refl) (count_is_0_1_or_3 counts_line input c.0 4 old new c.1 c.2) refl)
 concludes_4 Dot input old new c = absurd (not_2_or_4 4 4 (inr refl) (count_is_0_1_or_3 dot_text input c.0 4 old new c.1 c.2) refl)
+concludes_4 (Draw line) input old new c = absurd (not_2_or_4 4 4 (inr refl) (draw_is_0_1_or_3 c.0 4 old new c.1 c.2) refl)
 
 pub concludes_run_fault : (input : List ℕ) (fault : RunFault) (status : ℕ) (old new : Option (List ℕ)) → run_of input ≡ Err fault → Concludes Run input status old new → (status ≡ 1) ⊎ (status ≡ 3)
 concludes_run_fault input fault status old new is c = run_of_fault (run_of input) fault c.0 status old new is c.1 c.2

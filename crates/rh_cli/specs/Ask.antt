@@ -5,7 +5,7 @@ use Rattle.rh_text.specs.Number.{number_of}
 use Rattle.clap.specs.declared.builder.action.ArgAction.TheVariants.{SetTrue}
 use Rattle.clap.specs.Words.{App, Kinds, Row, Rule, Text, new_app, new_rule, with_rule, with_subcommand, subcommand_of, fault_of, first_of, takes}
 use Rattle.rh_cli.specs.declared.ask.Subcommand.{Subcommand}
-use Rattle.rh_cli.specs.declared.ask.Subcommand.TheVariants.{Run, RunPaced, RunGrowing, Threads, Replay, Dump, Dot}
+use Rattle.rh_cli.specs.declared.ask.Subcommand.TheVariants.{Run, RunPaced, RunGrowing, Threads, Replay, Dump, Dot, Draw}
 use Rattle.rh_cli.specs.declared.ask.Ask.{Ask}
 use Rattle.rh_cli.specs.declared.fault.LineFault.{LineFault}
 use Rattle.rh_cli.specs.declared.fault.LineFault.TheVariants as faults
@@ -60,6 +60,14 @@ dot_rule = record (new_rule (codes "dot")) { long = Some (codes "dot"); action =
 abbrev pub dump_app : App
 dump_app = with_rule (file_app (codes "dump")) dot_rule
 
+-- the option of `draw`, with a value
+abbrev pub line_rule : Rule
+line_rule = record (new_rule (codes "line")) { long = Some (codes "line"); value_names = 1 }
+
+-- the command `draw`: a file, and this option
+abbrev pub draw_app : App
+draw_app = with_rule (file_app (codes "draw")) line_rule
+
 -- the program: a version, and a command that is required
 abbrev pub rheap_top : App
 rheap_top =
@@ -72,7 +80,8 @@ rheap_app =
     let with_run = with_subcommand rheap_top run_app.top
     in let with_threads = with_subcommand with_run threads_app.top
     in let with_replay = with_subcommand with_threads (file_app (codes "replay")).top
-    in with_subcommand with_replay dump_app.top
+    in let with_dump = with_subcommand with_replay dump_app.top
+    in with_subcommand with_dump draw_app.top
 
 -- whether the value of the flag says that it was set
 abbrev pub is_set : Option Text → Bool
@@ -128,6 +137,16 @@ abbrev pub threads_asked : Option Text → Option Text → Result Subcommand Lin
 threads_asked replicators idle =
     threads_with (number_within 2 8 replicators) (number_within 0 65535 idle)
 
+-- a picture after the line of a number that was read, or the fault where it is none
+abbrev pub draw_at : Option ℕ → Result Subcommand LineFault
+draw_at None = Err faults.Line
+draw_at (Some line) = if nat_le 1 line then Ok (Draw (Some line)) else Err faults.Line
+
+-- the picture that is asked for: after the last line where none is given
+abbrev pub draw_asked : Option Text → Result Subcommand LineFault
+draw_asked None = Ok (Draw None)
+draw_asked (Some text) = draw_at (number_of text)
+
 -- the values of the options of all commands, as far as they are given
 pub record Options : Type 0 where
   pub paced : Option Text
@@ -137,6 +156,7 @@ pub record Options : Type 0 where
   pub idle : Option Text
   pub dot : Option Text
   pub explain : Option Text
+  pub line : Option Text
 
 -- what is written of a dump: its graph for Graphviz where that is asked, and else its counts
 abbrev pub dump_asked : Bool → Subcommand
@@ -151,7 +171,8 @@ command_named name given =
     else (if bytes_eq name (codes "threads") then threads_asked given.replicators given.idle
     else (if bytes_eq name (codes "replay") then Ok Replay
     else (if bytes_eq name (codes "dump") then Ok (dump_asked (is_set given.dot))
-    else Err faults.Incomplete)))
+    else (if bytes_eq name (codes "draw") then draw_asked given.line
+    else Err faults.Incomplete))))
 
 -- a command with its file, or what is missing
 abbrev pub with_file : Result Subcommand LineFault → Option Text → Result (Subcommand × Text) LineFault
@@ -169,6 +190,7 @@ options_in rows = record {
   idle = first_of (codes "idle") rows;
   dot = first_of (codes "dot") rows;
   explain = first_of (codes "explain") rows;
+  line = first_of (codes "line") rows;
 }
 
 -- the command and the file that a parse holds: the command that it found, with its options, and the

@@ -14,7 +14,7 @@ arguments_status DisplayHelp = 0
 arguments_status DisplayVersion = 0
 arguments_status kind = 2
 
--- 0 done, 1 a fault in the file, sizes that make no heap, no pace, or a failed open, read or write, 2
+-- 0 done, 1 a fault in the file, sizes that make no heap, no pace, no such line, or a failed open, read or write, 2
 -- the command line, 3 memory or a thread was refused, 4 a history that differs
 abbrev pub status_of : LineFault → ℕ
 status_of (faults.Arguments error) = arguments_status (kind_of error)
@@ -24,12 +24,14 @@ status_of faults.Mark = 2
 status_of faults.Grow = 2
 status_of faults.Replicators = 2
 status_of faults.Idle = 2
+status_of faults.Line = 2
 status_of (faults.Trace fault) = 1
 status_of (faults.History fault) = 1
 status_of (faults.Dump fault) = 1
 status_of (faults.Heap fault) = 1
 status_of (faults.Shared fault) = 1
 status_of faults.Limits = 1
+status_of faults.NoLine = 1
 status_of (faults.Pace why) = 1
 status_of faults.Open = 1
 status_of faults.Read = 1
@@ -58,6 +60,7 @@ IsArgumentsFault faults.Mark = ⊤
 IsArgumentsFault faults.Grow = ⊤
 IsArgumentsFault faults.Replicators = ⊤
 IsArgumentsFault faults.Idle = ⊤
+IsArgumentsFault faults.Line = ⊤
 IsArgumentsFault faults.OutOfMemory = ⊤
 IsArgumentsFault fault = ⊥
 
@@ -76,6 +79,7 @@ IsEarlyFault faults.Mark = ⊤
 IsEarlyFault faults.Grow = ⊤
 IsEarlyFault faults.Replicators = ⊤
 IsEarlyFault faults.Idle = ⊤
+IsEarlyFault faults.Line = ⊤
 IsEarlyFault faults.Open = ⊤
 IsEarlyFault faults.OutOfMemory = ⊤
 IsEarlyFault fault = ⊥

@@ -1,5 +1,6 @@
 pub mod Ask
 pub mod Count
+pub mod Draw
 pub mod Drive
 pub mod Fault
 pub mod Paced

@@ -3,7 +3,7 @@
 ghost use Rattle.std.specs.Prelude.{◌≡◌, ◌≢◌, ◌⊎◌, [], map, option_map, false, Ok, Err, IsTrue, IfOk, IfErr, codes};
 ghost use Rattle.clap.specs.declared.builder.command.Command.TheViews.{out-Command as fields_of};
 ghost use Rattle.clap.specs.Words.{kind_of, app_of, subcommand_rows_of};
-ghost use Rattle.rh_cli.specs.Ask.{command_and_file, command_and_file_in, command_and_file_of, command_named, error_kinds, explains_in, explains_of, dump_app, dump_asked, file_app, growing_asked, marked_app, number_within, run_app, run_given, rheap_app, is_set, is_taken, run_asked, threads_app, threads_asked};
+ghost use Rattle.rh_cli.specs.Ask.{command_and_file, command_and_file_in, command_and_file_of, command_named, error_kinds, explains_in, explains_of, draw_app, draw_asked, dump_app, dump_asked, file_app, growing_asked, marked_app, number_within, run_app, run_given, rheap_app, is_set, is_taken, run_asked, threads_app, threads_asked};
 ghost use Rattle.rh_cli.specs.Fault.{IsArgumentsFault, IsClapFault};
 ghost use Rattle.rh_cli.specs.declared.ask.Ask.{Ask};
 
@@ -33,6 +33,7 @@ struct Options<'a> {
     idle: Option<&'a str>,
     dot: Option<&'a str>,
     explain: Option<&'a str>,
+    line: Option<&'a str>,
 }
 
 /// The command line as clap knows it.
@@ -47,7 +48,8 @@ fn command_line<'a>(alloc: Global) -> Result<Command<'a>, AllocError>
         .subcommand(run_command(alloc)?)?
         .subcommand(threads_command(alloc)?)?
         .subcommand(replay_command(alloc)?)?
-        .subcommand(dump_command(alloc)?)
+        .subcommand(dump_command(alloc)?)?
+        .subcommand(draw_command(alloc)?)
 }
 
 /// The command `run` as clap knows it.
@@ -119,6 +121,18 @@ fn dump_command<'a>(alloc: Global) -> Result<Command<'a>, AllocError>
     file_command(alloc, "dump", about, help::DUMP)?.arg(dot)
 }
 
+/// The command `draw` as clap knows it.
+fn draw_command<'a>(alloc: Global) -> Result<Command<'a>, AllocError>
+    ensures app { IfOk result (λ command. app_of command ≡ draw_app) }
+    ensures local { IfOk result (λ command. (fields_of command).has_globals ≡ false) }
+{
+    let about = "Draws the heap of a trace after one of its lines, in SVG";
+    let line = Arg::new(alloc, "line").long("line").value_name("N").help(
+        "The line after which it is drawn, from 1; the last if it isn't said",
+    );
+    file_command(alloc, "draw", about, help::DRAW)?.arg(line)
+}
+
 /// The command of this name, which takes a file, as clap knows it.
 fn file_command<'a>(
     alloc: Global,
@@ -153,7 +167,8 @@ fn file_command<'a>(
 /// `--paced`, or with a value that is no number below 2^32; `Grow` where it has `--grow` without
 /// `--paced` or beside `--mark`, or with a value that is no such number; `Replicators` and then
 /// `Idle` where `threads` has such an option with a value that is no number up to 8, or up to
-/// 65,535; `OutOfMemory` where memory was refused.
+/// 65,535; `Line` where `draw` has `--line` with a value that is no number from 1 below 2^32;
+/// `OutOfMemory` where memory was refused.
 pub fn read_words<'a>(alloc: Global, arguments: &'a [&'a str]) -> Result<Ask<'a>, LineFault>
     // The request has the command and the file that clap's parse of the arguments holds.
     ensures asked { IfOk result (λ ask.
@@ -232,6 +247,7 @@ fn ask_of<'a>(matches: &ArgMatches<'a>) -> Result<Ask<'a>, LineFault>
         idle: values.get_str("idle"),
         dot: values.get_str("dot"),
         explain: values.get_str("explain"),
+        line: values.get_str("line"),
     };
     let subcommand = command_named(name, options)?;
     let explain = is_set(options.explain);
@@ -262,6 +278,7 @@ fn command_named(name: &str, given: Options<'_>) -> Result<Subcommand, LineFault
       idle = option_map (λ t. t.now) given.entry.idle;
       dot = option_map (λ t. t.now) given.entry.dot;
       explain = option_map (λ t. t.now) given.entry.explain;
+      line = option_map (λ t. t.now) given.entry.line;
     }) }
     ensures kinds { IfErr result (λ fault. IsArgumentsFault fault) }
 {
@@ -277,6 +294,9 @@ fn command_named(name: &str, given: Options<'_>) -> Result<Subcommand, LineFault
     if name == "dump" {
         return Ok(dump_asked(is_set(given.dot)));
     }
+    if name == "draw" {
+        return draw_asked(given.line);
+    }
     Err(LineFault::Incomplete)
 }
 
@@ -288,6 +308,25 @@ fn dump_asked(dot: bool) -> Subcommand
         Subcommand::Dot
     } else {
         Subcommand::Dump
+    }
+}
+
+/// The picture that is asked for: after the last line where none is given.
+fn draw_asked(line: Option<&str>) -> Result<Subcommand, LineFault>
+    ensures asked { result ≡ draw_asked (option_map (λ t. t.now) line.entry) }
+    ensures kinds { IfErr result (λ fault. IsArgumentsFault fault) }
+{
+    match line {
+        None => Ok(Subcommand::Draw { line: None }),
+        Some(text) => match read_number(text.as_bytes()) {
+            Some(number) => {
+                if 1 <= number {
+                    return Ok(Subcommand::Draw { line: Some(number) });
+                }
+                Err(LineFault::Line)
+            }
+            None => Err(LineFault::Line),
+        },
     }
 }
 

@@ -29,6 +29,11 @@ pub enum Subcommand {
     Dump,
     /// Write the graph that the dump in it has as a text for Graphviz.
     Dot,
+    /// Draw the heap of the trace in it.
+    Draw {
+        /// The number of the line, from 1, after which it is drawn; without one it is the last.
+        line: Option<u32>,
+    },
 }
 
 /// A command line that was understood.

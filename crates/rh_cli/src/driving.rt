@@ -9,6 +9,7 @@ ghost use Rattle.rh_cli.specs.declared.fault.LineFault.TheVariants as faults;
 
 use crate::ask::{Ask, Subcommand};
 use crate::counting::count;
+use crate::drawing::draw;
 use crate::ending::Ending;
 use crate::fault::LineFault;
 use crate::graphing::print_graph;
@@ -93,6 +94,7 @@ where
         Subcommand::Replay => replay(alloc, reader, out),
         Subcommand::Dump => count(alloc, reader, out),
         Subcommand::Dot => print_graph(alloc, reader, out),
+        Subcommand::Draw { line } => draw(alloc, reader, out, line),
     }
 }
 

@@ -38,6 +38,9 @@ pub enum LineFault {
     /// The value of `--idle` isn't a number of words, 0 to 65,535.
     #[error("rheap: --idle needs a number of words, 0 to 65535")]
     Idle,
+    /// The value of `--line` isn't the number of a line, 1 to 4,294,967,295.
+    #[error("rheap: --line needs the number of a line, 1 to 4294967295")]
+    Line,
     /// The file is no trace.
     #[error("rheap: {0}")]
     Trace(TraceFault),
@@ -57,6 +60,9 @@ pub enum LineFault {
     /// than there can be.
     #[error("rheap: grow: BadLimits")]
     Limits,
+    /// The trace has no line of the number that was asked for.
+    #[error("rheap: draw: NoLine")]
+    NoLine,
     /// No pace keeps up in a heap of these sizes with what a trace asks for.
     #[error("rheap: pace: {0}")]
     Pace(PaceError),
@@ -94,6 +100,7 @@ impl LineFault {
             LineFault::Arguments(error) if !error.use_stderr() => 0,
             LineFault::Arguments(_) | LineFault::NoText | LineFault::Incomplete => 2,
             LineFault::Mark | LineFault::Grow | LineFault::Replicators | LineFault::Idle => 2,
+            LineFault::Line => 2,
             LineFault::OutOfMemory => 3,
             LineFault::HistoryDiffers => 4,
             _ => 1,

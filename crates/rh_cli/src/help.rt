@@ -243,3 +243,23 @@ Statuses:
   3  memory was refused
 
 Dumps and faults are described in docs/formats.md.";
+
+/// What the help of `draw` ends with.
+pub const DRAW: &str = "\
+The trace is one that `rheap run` runs. It is played up to line N, of which the first is the heap's,
+and the heap is drawn as it stands then: roots at the left, objects as rows of their fields, what a
+cycle has placed and held, and the log; a large heap as bars of its words. Answers aren't printed.
+`rheap draw FILE --line 7 >FILE.svg` makes a picture that any browser shows.
+
+On failure standard error has one line, as `run` has it, and also
+  draw: NoLine   the trace has fewer than N lines
+With --explain, and always on a terminal, the file's line comes after it, carets under the part that
+is wrong, and what may stand there.
+
+Statuses:
+  0  done
+  1  a fault in the file, no line N, or it can't be opened or read, or a write failed
+  2  the command line isn't understood
+  3  memory was refused
+
+Traces and faults are described in docs/formats.md.";

@@ -32,7 +32,7 @@ ghost use Rattle.rh_paced_trace.specs.declared.fault.PacedFault.{PacedFault as P
 ghost use Rattle.rh_paced_trace.specs.Growing.{IsGrowingRun, growing_text_of};
 ghost use Rattle.rh_paced_trace.specs.Run.{IsPlainRun, IsRun, AreSumsOf, output_of, text_of};
 ghost use Rattle.rh_shared_trace.specs.Run.{IsHistoryOf, IsSharedRun};
-ghost use Rattle.rh_cli.specs.Ask.{command_and_file_of, is_taken};
+ghost use Rattle.rh_cli.specs.Ask.{command_and_file_of, explains_of, is_taken};
 ghost use Rattle.rh_cli.specs.Count.{counts_line};
 ghost use Rattle.rh_cli.specs.Drive.{Concludes, run_status};
 ghost use Rattle.rh_cli.specs.Fault.{ending_status, status_of};
@@ -56,7 +56,7 @@ use std::alloc::Global;
 /// 0 says that all was done: a run answered its whole trace, a paced run its whole trace of
 /// commands at its pace, a growing run its whole trace of commands, the history of one in threads
 /// is written, a history is legal and its report is written, or the counts of a dump's graph are,
-/// or its text for Graphviz.
+/// or its text for Graphviz, or a picture.
 pub fn status_0_says_done()
     ensures run { (input : List ℕ) (old new : Option (List ℕ))
         → Concludes SubcommandOf.Run input 0 old new
@@ -84,6 +84,9 @@ pub fn status_0_says_done()
     ensures dot { (input : List ℕ) (old new : Option (List ℕ))
         → Concludes SubcommandOf.Dot input 0 old new
         → (g : GraphState) × (graph_of_text input ≡ Ok g) × Appends old new (dot_text g) }
+    ensures draw { (line : Option ℕ) (input : List ℕ) (old new : Option (List ℕ))
+        → Concludes (SubcommandOf.Draw line) input 0 old new
+        → (text : List ℕ) × Appends old new text }
     ensures ending { (ending : EndingOf) → (ending_status ending ≡ 0) ↔ (ending ≡ EndingOf.Done) }
     // No fault has 0, but help and the version, which clap tells as errors.
     ensures fault { (fault : FaultOf) → status_of fault ≡ 0
@@ -130,13 +133,15 @@ pub fn status_2_says_that_the_command_line_is_not_understood()
     ensures only { (fault : FaultOf) → status_of fault ≡ 2
         → (fault ≡ FaultOf.NoText) ⊎ ((fault ≡ FaultOf.Incomplete) ⊎ ((fault ≡ FaultOf.Mark)
         ⊎ ((fault ≡ FaultOf.Grow) ⊎ ((fault ≡ FaultOf.Replicators) ⊎ ((fault ≡ FaultOf.Idle)
-        ⊎ ((error : ClapError) × (fault ≡ FaultOf.Arguments error))))))) }
+        ⊎ ((fault ≡ FaultOf.Line)
+        ⊎ ((error : ClapError) × (fault ≡ FaultOf.Arguments error)))))))) }
     ensures no_text { status_of FaultOf.NoText ≡ 2 }
     ensures incomplete { status_of FaultOf.Incomplete ≡ 2 }
     ensures mark { status_of FaultOf.Mark ≡ 2 }
     ensures grow { status_of FaultOf.Grow ≡ 2 }
     ensures replicators { status_of FaultOf.Replicators ≡ 2 }
     ensures idle { status_of FaultOf.Idle ≡ 2 }
+    ensures line { status_of FaultOf.Line ≡ 2 }
     // What clap refuses has 2, unless it asks for help or the version, which is no mistake.
     ensures asked { (error : ClapError)
         → (kind_of error ≡ DisplayHelp) ⊎ (kind_of error ≡ DisplayVersion)
@@ -147,8 +152,8 @@ pub fn status_2_says_that_the_command_line_is_not_understood()
 {}
 
 /// 3 says that memory was refused, or a thread, and no other fault has it: a run has then written
-/// nothing of its total line, and a paced or a growing run, one in threads, a check, a count and a
-/// text for Graphviz nothing at all.
+/// nothing of its total line, and a paced or a growing run, one in threads, a check, a count, a text
+/// for Graphviz and a picture nothing at all.
 pub fn status_3_says_want_of_memory()
     ensures fault { (fault : FaultOf) → (status_of fault ≡ 3) ↔ (fault ≡ FaultOf.OutOfMemory) }
     ensures run_fault { (fault : RunFaultOf)
@@ -169,6 +174,8 @@ pub fn status_3_says_want_of_memory()
         → Concludes SubcommandOf.Dump input 3 old new → Keeps old new }
     ensures dot { (input : List ℕ) (old new : Option (List ℕ))
         → Concludes SubcommandOf.Dot input 3 old new → Keeps old new }
+    ensures draw { (line : Option ℕ) (input : List ℕ) (old new : Option (List ℕ))
+        → Concludes (SubcommandOf.Draw line) input 3 old new → Keeps old new }
 {}
 
 /// 4 says that a history is wrong, and that the whole report on it is written; or, of a run in
@@ -207,6 +214,18 @@ pub fn worked_command_lines()
         ≡ is_taken (codes "rheap" ∷ codes "run" ∷ codes "x" ∷ codes "--dot" ∷ []) }
     ensures dot_twice { false ≡ is_taken (codes "rheap" ∷ codes "dump" ∷ codes "x"
         ∷ codes "--dot" ∷ codes "--dot" ∷ []) }
+    ensures draw { command_and_file_of (codes "rheap" ∷ codes "draw" ∷ codes "x" ∷ [])
+        ≡ Ok (SubcommandOf.Draw None, codes "x") }
+    ensures draw_line { command_and_file_of
+        (codes "rheap" ∷ codes "draw" ∷ codes "x" ∷ codes "--line" ∷ codes "7" ∷ [])
+        ≡ Ok (SubcommandOf.Draw (Some 7), codes "x") }
+    ensures draw_line_0 { command_and_file_of
+        (codes "rheap" ∷ codes "draw" ∷ codes "x" ∷ codes "--line=0" ∷ []) ≡ Err FaultOf.Line }
+    ensures draw_run { false
+        ≡ is_taken (codes "rheap" ∷ codes "run" ∷ codes "x" ∷ codes "--line=7" ∷ []) }
+    ensures explain { IsTrue (explains_of
+        (codes "rheap" ∷ codes "run" ∷ codes "x" ∷ codes "--explain" ∷ [])) }
+    ensures unexplained { explains_of (codes "rheap" ∷ codes "run" ∷ codes "x" ∷ []) ≡ false }
     ensures input { command_and_file_of (codes "rheap" ∷ codes "run" ∷ codes "-" ∷ [])
         ≡ Ok (SubcommandOf.Run, codes "-") }
     ensures paced { command_and_file_of

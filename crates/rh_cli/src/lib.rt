@@ -4,6 +4,7 @@
 mod arguments;
 mod ask;
 mod counting;
+mod drawing;
 mod driving;
 mod ending;
 mod explaining;

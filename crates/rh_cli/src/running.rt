@@ -46,7 +46,7 @@ fn conclude(ran: Result<Summary, RunFault>, flushed: bool) -> Result<Ending, Lin
 }
 
 /// The fault that a run's is.
-fn fault_of_run(fault: RunFault) -> LineFault
+pub(crate) fn fault_of_run(fault: RunFault) -> LineFault
     ensures status { status_of result ≡ run_status fault }
     ensures late { IsUsualFault result }
     // It is told as what it is.

@@ -308,6 +308,46 @@ const THREADS: &[(&[&[u8]], u8, &[u8], &[u8])] = &[
     ),
 ];
 
+/// What is told of a number that is no line's.
+const LINE_FAULT: &[u8] = b"rheap: --line needs the number of a line, 1 to 4294967295\n";
+
+/// What a picture comes to: of a trace of three lines, after one of them and after one more, of what
+/// is no trace, and of options that can't be taken.
+const DRAWN: &[(&[&[u8]], u8, &[u8], &[u8])] = &[
+    (&[b"rheap", b"draw", b"-"], 0, b"<svg ", b""),
+    (
+        &[b"rheap", b"draw", b"--line", b"3", b"-"],
+        0,
+        b"<svg ",
+        b"",
+    ),
+    (
+        &[b"rheap", b"draw", b"-", b"--line=4"],
+        1,
+        b"",
+        b"rheap: draw: NoLine\n",
+    ),
+    (
+        &[b"rheap", b"draw", b"/dev/null", b"--line=4"],
+        1,
+        b"",
+        b"rheap: line 1: Empty\n",
+    ),
+    (
+        &[b"rheap", b"draw", b"-", b"--line", b"0"],
+        2,
+        b"",
+        LINE_FAULT,
+    ),
+    (&[b"rheap", b"draw", b"-", b"--line=07"], 2, b"", LINE_FAULT),
+    (
+        &[b"rheap", b"run", b"-", b"--line", b"3"],
+        2,
+        b"",
+        b"error: unexpected",
+    ),
+];
+
 /// What a trace that is no history is told as, where that is explained.
 const HEADER_EXPLAINED: &[u8] =
     b"rheap: line 1: Header\n1 | heap 16 8 4 2 2\n    ^^^^\nthis is a trace: rheap run reads it\n";
@@ -372,6 +412,9 @@ fn calls_of_the_program(rt: HostRuntime) {
     for (row, call) in THREADS.iter().enumerate() {
         expect_played(&Row { rt: &rt, row }, &rt, false, call);
     }
+    for (row, call) in DRAWN.iter().enumerate() {
+        expect_played(&Row { rt: &rt, row }, &rt, false, call);
+    }
     for (row, call) in EXPLAINED.iter().enumerate() {
         expect_played(&Row { rt: &rt, row }, &rt, false, call);
     }
@@ -382,7 +425,7 @@ fn calls_of_the_program(rt: HostRuntime) {
 
 #[test]
 fn faults_before_a_run_are_told(rt: HostRuntime) {
-    let table: [(LineFault, u8, &[u8]); 8] = [
+    let table: [(LineFault, u8, &[u8]); 10] = [
         (LineFault::Open, 1, b"rheap: open failed\n"),
         (
             LineFault::NoText,
@@ -394,6 +437,8 @@ fn faults_before_a_run_are_told(rt: HostRuntime) {
         (LineFault::Grow, 2, GROW_FAULT),
         (LineFault::Replicators, 2, REPLICATORS_FAULT),
         (LineFault::Idle, 2, IDLE_FAULT),
+        (LineFault::Line, 2, LINE_FAULT),
+        (LineFault::NoLine, 1, b"rheap: draw: NoLine\n"),
         (LineFault::HistoryDiffers, 4, b"rheap: history differs\n"),
     ];
     for (row, (fault, status, text)) in table.iter().enumerate() {

@@ -20,8 +20,9 @@ returns-in_err-subcommand-clause-none c =
       idle = option_map (λ t. t.now) c.get_str-6.result;
       dot = option_map (λ t. t.now) c.get_str-7.result;
       explain = option_map (λ t. t.now) c.get_str-8.result;
+      line = option_map (λ t. t.now) c.get_str-9.result;
     } in
-    let matched : AreMatched values given = record { paced = c.get_str-2.ensures; mark = c.get_str-3.ensures; grow = c.get_str-4.ensures; replicators = c.get_str-5.ensures; idle = c.get_str-6.ensures; dot = c.get_str-7.ensures; explain = c.get_str-8.ensures } in
+    let matched : AreMatched values given = record { paced = c.get_str-2.ensures; mark = c.get_str-3.ensures; grow = c.get_str-4.ensures; replicators = c.get_str-5.ensures; idle = c.get_str-6.ensures; dot = c.get_str-7.ensures; explain = c.get_str-8.ensures; line = c.get_str-9.ensures } in
     let e = command_and_file_in-matches c.args.matches.now c.in-Some.name.now values (Some c.in-Some-get_str.file.now) given c.in-Some.ensures.name c.in-Some.ensures.rows c.in-Some-get_str.ensures matched in
     let named = ap (λ r. with_file r (Some c.in-Some-get_str.file.now)) (sym c.in_err-subcommand.ensures.named) in
     let p = err_from_is_err_and c.from_residual.result c.from_residual.ensures.1 in
@@ -38,8 +39,9 @@ returns-clause-found c =
       idle = option_map (λ t. t.now) c.get_str-6.result;
       dot = option_map (λ t. t.now) c.get_str-7.result;
       explain = option_map (λ t. t.now) c.get_str-8.result;
+      line = option_map (λ t. t.now) c.get_str-9.result;
     } in
-    let matched : AreMatched values given = record { paced = c.get_str-2.ensures; mark = c.get_str-3.ensures; grow = c.get_str-4.ensures; replicators = c.get_str-5.ensures; idle = c.get_str-6.ensures; dot = c.get_str-7.ensures; explain = c.get_str-8.ensures } in
+    let matched : AreMatched values given = record { paced = c.get_str-2.ensures; mark = c.get_str-3.ensures; grow = c.get_str-4.ensures; replicators = c.get_str-5.ensures; idle = c.get_str-6.ensures; dot = c.get_str-7.ensures; explain = c.get_str-8.ensures; line = c.get_str-9.ensures } in
     let e = command_and_file_in-matches c.args.matches.now c.in-Some.name.now values (Some c.in-Some-get_str.file.now) given c.in-Some.ensures.name c.in-Some.ensures.rows c.in-Some-get_str.ensures matched in
     e ∙ ap (λ r. with_file r (Some c.in-Some-get_str.file.now)) (sym c.in_ok-subcommand.ensures.named)
 
@@ -54,6 +56,7 @@ returns-clause-explained c =
       idle = option_map (λ t. t.now) c.get_str-6.result;
       dot = option_map (λ t. t.now) c.get_str-7.result;
       explain = option_map (λ t. t.now) c.get_str-8.result;
+      line = option_map (λ t. t.now) c.get_str-9.result;
     } in
-    let matched : AreMatched values given = record { paced = c.get_str-2.ensures; mark = c.get_str-3.ensures; grow = c.get_str-4.ensures; replicators = c.get_str-5.ensures; idle = c.get_str-6.ensures; dot = c.get_str-7.ensures; explain = c.get_str-8.ensures } in
+    let matched : AreMatched values given = record { paced = c.get_str-2.ensures; mark = c.get_str-3.ensures; grow = c.get_str-4.ensures; replicators = c.get_str-5.ensures; idle = c.get_str-6.ensures; dot = c.get_str-7.ensures; explain = c.get_str-8.ensures; line = c.get_str-9.ensures } in
     explains_in-matches c.args.matches.now c.in-Some.name.now values given c.in-Some.ensures.name c.in-Some.ensures.rows matched ∙ sym c.is_set-explain.ensures

@@ -32,3 +32,6 @@ returns-clause-idle c = refl
 
 pub returns-clause-grow : goal.returns-clause-grow
 returns-clause-grow c = refl
+
+pub returns-clause-line : goal.returns-clause-line
+returns-clause-line c = refl

@@ -2,7 +2,7 @@ use Rattle.std.proofs.Common.{refl}
 use Rattle.clap.proofs.OnLiterals.{clap_on_literals}
 use Rattle.std.specs.Fmt.{digits}
 use Rattle.rh_text.specs.Number.{number_of}
-use Rattle.rh_cli.specs.Ask.{command_and_file_of, is_taken}
+use Rattle.rh_cli.specs.Ask.{command_and_file_of, explains_of, is_taken}
 use Rattle.rh_cli.proofs.laws.worked_command_lines.Goals as goal
 
 pub returns-clause-run : goal.returns-clause-run
@@ -120,3 +120,27 @@ returns-clause-dot_run c = refl
 pub returns-clause-dot_twice : goal.returns-clause-dot_twice
 unfolding is_taken clap_on_literals
 returns-clause-dot_twice c = refl
+
+pub returns-clause-draw : goal.returns-clause-draw
+unfolding command_and_file_of clap_on_literals
+returns-clause-draw c = refl
+
+pub returns-clause-draw_line : goal.returns-clause-draw_line
+unfolding command_and_file_of number_of digits clap_on_literals
+returns-clause-draw_line c = refl
+
+pub returns-clause-draw_line_0 : goal.returns-clause-draw_line_0
+unfolding command_and_file_of number_of digits clap_on_literals
+returns-clause-draw_line_0 c = refl
+
+pub returns-clause-draw_run : goal.returns-clause-draw_run
+unfolding is_taken clap_on_literals
+returns-clause-draw_run c = refl
+
+pub returns-clause-explain : goal.returns-clause-explain
+unfolding explains_of clap_on_literals
+returns-clause-explain c = refl
+
+pub returns-clause-unexplained : goal.returns-clause-unexplained
+unfolding explains_of clap_on_literals
+returns-clause-unexplained c = refl
