@@ -1,0 +1,4 @@
+pub mod Cycles
+pub mod Line
+pub mod Heaps
+pub mod Runs
