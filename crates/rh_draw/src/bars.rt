@@ -1,5 +1,9 @@
 //! The picture of a heap with more than is drawn one by one: its words as bars.
 
+ghost use Rattle.std.specs.Prelude.{OnOk};
+ghost use Rattle.std.specs.String.{string_bytes};
+ghost use Rattle.rh_draw.specs.Picture.{IsWhole};
+
 use crate::head::{put_head, put_stat};
 use crate::limits::{MOST_ENTRIES, MOST_OBJECTS, MOST_ROOTS, MOST_WORDS};
 use rh_core::Heap;
@@ -33,23 +37,26 @@ fn put_bar<B: Allocator>(
     Ok(())
 }
 
-/// Puts the whole picture.
+/// Puts the whole picture, up to the end of its one element.
 pub fn put_bars<A: Allocator + Copy, B: Allocator>(
     svg: &mut String<B>,
     heap: &Heap<A>,
     title: &str,
-) -> Result<(), OutOfMemory> {
-    put_head(svg, title, DESCRIPTION, 200)?;
+) -> Result<(), OutOfMemory>
+    ensures { OnOk result (IsWhole (string_bytes svg.new)) }
+{
+    put_head(svg, title, DESCRIPTION, 218)?;
     put_stat(svg, &heap.stat())?;
     let words = heap.config().words;
-    put_bar(svg, "used", 70, "words used", heap.used(), words)?;
-    put_bar(svg, "cell", 100, "words free", heap.free_words(), words)?;
+    put_bar(svg, "used", 88, "words used", heap.used(), words)?;
+    put_bar(svg, "cell", 118, "words free", heap.free_words(), words)?;
     let placed = heap.replica().used();
-    put_bar(svg, "placed-words", 130, "words placed", placed, words)?;
+    put_bar(svg, "placed-words", 148, "words placed", placed, words)?;
     write!(
         svg,
-        "<text x='16' y='180'>Only bars: more than {MOST_OBJECTS} objects, {MOST_WORDS} words, \
-         {MOST_ROOTS} roots that aren't nil, or {MOST_ENTRIES} entries.</text>\n</svg>\n"
+        "<text x='16' y='198'>Only bars: more than {MOST_OBJECTS} objects, {MOST_WORDS} words, \
+         {MOST_ROOTS} roots that aren't nil, or {MOST_ENTRIES} entries.</text>\n"
     )?;
+    svg.push_str("</svg>\n")?;
     Ok(())
 }

@@ -19,6 +19,17 @@ pub fn class_of(value: Value) -> &'static str {
     "value"
 }
 
+/// The class of a store's number: a longer one is smaller.
+fn class_of_number(number: u64) -> &'static str {
+    if number > 9_999_999_999 {
+        return "number longest";
+    }
+    if number > 999_999 {
+        return "number long";
+    }
+    "number"
+}
+
 /// Puts `nil`, a whole number, or `@` and an address at the end.
 pub fn put_value<B: Allocator>(svg: &mut String<B>, value: Value) -> Result<(), OutOfMemory> {
     match value {
@@ -56,11 +67,11 @@ pub fn put_pair<B: Allocator>(
     let value_y = y + 20;
     write!(svg, "<text class='{class}' x='{x}' y='{value_y}'>")?;
     put_value(svg, pair.1)?;
-    let number_y = y + 34;
+    let (number, number_y) = (pair.0, y + 34);
+    let class = class_of_number(number);
     write!(
         svg,
-        "</text><text class='number' x='{x}' y='{number_y}'>#{}</text>\n",
-        pair.0
+        "</text><text class='{class}' x='{x}' y='{number_y}'>#{number}</text>\n"
     )?;
     Ok(())
 }
@@ -100,7 +111,7 @@ fn put_header<B: Allocator>(
     };
     write!(
         svg,
-        "<text class='word title' x='{x}' y='{address_y}'>@{address}</text>\
+        "<text class='word address' x='{x}' y='{address_y}'>@{address}</text>\
          <text class='small' x='{x}' y='{kind_y}'>{before}{fields}{after}</text>\n"
     )?;
     Ok(())

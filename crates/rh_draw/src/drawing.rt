@@ -1,9 +1,9 @@
 //! The picture of a heap, put together and written.
 
-ghost use Rattle.std.specs.Prelude.{◌≡◌, ℕ, List, false, OnOk, IsErrOf};
-ghost use Rattle.std.specs.Io.KnownBytes.{Appends, Keeps};
+ghost use Rattle.std.specs.Prelude.{◌≡◌, false, IfOk, IsErrOf, OnOk};
+ghost use Rattle.std.specs.String.{string_bytes};
 ghost use Rattle.rh_text.specs.IoLog.{AreSpent};
-ghost use Rattle.rh_text.specs.Output.{AppendsLess};
+ghost use Rattle.rh_draw.specs.Picture.{Draws, IsWhole};
 
 use crate::bars::put_bars;
 use crate::error::DrawError;
@@ -62,13 +62,15 @@ fn put_cycle<A: Allocator + Copy, B: Allocator>(
     put_legend(svg, page)
 }
 
-/// Puts the whole picture of a heap that is drawn one by one.
+/// Puts the whole picture of a heap that is drawn one by one, up to the end of its one element.
 fn put_all<A: Allocator + Copy, B: Allocator>(
     svg: &mut String<B>,
     heap: &Heap<A>,
     title: &str,
     sketch: &Sketch<B>,
-) -> Result<(), OutOfMemory> {
+) -> Result<(), OutOfMemory>
+    ensures { OnOk result (IsWhole (string_bytes svg.new)) }
+{
     let page = page_of(
         sketch,
         heap.used(),
@@ -94,7 +96,9 @@ fn picture<A: Allocator + Copy, B: Allocator + Copy>(
     alloc: B,
     heap: &Heap<A>,
     title: &str,
-) -> Result<String<B>, OutOfMemory> {
+) -> Result<String<B>, OutOfMemory>
+    ensures { IfOk result (λ svg. IsWhole (string_bytes svg)) }
+{
     let mut svg = String::new(alloc);
     match Sketch::of(alloc, heap)? {
         Some(sketch) => put_all(&mut svg, heap, title, &sketch)?,
@@ -127,12 +131,7 @@ pub fn draw<A: Allocator + Copy, B: Allocator + Copy, W: io::Write>(
     title: &str,
     writer: &mut W,
 ) -> Result<(), DrawError>
-    ensures appended { OnOk result ((text : List ℕ)
-        × Appends (W.contents writer.old) (W.contents writer.new) text) }
-    ensures prefix { IsErrOf result DrawError.Write → (text : List ℕ)
-        × AppendsLess (W.contents writer.old) (W.contents writer.new) text }
-    ensures nothing { IsErrOf result DrawError.OutOfMemory
-        → Keeps (W.contents writer.old) (W.contents writer.new) }
+    ensures drawn { Draws result (W.contents writer.old) (W.contents writer.new) }
 {
     draw_logged(alloc, heap, title, writer, &mut IoLog::new())
 }
@@ -151,12 +150,7 @@ pub fn draw_logged<A: Allocator + Copy, B: Allocator + Copy, W: io::Write>(
     writes: &mut IoLog,
 ) -> Result<(), DrawError>
     requires { writes.old.failed ≡ false }
-    ensures appended { OnOk result ((text : List ℕ)
-        × Appends (W.contents writer.old) (W.contents writer.new) text) }
-    ensures prefix { IsErrOf result DrawError.Write → (text : List ℕ)
-        × AppendsLess (W.contents writer.old) (W.contents writer.new) text }
-    ensures nothing { IsErrOf result DrawError.OutOfMemory
-        → Keeps (W.contents writer.old) (W.contents writer.new) }
+    ensures drawn { Draws result (W.contents writer.old) (W.contents writer.new) }
     // Write is answered only where a write failed or none was left, and no write failed where it
     // isn't.
     ensures failed { IsErrOf result DrawError.Write → AreSpent writes.new }

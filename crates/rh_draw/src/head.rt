@@ -42,7 +42,7 @@ pub fn put_head<B: Allocator>(
     Ok(())
 }
 
-/// Puts what `stat` says of a heap, in one line.
+/// Puts what `stat` says of a heap, in two lines: there is room for the longest numbers.
 pub fn put_stat<B: Allocator>(svg: &mut String<B>, stat: &Stat) -> Result<(), OutOfMemory> {
     let cycle = if stat.cycle { "on" } else { "off" };
     write!(
@@ -52,7 +52,7 @@ pub fn put_stat<B: Allocator>(svg: &mut String<B>, stat: &Stat) -> Result<(), Ou
     )?;
     write!(
         svg,
-        " granted {} spent {} placed {} missing {} idle {}</text>\n",
+        "</text><text x='16' y='68'>granted {} spent {} placed {} missing {} idle {}</text>\n",
         stat.granted, stat.spent, stat.placed, stat.missing, stat.idle
     )?;
     Ok(())

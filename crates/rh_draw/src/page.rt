@@ -10,7 +10,7 @@ use std::alloc::Allocator;
 pub const PAGE_WIDTH: u32 = 800;
 
 /// Where from-space begins, below the title and what `stat` says.
-const FROM_TOP: u32 = 66;
+const FROM_TOP: u32 = 84;
 
 /// The left edge of the first word of each row.
 pub const ROW_LEFT: u64 = 146;
@@ -36,11 +36,11 @@ const CAPTION: u64 = 46;
 /// How far below a root the next one stands.
 const ROOT_PITCH: u64 = 36;
 
-/// The entries of the log in a row.
-const ROW_ENTRIES: u64 = 4;
+/// The entries of the log in a row: there is room for the longest.
+const ROW_ENTRIES: u64 = 2;
 
 /// How far below an entry the one in the next row stands.
-const ENTRY_PITCH: u64 = 30;
+const ENTRY_PITCH: u64 = 22;
 
 /// A space on the page.
 #[derive(Clone, Copy)]
@@ -159,7 +159,7 @@ pub fn page_of<B: Allocator>(
 impl Page {
     /// The left edge of an entry of the log, counted from 0.
     pub fn entry_left(self, i: usize) -> u64 {
-        16 + i as u64 % ROW_ENTRIES * 193
+        16 + i as u64 % ROW_ENTRIES * 386
     }
 
     /// The upper edge of an entry of the log, counted from 0.

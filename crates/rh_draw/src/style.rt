@@ -2,15 +2,19 @@
 
 /// The style of a picture. No mark differs from another by its colour alone.
 pub const STYLE: &str = "<style>
+svg{max-width:100%;height:auto}
 text{font-family:sans-serif;font-size:13px;fill:#1f2328}
 .page{fill:#ffffff}
 .title{font-size:17px;font-weight:bold}
 .caption{font-weight:bold}
 .word{text-anchor:middle}
-.value{text-anchor:middle;font-size:15px}
+.value{text-anchor:middle;font-size:13px}
 .long{text-anchor:middle;font-size:8px}
 .longest{text-anchor:middle;font-size:4.2px}
 .small,.number{text-anchor:middle;font-size:10px;fill:#59636e}
+.number.long{font-size:6.5px}
+.number.longest{font-size:3.6px}
+.address{font-size:14px;font-weight:bold}
 .note{text-anchor:end;font-size:11px;fill:#59636e}
 .object{fill:#ffffff;fill-opacity:.82;stroke:#1f2328;stroke-width:2.2}
 .cell,.missing,.free,.root-box{fill:none;stroke:#a8b1ba}

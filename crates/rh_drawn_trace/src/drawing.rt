@@ -4,6 +4,7 @@ ghost use Rattle.std.specs.Prelude.{◌≡◌, ℕ, List, false, OnOk, IfErr, Is
 ghost use Rattle.std.specs.Io.KnownBytes.{Appends, Keeps};
 ghost use Rattle.rh_text.specs.IoLog.{AreSpent};
 ghost use Rattle.rh_text.specs.Output.{AppendsLess};
+ghost use Rattle.rh_draw.specs.Picture.{IsWhole};
 
 use crate::partway::engine_at;
 use rh_draw::{DrawError, draw_logged};
@@ -21,10 +22,10 @@ fn draw_input<A: Allocator + Copy, W: io::Write>(
     writes: &mut IoLog,
 ) -> Result<(), RunFault>
     requires { writes.old.failed ≡ false }
-    ensures appended { OnOk result ((text : List ℕ)
+    ensures appended { OnOk result ((text : List ℕ) × IsWhole text
         × Appends (W.contents writer.old) (W.contents writer.new) text) }
     ensures prefix { IsErrOf result RunFault.Write → (text : List ℕ)
-        × AppendsLess (W.contents writer.old) (W.contents writer.new) text }
+        × IsWhole text × AppendsLess (W.contents writer.old) (W.contents writer.new) text }
     ensures nothing { IfErr result (λ e. ¬ (e ≡ RunFault.Write)
         → Keeps (W.contents writer.old) (W.contents writer.new)) }
     ensures never_read { ¬ IsErrOf result RunFault.Read }
@@ -65,10 +66,10 @@ pub fn draw_trace<A: Allocator + Copy, R: io::Read, W: io::Write>(
     lines: u32,
     writer: &mut W,
 ) -> Result<(), RunFault>
-    ensures appended { OnOk result ((text : List ℕ)
+    ensures appended { OnOk result ((text : List ℕ) × IsWhole text
         × Appends (W.contents writer.old) (W.contents writer.new) text) }
     ensures prefix { IsErrOf result RunFault.Write → (text : List ℕ)
-        × AppendsLess (W.contents writer.old) (W.contents writer.new) text }
+        × IsWhole text × AppendsLess (W.contents writer.old) (W.contents writer.new) text }
     ensures nothing { IfErr result (λ e. ¬ (e ≡ RunFault.Write)
         → Keeps (W.contents writer.old) (W.contents writer.new)) }
 {
@@ -98,10 +99,10 @@ pub fn draw_trace_logged<A: Allocator + Copy, R: io::Read, W: io::Write>(
 ) -> Result<(), RunFault>
     requires no_read_failed { reads.old.failed ≡ false }
     requires no_write_failed { writes.old.failed ≡ false }
-    ensures appended { OnOk result ((text : List ℕ)
+    ensures appended { OnOk result ((text : List ℕ) × IsWhole text
         × Appends (W.contents writer.old) (W.contents writer.new) text) }
     ensures prefix { IsErrOf result RunFault.Write → (text : List ℕ)
-        × AppendsLess (W.contents writer.old) (W.contents writer.new) text }
+        × IsWhole text × AppendsLess (W.contents writer.old) (W.contents writer.new) text }
     ensures nothing { IfErr result (λ e. ¬ (e ≡ RunFault.Write)
         → Keeps (W.contents writer.old) (W.contents writer.new)) }
     // Read is answered only where a read failed or none was left, and no read failed where it
