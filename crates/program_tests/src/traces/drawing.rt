@@ -17,6 +17,49 @@ const PARTWAY: [(u32, &str, usize); 7] = [
     (99, "after line 11</title>", 2),
 ];
 
+/// A cycle on an object with one field, which was stored to after the object was placed.
+const SMALL: &[u8] =
+    b"heap 16 64 4 2 1\n1 alloc 1.0 1\n1 store 1.0 0 1.0\nbegin\nidle 9\nshade 1.0\n1 store 1.0 0 -7\n";
+
+/// What is drawn of its heap, behind the style.
+const PICTURE: &str = "\
+<rect class='page' width='100%' height='100%'/>
+<text class='title' x='16' y='28'>The heap after line 7</text>
+<text x='16' y='50'>used 3 free 13 cycle on epoch 1 number 2 log 1</text><text x='16' y='68'>granted 0 spent 3 placed 1 missing 1 idle 9</text>
+<path class='placed' d='M158 170C158 210 158 198 158 238'/>
+<path class='root' d='M116 144C132 144 122 122 146 122H150Q160 122 160 130'/>
+<text class='caption' x='146' y='98'>From-space: 3 of 16 words used</text><text class='note' x='782' y='98'>#: number of a field's last store</text>
+<text class='caption' x='16' y='98'>Roots</text>
+<rect class='root-box' x='16' y='130' width='100' height='28'/><text x='22' y='149'>1.0</text><text class='value' x='90' y='149'>@0</text>
+<g class='box'>
+<rect class='object' x='146' y='130' width='159' height='40' rx='0'/>
+</g>
+<text class='word address' x='172' y='148'>@0</text><text class='small' x='172' y='163'>1 field</text>
+<rect class='cell' x='255' y='133' width='47' height='34' rx='3'/>
+<text class='value' x='278' y='150'>-7</text><text class='number' x='278' y='164'>#2</text>
+<rect class='free' x='305' y='130' width='477' height='40'/><path class='end' d='M305 124V176'/>
+<text class='caption' x='16' y='249'>To-space</text><text x='16' y='267'>3 of 16</text><text x='16' y='284'>words used</text>
+<g class='box'>
+<rect class='object' x='146' y='238' width='159' height='40' rx='0'/>
+</g>
+<text class='word address' x='172' y='256'>@0</text><text class='small' x='172' y='271'>1 field</text>
+<rect class='missing' x='255' y='241' width='47' height='34' rx='3'/>
+<text class='small' x='225' y='145'>replica at</text><text class='word' x='225' y='161'>@0</text>
+<text class='small' x='225' y='253'>replica of</text><text class='word' x='225' y='269'>@0</text>
+<rect class='free' x='305' y='238' width='477' height='40'/><path class='end' d='M305 232V284'/>
+<path class='scan' d='M278 284l6 9h-12z'/><text class='small' x='278' y='305'>scan</text>
+<text class='caption' x='16' y='324'>Log: 1 of 4 entries</text>
+<text class='entry' x='16' y='346'>#2: @0 field 0 = -7</text>
+<g class='legend' transform='translate(16 378)'>
+<rect class='held' x='0' y='0' width='26' height='16'/><text x='32' y='13'>held</text>
+<rect class='missing' x='76' y='0' width='26' height='16'/><text x='108' y='13'>not held</text>
+<rect class='old' x='178' y='0' width='26' height='16'/><text x='210' y='13'>held, stored to since</text>
+<path class='placed' d='M364 8h38'/><text x='410' y='13'>object to its replica</text>
+<text class='past' x='562' y='13'>entry</text><text x='604' y='13'>looked at by a deal</text>
+</g>
+</svg>
+";
+
 #[test]
 fn a_trace_is_drawn_up_to_a_line(rt: HostRuntime) {
     for (row, &(lines, title, boxes)) in PARTWAY.iter().enumerate() {
@@ -29,6 +72,19 @@ fn a_trace_is_drawn_up_to_a_line(rt: HostRuntime) {
         let found = text.split("<g class='box").skip(1).count();
         expect_equal(&rt, (text.contains(title), found), (true, boxes));
     }
+}
+
+#[test]
+fn a_whole_picture_is_as_it_was_looked_at(rt: HostRuntime) {
+    let mut reader = SlowReader::new(SMALL, 0);
+    let mut writer = SlowWriter::new(&rt, 1_000, 0);
+    let drawn = draw_trace(rt.alloc(), &mut reader, 7, &mut writer);
+    expect_equal(&rt, drawn, Ok(()));
+    let text = str::from_utf8(&writer.text).ok().expect(&rt, "text");
+    let (head, shown) = text.split_once("</defs>\n").expect(&rt, "a style");
+    assert!(rt; head.starts_with("<svg xmlns='http://www.w3.org/2000/svg' width='800' height="));
+    assert!(rt; head.contains("<title>The heap after line 7</title>\n<desc>A managed heap."));
+    expect_equal(&rt, shown, PICTURE);
 }
 
 #[test]
