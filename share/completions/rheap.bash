@@ -3,7 +3,7 @@ _rheap() {
     local word=${COMP_WORDS[COMP_CWORD]} before=${COMP_WORDS[COMP_CWORD - 1]} options= valued=
     COMPREPLY=()
     if [ "$COMP_CWORD" = 1 ]; then
-        mapfile -t COMPREPLY < <(compgen -W 'run threads replay dump draw help -h --help -V --version' -- "$word")
+        mapfile -t COMPREPLY < <(compgen -W 'run threads replay dump draw completions help -h --help -V --version' -- "$word")
         return
     fi
     case ${COMP_WORDS[1]} in
@@ -12,14 +12,21 @@ _rheap() {
     replay) options='--explain -h --help' valued='' ;;
     dump) options='--explain --dot -h --help' valued='' ;;
     draw) options='--explain --line -h --help' valued='--line' ;;
+    completions) options='-h --help' valued='' ;;
     help)
-        mapfile -t COMPREPLY < <(compgen -W 'run threads replay dump draw' -- "$word")
+        mapfile -t COMPREPLY < <(compgen -W 'run threads replay dump draw completions' -- "$word")
         return
         ;;
     *) return ;;
     esac
     case " $valued " in
     *" $before "*) return ;;
+    esac
+    case ${COMP_WORDS[1]}:$word in
+    completions:[!-]* | completions:)
+        mapfile -t COMPREPLY < <(compgen -W 'bash zsh fish' -- "$word")
+        return
+        ;;
     esac
     case $word in
     -*) mapfile -t COMPREPLY < <(compgen -W "$options" -- "$word") ;;

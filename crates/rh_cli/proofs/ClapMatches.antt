@@ -35,6 +35,7 @@ pub record AreHeld (rows : List Row) (given : Options) : Type 0 where
   pub dot : given.dot ≡ first_of (codes "dot") rows
   pub explain : given.explain ≡ first_of (codes "explain") rows
   pub line : given.line ≡ first_of (codes "line") rows
+  pub shell : given.shell ≡ first_of (codes "SHELL") rows
 
 -- the same, of matches
 pub record AreMatched (values : ArgMatches) (given : Options) : Type 0 where
@@ -46,22 +47,7 @@ pub record AreMatched (values : ArgMatches) (given : Options) : Type 0 where
   pub dot : given.dot ≡ first_value (found_of values) (codes "dot")
   pub explain : given.explain ≡ first_value (found_of values) (codes "explain")
   pub line : given.line ≡ first_value (found_of values) (codes "line")
-
--- the options that matches hold
-abbrev pub options_of : ArgMatches → Options
-options_of values = record {
-  paced = first_value (found_of values) (codes "paced");
-  mark = first_value (found_of values) (codes "mark");
-  grow = first_value (found_of values) (codes "grow");
-  replicators = first_value (found_of values) (codes "replicators");
-  idle = first_value (found_of values) (codes "idle");
-  dot = first_value (found_of values) (codes "dot");
-  explain = first_value (found_of values) (codes "explain");
-  line = first_value (found_of values) (codes "line");
-}
-
-pub all_matched : (values : ArgMatches) → AreMatched values (options_of values)
-all_matched values = record { paced = refl; mark = refl; grow = refl; replicators = refl; idle = refl; dot = refl; explain = refl; line = refl }
+  pub shell : given.shell ≡ first_value (found_of values) (codes "SHELL")
 
 held_by_matches : (values : ArgMatches) (given : Options) → AreMatched values given → AreHeld (rows_of (found_of values)) given
 held_by_matches values given m =
@@ -74,11 +60,12 @@ held_by_matches values given m =
       dot = m.dot ∙ first_value-rows found (codes "dot");
       explain = m.explain ∙ first_value-rows found (codes "explain");
       line = m.line ∙ first_value-rows found (codes "line");
+      shell = m.shell ∙ first_value-rows found (codes "SHELL");
     }
 
 held_options : (rows : List Row) (given : Options) → AreHeld rows given → options_in rows ≡ given
 held_options rows given held =
-    sym (rw held.paced (rw held.mark (rw held.grow (rw held.replicators (rw held.idle (rw held.dot (rw held.explain (rw held.line refl))))))))
+    sym (rw held.paced (rw held.mark (rw held.grow (rw held.replicators (rw held.idle (rw held.dot (rw held.explain (rw held.line (rw held.shell refl)))))))))
 
 -- what a file and options of the same matches hold
 from_values : (rows : List Row) (n : Text) (file : Option Text) (given : Options) → file ≡ first_of (codes "FILE") rows → AreHeld rows given

@@ -1,13 +1,14 @@
 -- How drawing a heap ends.
-use Rattle.std.proofs.Common.{◌≡◌, ℕ, List, Option, Result, Ok, Err, refl}
+use Rattle.std.proofs.Common.{◌≡◌, ℕ, List, Option, Result, Ok, Err, OnOk, OnErr, refl}
 use Rattle.std.specs.Io.KnownBytes.{Appends, Keeps}
+use Rattle.rh_text.specs.declared.output.Write.{Write}
 use Rattle.rh_text.specs.Output.{AppendsLess}
 use Rattle.rh_text.specs.lemmas.Appends.{Keeps-same}
 use Rattle.rh_trace.specs.declared.run_fault.RunFault.{RunFault}
 use Rattle.rh_trace.specs.declared.run_fault.RunFault.TheVariants as run_faults
 use Rattle.rh_cli.specs.declared.fault.LineFault.{LineFault}
 use Rattle.rh_cli.specs.declared.fault.LineFault.TheVariants as faults
-use Rattle.rh_cli.specs.Draw.{ConcludesDraw, DrawEnds}
+use Rattle.rh_cli.specs.Draw.{ConcludesDraw, DrawEnds, SentEnds}
 use Rattle.rh_cli.specs.Drive.{run_told_as}
 use Rattle.rh_cli.proofs.Flushed.{Appends-kept, AppendsLess-kept, Keeps-kept}
 
@@ -44,3 +45,9 @@ DrawEnds-flushed (Err faults.TooLong) old mid new e k = Keeps-kept old mid new e
 DrawEnds-flushed (Err faults.Read) old mid new e k = Keeps-kept old mid new e k
 DrawEnds-flushed (Err faults.OutOfMemory) old mid new e k = Keeps-kept old mid new e k
 DrawEnds-flushed (Err fault) old mid new e k = absurd e
+
+-- a text was sent, or some of it, and flushed
+pub SentEnds-flushed : (sent : Result (Unit {0}) Write) (text : List ℕ) (old mid new : Option (List ℕ)) → OnOk sent (Appends old mid text) → OnErr sent (AppendsLess old mid text)
+    → Keeps mid new → SentEnds sent old new
+SentEnds-flushed (Ok done) text old mid new ok err k = (text, Appends-kept old mid new text ok k)
+SentEnds-flushed (Err error) text old mid new ok err k = (text, AppendsLess-kept old mid new text err k)

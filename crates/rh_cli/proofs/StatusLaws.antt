@@ -18,12 +18,13 @@ use Rattle.rh_replay.specs.History.{HistoryState}
 use Rattle.rh_replay.specs.Reading.{history_of}
 use Rattle.rh_replay.proofs.SpelledIsRead.{history_of-spelling}
 use Rattle.rh_replay.specs.Report.{report_text}
+use Rattle.rh_text.specs.declared.output.Write.{Write}
 use Rattle.rh_trace.specs.Run.{Ends, StopsBeforeTotal, run_of, text_of}
 use Rattle.rh_trace.specs.declared.run_fault.RunFault.{RunFault}
 use Rattle.rh_trace.specs.declared.run_fault.RunFault.TheVariants as run_faults
 use Rattle.rh_trace.specs.declared.summary.Summary.{Summary}
-use Rattle.rh_cli.specs.Count.{DumpEnds, IsCountStatus, counts_line}
-use Rattle.rh_cli.specs.Draw.{DrawEnds}
+use Rattle.rh_cli.specs.Count.{DumpEnds, IsCountStatus, IsSentStatus, counts_line}
+use Rattle.rh_cli.specs.Draw.{DrawEnds, SentEnds}
 use Rattle.rh_cli.specs.Drive.{Concludes, IsRunStatus, run_status}
 use Rattle.rh_cli.specs.Fault.{arguments_status, ending_status, status_of, IsLateStatus}
 use Rattle.rh_syntax.specs.Spelling.{Script}
@@ -35,8 +36,9 @@ use Rattle.rh_paced_trace.specs.declared.fault.PacedFault.{PacedFault}
 use Rattle.rh_paced_trace.specs.declared.fault.PacedFault.TheVariants as paced_faults
 use Rattle.rh_cli.proofs.SharedStatuses.{shared_is_0_1_3_or_4, shared_is_4}
 use Rattle.rh_cli.specs.Replay.{IsJudged, IsReplayStatus, ReplayEnds}
+use Rattle.rh_cli.specs.declared.ask.Shell.{Shell}
 use Rattle.rh_cli.specs.declared.ask.Subcommand.{Subcommand}
-use Rattle.rh_cli.specs.declared.ask.Subcommand.TheVariants.{Run, RunPaced, RunGrowing, Threads, Replay, Dump, Dot, Draw}
+use Rattle.rh_cli.specs.declared.ask.Subcommand.TheVariants.{Run, RunPaced, RunGrowing, Threads, Replay, Dump, Dot, Draw, Completions}
 use Rattle.rh_cli.specs.declared.ending.Ending.{Ending}
 use Rattle.rh_cli.specs.declared.ending.Ending.TheVariants.{Done, WrongHistory}
 use Rattle.rh_cli.specs.declared.fault.LineFault.{LineFault}
@@ -82,6 +84,7 @@ memory_is_3 faults.Mark = (λ is. absurd (omega (arith, is)), λ is. cc)
 memory_is_3 faults.Grow = (λ is. absurd (omega (arith, is)), λ is. cc)
 memory_is_3 faults.Replicators = (λ is. absurd (omega (arith, is)), λ is. cc)
 memory_is_3 faults.Idle = (λ is. absurd (omega (arith, is)), λ is. cc)
+memory_is_3 faults.Shell = (λ is. absurd (omega (arith, is)), λ is. cc)
 memory_is_3 faults.Line = (λ is. absurd (omega (arith, is)), λ is. cc)
 memory_is_3 faults.NoLine = (λ is. absurd (omega (arith, is)), λ is. cc)
 memory_is_3 (faults.Trace fault) = (λ is. absurd (omega (arith, is)), λ is. cc)
@@ -112,6 +115,7 @@ differs_is_4 faults.Mark = (λ is. absurd (omega (arith, is)), λ is. cc)
 differs_is_4 faults.Grow = (λ is. absurd (omega (arith, is)), λ is. cc)
 differs_is_4 faults.Replicators = (λ is. absurd (omega (arith, is)), λ is. cc)
 differs_is_4 faults.Idle = (λ is. absurd (omega (arith, is)), λ is. cc)
+differs_is_4 faults.Shell = (λ is. absurd (omega (arith, is)), λ is. cc)
 differs_is_4 faults.Line = (λ is. absurd (omega (arith, is)), λ is. cc)
 differs_is_4 faults.NoLine = (λ is. absurd (omega (arith, is)), λ is. cc)
 differs_is_4 (faults.Trace fault) = (λ is. absurd (omega (arith, is)), λ is. cc)
@@ -131,8 +135,8 @@ differs_is_4 faults.HistoryDiffers = (λ is. refl, λ is. refl)
 -- a fault with 2 is one of the command line
 pub only_the_line_is_2 : (fault : LineFault) → status_of fault ≡ 2
     → (fault ≡ faults.NoText) ⊎ ((fault ≡ faults.Incomplete) ⊎ ((fault ≡ faults.Mark) ⊎ ((fault ≡ faults.Grow) ⊎ ((fault ≡ faults.Replicators)
-    ⊎ ((fault ≡ faults.Idle) ⊎ ((fault ≡ faults.Line) ⊎ ((error : ClapError) × (fault ≡ faults.Arguments error))))))))
-only_the_line_is_2 (faults.Arguments error) is = inr (inr (inr (inr (inr (inr (inr (error, refl)))))))
+    ⊎ ((fault ≡ faults.Idle) ⊎ ((fault ≡ faults.Line) ⊎ ((fault ≡ faults.Shell) ⊎ ((error : ClapError) × (fault ≡ faults.Arguments error)))))))))
+only_the_line_is_2 (faults.Arguments error) is = inr (inr (inr (inr (inr (inr (inr (inr (error, refl))))))))
 only_the_line_is_2 faults.NoText is = inl refl
 only_the_line_is_2 faults.Incomplete is = inr (inl refl)
 only_the_line_is_2 faults.Mark is = inr (inr (inl refl))
@@ -140,6 +144,7 @@ only_the_line_is_2 faults.Grow is = inr (inr (inr (inl refl)))
 only_the_line_is_2 faults.Replicators is = inr (inr (inr (inr (inl refl))))
 only_the_line_is_2 faults.Idle is = inr (inr (inr (inr (inr (inl refl)))))
 only_the_line_is_2 faults.Line is = inr (inr (inr (inr (inr (inr (inl refl))))))
+only_the_line_is_2 faults.Shell is = inr (inr (inr (inr (inr (inr (inr (inl refl)))))))
 only_the_line_is_2 faults.NoLine is = absurd (omega (arith, is))
 only_the_line_is_2 (faults.Trace fault) is = absurd (omega (arith, is))
 only_the_line_is_2 (faults.History fault) is = absurd (omega (arith, is))
@@ -170,6 +175,7 @@ only_help_is_0 faults.Mark is = absurd (omega (arith, is))
 only_help_is_0 faults.Grow is = absurd (omega (arith, is))
 only_help_is_0 faults.Replicators is = absurd (omega (arith, is))
 only_help_is_0 faults.Idle is = absurd (omega (arith, is))
+only_help_is_0 faults.Shell is = absurd (omega (arith, is))
 only_help_is_0 faults.Line is = absurd (omega (arith, is))
 only_help_is_0 faults.NoLine is = absurd (omega (arith, is))
 only_help_is_0 (faults.Trace fault) is = absurd (omega (arith, is))
@@ -394,6 +400,27 @@ pub concludes_draw_3 : (line : Option ℕ) (input : List ℕ) (old new : Option 
 concludes_draw_3 line input old new c = draw_is_3 c.0 old new c.1 c.2
 
 -- what a subcommand ends with is at most 4 and isn't 2
+-- a text that was sent has 0 or 1, and 0 where it is written whole
+sent_is_0_1_or_3 : (sent : Result (Unit {0}) Write) (status : ℕ) → IsSentStatus sent status → (status ≡ 0) ⊎ ((status ≡ 1) ⊎ (status ≡ 3))
+sent_is_0_1_or_3 (Ok done) status (inl is) = inl is
+sent_is_0_1_or_3 (Ok done) status (inr is) = inr (inl is)
+sent_is_0_1_or_3 (Err error) status is = inr (inl is)
+
+sent_is_not_3 : (sent : Result (Unit {0}) Write) → IsSentStatus sent 3 → ⊥
+sent_is_not_3 (Ok done) (inl is) = omega (arith, is)
+sent_is_not_3 (Ok done) (inr is) = omega (arith, is)
+sent_is_not_3 (Err error) is = omega (arith, is)
+
+sent_is_0 : (sent : Result (Unit {0}) Write) (old new : Option (List ℕ)) → SentEnds sent old new → IsSentStatus sent 0 → (text : List ℕ) × Appends old new text
+sent_is_0 (Ok done) old new ends is = ends
+sent_is_0 (Err error) old new ends is = absurd (omega (arith, is))
+
+pub concludes_completions_0 : (shell : Shell) (input : List ℕ) (old new : Option (List ℕ)) → Concludes (Completions shell) input 0 old new → (text : List ℕ) × Appends old new text
+concludes_completions_0 shell input old new c = sent_is_0 c.0 old new c.1 c.2
+
+pub concludes_completions_3 : (shell : Shell) (input : List ℕ) (old new : Option (List ℕ)) → Concludes (Completions shell) input 3 old new → Keeps old new
+concludes_completions_3 shell input old new c = absurd (sent_is_not_3 c.0 c.2)
+
 pub concludes_late : (subcommand : Subcommand) (input : List ℕ) (status : ℕ) (old new : Option (List ℕ)) → Concludes subcommand input status old new → IsLateStatus status
 concludes_late Run input status old new c = late_of_three status (run_is_0_1_or_3 c.0 status c.2)
 concludes_late (RunPaced mark) input status old new c = late_of_three status (paced_is_0_1_or_3 c.0 status c.2)
@@ -402,6 +429,7 @@ concludes_late (Threads replicators idle) input status old new c = late_of_four 
 concludes_late Replay input status old new c = late_of_four status (replay_is_0_1_3_or_4 input c.0 status old new c.1 c.2)
 concludes_late Dump input status old new c = late_of_three status (count_is_0_1_or_3 counts_line input c.0 status old new c.1 c.2)
 concludes_late Dot input status old new c = late_of_three status (count_is_0_1_or_3 dot_text input c.0 status old new c.1 c.2)
+concludes_late (Completions shell) input status old new c = late_of_three status (sent_is_0_1_or_3 c.0 status c.2)
 concludes_late (Draw line) input status old new c = late_of_three status (draw_is_0_1_or_3 c.0 status old new c.1 c.2)
 
 pub concludes_run_0 : (input : List ℕ) (old new : Option (List ℕ)) → Concludes Run input 0 old new → (run : List ℕ × Summary) × (run_of input ≡ Ok run) × Appends old new run.0
@@ -440,6 +468,7 @@ concludes_4 (Threads replicators idle) input old new c =
 concludes_4 Replay input old new c = inl (refl, replay_is_4 input c.0 old new c.1 c.2)
 concludes_4 Dump input old new c = absurd (not_2_or_4 4 4 (inr refl) (count_is_0_1_or_3 counts_line input c.0 4 old new c.1 c.2) refl)
 concludes_4 Dot input old new c = absurd (not_2_or_4 4 4 (inr refl) (count_is_0_1_or_3 dot_text input c.0 4 old new c.1 c.2) refl)
+concludes_4 (Completions shell) input old new c = absurd (not_2_or_4 4 4 (inr refl) (sent_is_0_1_or_3 c.0 4 c.2) refl)
 concludes_4 (Draw line) input old new c = absurd (not_2_or_4 4 4 (inr refl) (draw_is_0_1_or_3 c.0 4 old new c.1 c.2) refl)
 
 pub concludes_run_fault : (input : List ℕ) (fault : RunFault) (status : ℕ) (old new : Option (List ℕ)) → run_of input ≡ Err fault → Concludes Run input status old new → (status ≡ 1) ⊎ (status ≡ 3)

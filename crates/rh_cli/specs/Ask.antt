@@ -5,7 +5,8 @@ use Rattle.rh_text.specs.Number.{number_of}
 use Rattle.clap.specs.declared.builder.action.ArgAction.TheVariants.{SetTrue}
 use Rattle.clap.specs.Words.{App, Kinds, Row, Rule, Text, new_app, new_rule, with_rule, with_subcommand, subcommand_of, fault_of, first_of, takes}
 use Rattle.rh_cli.specs.declared.ask.Subcommand.{Subcommand}
-use Rattle.rh_cli.specs.declared.ask.Subcommand.TheVariants.{Run, RunPaced, RunGrowing, Threads, Replay, Dump, Dot, Draw}
+use Rattle.rh_cli.specs.declared.ask.Subcommand.TheVariants.{Run, RunPaced, RunGrowing, Threads, Replay, Dump, Dot, Draw, Completions}
+use Rattle.rh_cli.specs.declared.ask.Shell.TheVariants.{Bash, Zsh, Fish}
 use Rattle.rh_cli.specs.declared.ask.Ask.{Ask}
 use Rattle.rh_cli.specs.declared.fault.LineFault.{LineFault}
 use Rattle.rh_cli.specs.declared.fault.LineFault.TheVariants as faults
@@ -68,6 +69,14 @@ line_rule = record (new_rule (codes "line")) { long = Some (codes "line"); value
 abbrev pub draw_app : App
 draw_app = with_rule (file_app (codes "draw")) line_rule
 
+-- the shell of `completions`, which is required
+abbrev pub shell_rule : Rule
+shell_rule = record (new_rule (codes "SHELL")) { required = true }
+
+-- the command `completions`: a shell, and no file
+abbrev pub completions_app : App
+completions_app = with_rule (new_app (codes "completions")) shell_rule
+
 -- the program: a version, and a command that is required
 abbrev pub rheap_top : App
 rheap_top =
@@ -81,7 +90,8 @@ rheap_app =
     in let with_threads = with_subcommand with_run threads_app.top
     in let with_replay = with_subcommand with_threads (file_app (codes "replay")).top
     in let with_dump = with_subcommand with_replay dump_app.top
-    in with_subcommand with_dump draw_app.top
+    in let with_draw = with_subcommand with_dump draw_app.top
+    in with_subcommand with_draw completions_app.top
 
 -- whether the value of the flag says that it was set
 abbrev pub is_set : Option Text → Bool
@@ -147,6 +157,19 @@ abbrev pub draw_asked : Option Text → Result Subcommand LineFault
 draw_asked None = Ok (Draw None)
 draw_asked (Some text) = draw_at (number_of text)
 
+-- the completions for the shell of this name, or the fault where there are none
+abbrev pub completions_for : Text → Result Subcommand LineFault
+completions_for name =
+    if bytes_eq name (codes "bash") then Ok (Completions Bash)
+    else (if bytes_eq name (codes "zsh") then Ok (Completions Zsh)
+    else (if bytes_eq name (codes "fish") then Ok (Completions Fish)
+    else Err faults.Shell))
+
+-- the completions that are asked for
+abbrev pub completions_asked : Option Text → Result Subcommand LineFault
+completions_asked None = Err faults.Incomplete
+completions_asked (Some name) = completions_for name
+
 -- the values of the options of all commands, as far as they are given
 pub record Options : Type 0 where
   pub paced : Option Text
@@ -157,6 +180,7 @@ pub record Options : Type 0 where
   pub dot : Option Text
   pub explain : Option Text
   pub line : Option Text
+  pub shell : Option Text
 
 -- what is written of a dump: its graph for Graphviz where that is asked, and else its counts
 abbrev pub dump_asked : Bool → Subcommand
@@ -172,13 +196,18 @@ command_named name given =
     else (if bytes_eq name (codes "replay") then Ok Replay
     else (if bytes_eq name (codes "dump") then Ok (dump_asked (is_set given.dot))
     else (if bytes_eq name (codes "draw") then draw_asked given.line
-    else Err faults.Incomplete))))
+    else (if bytes_eq name (codes "completions") then completions_asked given.shell
+    else Err faults.Incomplete)))))
 
--- a command with its file, or what is missing
+-- the file, or standard input of a command that takes none
+abbrev pub file_or_input : Option Text → Text
+file_or_input None = codes "-"
+file_or_input (Some file) = file
+
+-- a command with its file, or why there is none
 abbrev pub with_file : Result Subcommand LineFault → Option Text → Result (Subcommand × Text) LineFault
-with_file command None = Err faults.Incomplete
-with_file (Err fault) (Some file) = Err fault
-with_file (Ok command) (Some file) = Ok (command, file)
+with_file (Err fault) file = Err fault
+with_file (Ok command) file = Ok (command, file_or_input file)
 
 -- the options that the rows of a parse hold: of each the first value
 abbrev pub options_in : List Row → Options
@@ -191,6 +220,7 @@ options_in rows = record {
   dot = first_of (codes "dot") rows;
   explain = first_of (codes "explain") rows;
   line = first_of (codes "line") rows;
+  shell = first_of (codes "SHELL") rows;
 }
 
 -- the command and the file that a parse holds: the command that it found, with its options, and the

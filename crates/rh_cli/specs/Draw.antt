@@ -1,8 +1,9 @@
--- How a picture of a heap ends the program.
+-- How a picture of a heap, or a constant text, ends the program.
 use Rattle.std.specs.Prelude.{ℕ, Option, List, Result, Ok, Err}
 use Rattle.std.specs.Io.KnownBytes.{Appends, Keeps}
+use Rattle.rh_text.specs.declared.output.Write.{Write}
 use Rattle.rh_text.specs.Output.{AppendsLess}
-use Rattle.rh_cli.specs.Count.{IsCountStatus}
+use Rattle.rh_cli.specs.Count.{IsCountStatus, IsSentStatus}
 use Rattle.rh_cli.specs.declared.fault.LineFault.{LineFault}
 use Rattle.rh_cli.specs.declared.fault.LineFault.TheVariants as faults
 
@@ -24,3 +25,13 @@ DrawEnds (Err fault) old new = ⊥
 abbrev pub ConcludesDraw : ℕ → Option (List ℕ) → Option (List ℕ) → Type 0
 ConcludesDraw status old new =
     (outcome : Result (Unit {0}) LineFault) × DrawEnds outcome old new × IsCountStatus outcome status
+
+-- a text was sent, or after a failed write a part of one, and not all
+abbrev pub SentEnds : Result (Unit {0}) Write → Option (List ℕ) → Option (List ℕ) → Type 0
+SentEnds (Ok done) old new = (text : List ℕ) × Appends old new text
+SentEnds (Err error) old new = (text : List ℕ) × AppendsLess old new text
+
+-- a text was sent in such a way, and the status is that ending's
+abbrev pub ConcludesSent : ℕ → Option (List ℕ) → Option (List ℕ) → Type 0
+ConcludesSent status old new =
+    (sent : Result (Unit {0}) Write) × SentEnds sent old new × IsSentStatus sent status

@@ -7,9 +7,9 @@ use Rattle.rh_trace.specs.Run.{Ends, run_of}
 use Rattle.rh_cli.specs.declared.fault.LineFault.{LineFault}
 use Rattle.rh_cli.specs.declared.fault.LineFault.TheVariants as line_faults
 use Rattle.rh_cli.specs.declared.ask.Subcommand.{Subcommand}
-use Rattle.rh_cli.specs.declared.ask.Subcommand.TheVariants.{Run, RunPaced, RunGrowing, Threads, Replay, Dump, Dot, Draw}
+use Rattle.rh_cli.specs.declared.ask.Subcommand.TheVariants.{Run, RunPaced, RunGrowing, Threads, Replay, Dump, Dot, Draw, Completions}
 use Rattle.rh_cli.specs.Count.{ConcludesCount, ConcludesDot}
-use Rattle.rh_cli.specs.Draw.{ConcludesDraw}
+use Rattle.rh_cli.specs.Draw.{ConcludesDraw, ConcludesSent}
 use Rattle.rh_cli.specs.Paced.{ConcludesGrowing, ConcludesPaced}
 use Rattle.rh_cli.specs.Replay.{ConcludesReplay}
 use Rattle.rh_cli.specs.Shared.{ConcludesShared}
@@ -56,3 +56,4 @@ Concludes Replay input status old new = ConcludesReplay input status old new
 Concludes Dump input status old new = ConcludesCount input status old new
 Concludes Dot input status old new = ConcludesDot input status old new
 Concludes (Draw line) input status old new = ConcludesDraw status old new
+Concludes (Completions shell) input status old new = ConcludesSent status old new

@@ -3,11 +3,11 @@
 ghost use Rattle.std.specs.Prelude.{◌≡◌, ◌≢◌, ◌⊎◌, [], map, option_map, false, Ok, Err, IsTrue, IfOk, IfErr, codes};
 ghost use Rattle.clap.specs.declared.builder.command.Command.TheViews.{out-Command as fields_of};
 ghost use Rattle.clap.specs.Words.{kind_of, app_of, subcommand_rows_of};
-ghost use Rattle.rh_cli.specs.Ask.{command_and_file, command_and_file_in, command_and_file_of, command_named, error_kinds, explains_in, explains_of, draw_app, draw_asked, dump_app, dump_asked, file_app, growing_asked, marked_app, number_within, run_app, run_given, rheap_app, is_set, is_taken, run_asked, threads_app, threads_asked};
+ghost use Rattle.rh_cli.specs.Ask.{command_and_file, command_and_file_in, command_and_file_of, command_named, completions_app, completions_asked, completions_for, error_kinds, explains_in, explains_of, file_or_input, draw_app, draw_asked, dump_app, dump_asked, file_app, growing_asked, marked_app, number_within, run_app, run_given, rheap_app, is_set, is_taken, run_asked, threads_app, threads_asked};
 ghost use Rattle.rh_cli.specs.Fault.{IsArgumentsFault, IsClapFault};
 ghost use Rattle.rh_cli.specs.declared.ask.Ask.{Ask};
 
-use crate::ask::{Ask, Subcommand};
+use crate::ask::{Ask, Shell, Subcommand};
 use crate::fault::LineFault;
 use crate::help;
 use crate::version::VERSION;
@@ -34,6 +34,7 @@ struct Options<'a> {
     dot: Option<&'a str>,
     explain: Option<&'a str>,
     line: Option<&'a str>,
+    shell: Option<&'a str>,
 }
 
 /// The command line as clap knows it.
@@ -49,7 +50,8 @@ fn command_line<'a>(alloc: Global) -> Result<Command<'a>, AllocError>
         .subcommand(threads_command(alloc)?)?
         .subcommand(replay_command(alloc)?)?
         .subcommand(dump_command(alloc)?)?
-        .subcommand(draw_command(alloc)?)
+        .subcommand(draw_command(alloc)?)?
+        .subcommand(completions_command(alloc)?)
 }
 
 /// The command `run` as clap knows it.
@@ -133,6 +135,20 @@ fn draw_command<'a>(alloc: Global) -> Result<Command<'a>, AllocError>
     file_command(alloc, "draw", about, help::DRAW)?.arg(line)
 }
 
+/// The command `completions` as clap knows it.
+fn completions_command<'a>(alloc: Global) -> Result<Command<'a>, AllocError>
+    ensures app { IfOk result (λ command. app_of command ≡ completions_app) }
+    ensures local { IfOk result (λ command. (fields_of command).has_globals ≡ false) }
+{
+    let shell = Arg::new(alloc, "SHELL")
+        .required(true)
+        .help("The shell: bash, zsh or fish");
+    Command::new(alloc, "completions")
+        .about("Prints completions of the program's command lines for a shell")
+        .after_help(help::COMPLETIONS)
+        .arg(shell)
+}
+
 /// The command of this name, which takes a file, as clap knows it.
 fn file_command<'a>(
     alloc: Global,
@@ -163,12 +179,12 @@ fn file_command<'a>(
 /// # Errors
 ///
 /// `Arguments` where clap refuses them, or they ask for help or the version; `Incomplete` where
-/// clap takes them and they hold no command or no file; `Mark` where `run` has `--mark` without
+/// clap takes them and they hold no command; `Mark` where `run` has `--mark` without
 /// `--paced`, or with a value that is no number below 2^32; `Grow` where it has `--grow` without
 /// `--paced` or beside `--mark`, or with a value that is no such number; `Replicators` and then
 /// `Idle` where `threads` has such an option with a value that is no number up to 8, or up to
 /// 65,535; `Line` where `draw` has `--line` with a value that is no number from 1 below 2^32;
-/// `OutOfMemory` where memory was refused.
+/// `Shell` where `completions` is asked for another shell than bash, zsh and fish; `OutOfMemory` where memory was refused.
 pub fn read_words<'a>(alloc: Global, arguments: &'a [&'a str]) -> Result<Ask<'a>, LineFault>
     // The request has the command and the file that clap's parse of the arguments holds.
     ensures asked { IfOk result (λ ask.
@@ -236,9 +252,7 @@ fn ask_of<'a>(matches: &ArgMatches<'a>) -> Result<Ask<'a>, LineFault>
     let Some((name, values)) = matches.subcommand() else {
         return Err(LineFault::Incomplete);
     };
-    let Some(file) = values.get_str("FILE") else {
-        return Err(LineFault::Incomplete);
-    };
+    let file = file_or_input(values.get_str("FILE"));
     let options = Options {
         paced: values.get_str("paced"),
         mark: values.get_str("mark"),
@@ -248,6 +262,7 @@ fn ask_of<'a>(matches: &ArgMatches<'a>) -> Result<Ask<'a>, LineFault>
         dot: values.get_str("dot"),
         explain: values.get_str("explain"),
         line: values.get_str("line"),
+        shell: values.get_str("SHELL"),
     };
     let subcommand = command_named(name, options)?;
     let explain = is_set(options.explain);
@@ -256,6 +271,16 @@ fn ask_of<'a>(matches: &ArgMatches<'a>) -> Result<Ask<'a>, LineFault>
         file,
         explain,
     })
+}
+
+/// The file, or standard input of a command that takes none.
+fn file_or_input<'a>(given: Option<&'a str>) -> &'a str
+    ensures { result.now ≡ file_or_input (option_map (λ t. t.now) given.entry) }
+{
+    match given {
+        Some(file) => file,
+        None => "-",
+    }
 }
 
 /// Whether the value of a flag says that it was set.
@@ -279,6 +304,7 @@ fn command_named(name: &str, given: Options<'_>) -> Result<Subcommand, LineFault
       dot = option_map (λ t. t.now) given.entry.dot;
       explain = option_map (λ t. t.now) given.entry.explain;
       line = option_map (λ t. t.now) given.entry.line;
+      shell = option_map (λ t. t.now) given.entry.shell;
     }) }
     ensures kinds { IfErr result (λ fault. IsArgumentsFault fault) }
 {
@@ -297,6 +323,9 @@ fn command_named(name: &str, given: Options<'_>) -> Result<Subcommand, LineFault
     if name == "draw" {
         return draw_asked(given.line);
     }
+    if name == "completions" {
+        return completions_asked(given.shell);
+    }
     Err(LineFault::Incomplete)
 }
 
@@ -309,6 +338,34 @@ fn dump_asked(dot: bool) -> Subcommand
     } else {
         Subcommand::Dump
     }
+}
+
+/// The completions that are asked for.
+fn completions_asked(shell: Option<&str>) -> Result<Subcommand, LineFault>
+    ensures asked { result ≡ completions_asked (option_map (λ t. t.now) shell.entry) }
+    ensures kinds { IfErr result (λ fault. IsArgumentsFault fault) }
+{
+    match shell {
+        None => Err(LineFault::Incomplete),
+        Some(name) => completions_for(name),
+    }
+}
+
+/// The completions for the shell of this name.
+fn completions_for(name: &str) -> Result<Subcommand, LineFault>
+    ensures named { result ≡ completions_for name.now }
+    ensures kinds { IfErr result (λ fault. IsArgumentsFault fault) }
+{
+    if name == "bash" {
+        return Ok(Subcommand::Completions { shell: Shell::Bash });
+    }
+    if name == "zsh" {
+        return Ok(Subcommand::Completions { shell: Shell::Zsh });
+    }
+    if name == "fish" {
+        return Ok(Subcommand::Completions { shell: Shell::Fish });
+    }
+    Err(LineFault::Shell)
 }
 
 /// The picture that is asked for: after the last line where none is given.

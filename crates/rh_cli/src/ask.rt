@@ -1,5 +1,16 @@
 //! What the program is asked to do.
 
+/// A shell that completes command lines.
+#[derive(Clone, Copy, Debug, PartialEq, Eq)]
+pub enum Shell {
+    /// `bash`.
+    Bash,
+    /// `zsh`.
+    Zsh,
+    /// `fish`.
+    Fish,
+}
+
 /// What is to be done with the file.
 #[derive(Clone, Copy, Debug, PartialEq, Eq)]
 pub enum Subcommand {
@@ -34,6 +45,11 @@ pub enum Subcommand {
         /// The number of the line, from 1, after which it is drawn; without one it is the last.
         line: Option<u32>,
     },
+    /// Write the completions for a shell. There is no file.
+    Completions {
+        /// The shell.
+        shell: Shell,
+    },
 }
 
 /// A command line that was understood.
@@ -41,7 +57,7 @@ pub enum Subcommand {
 pub struct Ask<'a> {
     /// What is to be done.
     pub subcommand: Subcommand,
-    /// The file's name; `-` is standard input.
+    /// The file's name; `-` is standard input, also of a command that takes no file.
     pub file: &'a str,
     /// Whether a fault is to be explained, also where standard error is no terminal.
     pub explain: bool,

@@ -8,6 +8,7 @@ ghost use Rattle.rh_cli.specs.declared.ask.Subcommand.TheVariants.{Replay};
 ghost use Rattle.rh_cli.specs.declared.fault.LineFault.TheVariants as faults;
 
 use crate::ask::{Ask, Subcommand};
+use crate::completing::print_completions;
 use crate::counting::count;
 use crate::drawing::draw;
 use crate::ending::Ending;
@@ -95,6 +96,7 @@ where
         Subcommand::Dump => count(alloc, reader, out),
         Subcommand::Dot => print_graph(alloc, reader, out),
         Subcommand::Draw { line } => draw(alloc, reader, out, line),
+        Subcommand::Completions { shell } => print_completions(shell, out),
     }
 }
 

@@ -41,6 +41,9 @@ pub enum LineFault {
     /// The value of `--line` isn't the number of a line, 1 to 4,294,967,295.
     #[error("rheap: --line needs the number of a line, 1 to 4294967295")]
     Line,
+    /// What `completions` is asked for is none of the shells that there are completions for.
+    #[error("rheap: completions needs a shell: bash, zsh or fish")]
+    Shell,
     /// The file is no trace.
     #[error("rheap: {0}")]
     Trace(TraceFault),
@@ -100,7 +103,7 @@ impl LineFault {
             LineFault::Arguments(error) if !error.use_stderr() => 0,
             LineFault::Arguments(_) | LineFault::NoText | LineFault::Incomplete => 2,
             LineFault::Mark | LineFault::Grow | LineFault::Replicators | LineFault::Idle => 2,
-            LineFault::Line => 2,
+            LineFault::Line | LineFault::Shell => 2,
             LineFault::OutOfMemory => 3,
             LineFault::HistoryDiffers => 4,
             _ => 1,

@@ -263,3 +263,19 @@ Statuses:
   3  memory was refused
 
 Traces and faults are described in docs/formats.md.";
+
+/// What the help of `completions` ends with.
+pub const COMPLETIONS: &str = "\
+The text is a script of that shell. It completes the commands, their options and names of files:
+
+  bash  rheap completions bash >~/.local/share/bash-completion/completions/rheap
+  zsh   rheap completions zsh >_rheap, in a folder that $fpath has
+  fish  rheap completions fish >~/.config/fish/completions/rheap.fish
+
+./rheap --install puts these texts where the shells look for them.
+
+Statuses:
+  0  done
+  1  a write failed
+  2  the command line isn't understood
+  3  memory was refused";

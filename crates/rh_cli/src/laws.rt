@@ -38,6 +38,7 @@ ghost use Rattle.rh_cli.specs.Drive.{Concludes, run_status};
 ghost use Rattle.rh_cli.specs.Fault.{ending_status, status_of};
 ghost use Rattle.rh_cli.specs.Paced.{paced_status};
 ghost use Rattle.rh_cli.specs.Replay.{IsJudged};
+ghost use Rattle.rh_cli.specs.declared.ask.Shell.{Shell as ShellOf};
 ghost use Rattle.rh_cli.specs.declared.ask.Subcommand.{Subcommand as SubcommandOf};
 ghost use Rattle.rh_cli.specs.declared.ending.Ending.{Ending as EndingOf};
 ghost use Rattle.rh_cli.specs.declared.fault.LineFault.{LineFault as FaultOf};
@@ -56,7 +57,7 @@ use std::alloc::Global;
 /// 0 says that all was done: a run answered its whole trace, a paced run its whole trace of
 /// commands at its pace, a growing run its whole trace of commands, the history of one in threads
 /// is written, a history is legal and its report is written, or the counts of a dump's graph are,
-/// or its text for Graphviz, or a picture.
+/// or its text for Graphviz, or a picture, or completions.
 pub fn status_0_says_done()
     ensures run { (input : List ℕ) (old new : Option (List ℕ))
         → Concludes SubcommandOf.Run input 0 old new
@@ -86,6 +87,9 @@ pub fn status_0_says_done()
         → (g : GraphState) × (graph_of_text input ≡ Ok g) × Appends old new (dot_text g) }
     ensures draw { (line : Option ℕ) (input : List ℕ) (old new : Option (List ℕ))
         → Concludes (SubcommandOf.Draw line) input 0 old new
+        → (text : List ℕ) × Appends old new text }
+    ensures completions { (shell : ShellOf) (input : List ℕ) (old new : Option (List ℕ))
+        → Concludes (SubcommandOf.Completions shell) input 0 old new
         → (text : List ℕ) × Appends old new text }
     ensures ending { (ending : EndingOf) → (ending_status ending ≡ 0) ↔ (ending ≡ EndingOf.Done) }
     // No fault has 0, but help and the version, which clap tells as errors.
@@ -133,8 +137,8 @@ pub fn status_2_says_that_the_command_line_is_not_understood()
     ensures only { (fault : FaultOf) → status_of fault ≡ 2
         → (fault ≡ FaultOf.NoText) ⊎ ((fault ≡ FaultOf.Incomplete) ⊎ ((fault ≡ FaultOf.Mark)
         ⊎ ((fault ≡ FaultOf.Grow) ⊎ ((fault ≡ FaultOf.Replicators) ⊎ ((fault ≡ FaultOf.Idle)
-        ⊎ ((fault ≡ FaultOf.Line)
-        ⊎ ((error : ClapError) × (fault ≡ FaultOf.Arguments error)))))))) }
+        ⊎ ((fault ≡ FaultOf.Line) ⊎ ((fault ≡ FaultOf.Shell)
+        ⊎ ((error : ClapError) × (fault ≡ FaultOf.Arguments error))))))))) }
     ensures no_text { status_of FaultOf.NoText ≡ 2 }
     ensures incomplete { status_of FaultOf.Incomplete ≡ 2 }
     ensures mark { status_of FaultOf.Mark ≡ 2 }
@@ -142,6 +146,7 @@ pub fn status_2_says_that_the_command_line_is_not_understood()
     ensures replicators { status_of FaultOf.Replicators ≡ 2 }
     ensures idle { status_of FaultOf.Idle ≡ 2 }
     ensures line { status_of FaultOf.Line ≡ 2 }
+    ensures shell { status_of FaultOf.Shell ≡ 2 }
     // What clap refuses has 2, unless it asks for help or the version, which is no mistake.
     ensures asked { (error : ClapError)
         → (kind_of error ≡ DisplayHelp) ⊎ (kind_of error ≡ DisplayVersion)
@@ -176,6 +181,8 @@ pub fn status_3_says_want_of_memory()
         → Concludes SubcommandOf.Dot input 3 old new → Keeps old new }
     ensures draw { (line : Option ℕ) (input : List ℕ) (old new : Option (List ℕ))
         → Concludes (SubcommandOf.Draw line) input 3 old new → Keeps old new }
+    ensures completions { (shell : ShellOf) (input : List ℕ) (old new : Option (List ℕ))
+        → Concludes (SubcommandOf.Completions shell) input 3 old new → Keeps old new }
 {}
 
 /// 4 says that a history is wrong, and that the whole report on it is written; or, of a run in
@@ -223,6 +230,12 @@ pub fn worked_command_lines()
         (codes "rheap" ∷ codes "draw" ∷ codes "x" ∷ codes "--line=0" ∷ []) ≡ Err FaultOf.Line }
     ensures draw_run { false
         ≡ is_taken (codes "rheap" ∷ codes "run" ∷ codes "x" ∷ codes "--line=7" ∷ []) }
+    ensures completions { command_and_file_of
+        (codes "rheap" ∷ codes "completions" ∷ codes "zsh" ∷ [])
+        ≡ Ok (SubcommandOf.Completions ShellOf.Zsh, codes "-") }
+    ensures no_shell { command_and_file_of
+        (codes "rheap" ∷ codes "completions" ∷ codes "sh" ∷ []) ≡ Err FaultOf.Shell }
+    ensures completions_bare { is_taken (codes "rheap" ∷ codes "completions" ∷ []) ≡ false }
     ensures explain { IsTrue (explains_of
         (codes "rheap" ∷ codes "run" ∷ codes "x" ∷ codes "--explain" ∷ [])) }
     ensures unexplained { explains_of (codes "rheap" ∷ codes "run" ∷ codes "x" ∷ []) ≡ false }

@@ -3,6 +3,8 @@
 
 mod arguments;
 mod ask;
+mod completing;
+mod completions;
 mod counting;
 mod drawing;
 mod driving;
@@ -21,7 +23,7 @@ mod sharing;
 mod version;
 
 pub use arguments::read_words;
-pub use ask::{Ask, Subcommand};
+pub use ask::{Ask, Shell, Subcommand};
 pub use driving::{drive, tell};
 pub use ending::Ending;
 pub use explaining::{drive_explained, explain};

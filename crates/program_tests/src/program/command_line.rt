@@ -348,6 +348,35 @@ const DRAWN: &[(&[&[u8]], u8, &[u8], &[u8])] = &[
     ),
 ];
 
+/// What completions come to: for each shell the text that it begins with, and no shell.
+const COMPLETED: &[(&[&[u8]], u8, &[u8], &[u8])] = &[
+    (
+        &[b"rheap", b"completions", b"bash"],
+        0,
+        b"# Completions of rheap for bash.",
+        b"",
+    ),
+    (
+        &[b"rheap", b"completions", b"zsh"],
+        0,
+        b"#compdef rheap",
+        b"",
+    ),
+    (
+        &[b"rheap", b"completions", b"fish"],
+        0,
+        b"# Completions of rheap for fish.",
+        b"",
+    ),
+    (
+        &[b"rheap", b"completions", b"sh"],
+        2,
+        b"",
+        b"rheap: completions needs a shell: bash, zsh or fish\n",
+    ),
+    (&[b"rheap", b"completions"], 2, b"", b"error: "),
+];
+
 /// What a trace that is no history is told as, where that is explained.
 const HEADER_EXPLAINED: &[u8] =
     b"rheap: line 1: Header\n1 | heap 16 8 4 2 2\n    ^^^^\nthis is a trace: rheap run reads it\n";
@@ -415,6 +444,9 @@ fn calls_of_the_program(rt: HostRuntime) {
     for (row, call) in DRAWN.iter().enumerate() {
         expect_played(&Row { rt: &rt, row }, &rt, false, call);
     }
+    for (row, call) in COMPLETED.iter().enumerate() {
+        expect_played(&Row { rt: &rt, row }, &rt, false, call);
+    }
     for (row, call) in EXPLAINED.iter().enumerate() {
         expect_played(&Row { rt: &rt, row }, &rt, false, call);
     }
@@ -425,7 +457,7 @@ fn calls_of_the_program(rt: HostRuntime) {
 
 #[test]
 fn faults_before_a_run_are_told(rt: HostRuntime) {
-    let table: [(LineFault, u8, &[u8]); 10] = [
+    let table: [(LineFault, u8, &[u8]); 11] = [
         (LineFault::Open, 1, b"rheap: open failed\n"),
         (
             LineFault::NoText,
@@ -438,6 +470,11 @@ fn faults_before_a_run_are_told(rt: HostRuntime) {
         (LineFault::Replicators, 2, REPLICATORS_FAULT),
         (LineFault::Idle, 2, IDLE_FAULT),
         (LineFault::Line, 2, LINE_FAULT),
+        (
+            LineFault::Shell,
+            2,
+            b"rheap: completions needs a shell: bash, zsh or fish\n",
+        ),
         (LineFault::NoLine, 1, b"rheap: draw: NoLine\n"),
         (LineFault::HistoryDiffers, 4, b"rheap: history differs\n"),
     ];

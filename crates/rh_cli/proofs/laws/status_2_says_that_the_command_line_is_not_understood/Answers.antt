@@ -35,3 +35,6 @@ returns-clause-grow c = refl
 
 pub returns-clause-line : goal.returns-clause-line
 returns-clause-line c = refl
+
+pub returns-clause-shell : goal.returns-clause-shell
+returns-clause-shell c = refl

@@ -144,3 +144,15 @@ returns-clause-explain c = refl
 pub returns-clause-unexplained : goal.returns-clause-unexplained
 unfolding explains_of clap_on_literals
 returns-clause-unexplained c = refl
+
+pub returns-clause-completions : goal.returns-clause-completions
+unfolding command_and_file_of clap_on_literals
+returns-clause-completions c = refl
+
+pub returns-clause-no_shell : goal.returns-clause-no_shell
+unfolding command_and_file_of clap_on_literals
+returns-clause-no_shell c = refl
+
+pub returns-clause-completions_bare : goal.returns-clause-completions_bare
+unfolding is_taken clap_on_literals
+returns-clause-completions_bare c = refl
