@@ -114,16 +114,16 @@ cycle_told r x =
     if x.stat.cycle then None
     else option_map (λ c. cycle_of r x (going r.last x c)) r.running
 
--- how many cycles ended then
-abbrev pub ended_after : ℕ → Option Cycle → ℕ
-ended_after ended None = ended
-ended_after ended (Some cycle) = cycle.number
+-- how many cycles ended then: one more, if one was on that isn't on still, told or not
+abbrev pub ended_after : ReaderState → Stat → ℕ
+ended_after r now =
+    if r.last.cycle && not (now.cycle && goes_on r.last now) then capped r.ended 1 else r.ended
 
 -- One line is read: the reader after it, and the cycle that the line ended.
 abbrev pub read_step : ReaderState → Reading → ReaderState × Option Cycle
 read_step r x = (
   record {
-    ended = ended_after r.ended (cycle_told r x);
+    ended = ended_after r x.stat;
     last = x.stat;
     running = running_after r x;
   },

@@ -1,5 +1,5 @@
 -- What is told of the cycles of a heap that collects by itself.
-use Rattle.std.specs.Prelude.{ℕ, ◌+◌, ◌-◌, ◌/◌, ◌==◌, Bool, true, ◌&&◌, if◌then◌else◌, Option, None, is_some}
+use Rattle.std.specs.Prelude.{ℕ, ◌+◌, ◌-◌, ◌/◌, ◌==◌, Bool, true, ◌&&◌, ◌||◌, if◌then◌else◌, Option, None, is_some}
 use Rattle.std.specs.Option.{option_map}
 use Rattle.rh_core.specs.declared.stat.Stat.{Stat}
 use Rattle.rh_core.specs.Stat.{stat_of}
@@ -20,9 +20,11 @@ new_cycles s = record { calls = 0; reader = new_reader (stat_of s.heap) }
 abbrev pub reading_of : ℕ → Stat → Reading
 reading_of line stat = record { line = line; stat = stat; entries = no_counts }
 
--- whether a call did one flip, and this was the last that it did
+-- Whether a call did one flip, and this was the last that it did, in a cycle that was on before the
+-- call or that the last increment began too.
 abbrev pub ends_with_flip : Stat → PacedState → Bool
-ends_with_flip last s = is_some s.did.flipped && (last.flips + 1 == s.heap.flips)
+ends_with_flip last s =
+    is_some s.did.flipped && (last.cycle || s.did.began) && (last.flips + 1 == s.heap.flips)
 
 -- The words that were used just before that flip: those before the call, and, in a cycle that was on
 -- then, those for which the call granted units. A call that begins a cycle allocates nothing in it.

@@ -1,9 +1,10 @@
 -- What the cycles of a run add up to.
-use Rattle.std.specs.Prelude.{◌≡◌, ◌⊎◌, ℕ, ◌+◌, ◌≤◌, true, false, List, [], ◌∷◌, map, is_some, Ok}
+use Rattle.std.specs.Prelude.{◌≡◌, ◌⊎◌, ℕ, ◌+◌, ◌≤◌, true, false, List, [], ◌∷◌, length, map, is_some, Ok}
 use Rattle.rh_core.specs.declared.answer.Answer.{Answer}
 use Rattle.rh_core.specs.declared.answer.Answer.TheVariants as answers
 use Rattle.rh_core.specs.declared.event.Event.{Event}
 use Rattle.rh_core.specs.declared.event.Event.TheVariants as events
+use Rattle.rh_core.specs.declared.outcomes.Flipped.{Flipped}
 use Rattle.rh_core.specs.declared.stat.Stat.{Stat}
 use Rattle.rh_core.specs.Heap.{HeapState}
 use Rattle.rh_core.specs.Stat.{stat_of}
@@ -11,7 +12,7 @@ use Rattle.rh_core.specs.runs.Progress.{words_made, words_where}
 use Rattle.rh_core.specs.runs.Run.{event_step}
 use Rattle.rh_cycles.specs.declared.cycle.Cycle.{Cycle}
 use Rattle.rh_cycles.specs.declared.cycle.CycleEnd.{CycleEnd}
-use Rattle.rh_cycles.specs.declared.cycle.CycleEnd.TheVariants.{Flipped, Abandoned}
+use Rattle.rh_cycles.specs.declared.cycle.CycleEnd.TheVariants as ends
 use Rattle.rh_cycles.specs.declared.cycle.EntryCounts.{EntryCounts}
 use Rattle.rh_cycles.specs.Cycles.{Reading, ReaderState, dealt_counts, given_counts, no_counts}
 
@@ -24,8 +25,8 @@ words_freed (c ∷ cs) = c.freed + words_freed cs
 
 -- how many ended with a flip
 abbrev pub flip_count : CycleEnd → ℕ
-flip_count Flipped = 1
-flip_count Abandoned = 0
+flip_count ends.Flipped = 1
+flip_count ends.Abandoned = 0
 
 abbrev pub flips_in : List Cycle → ℕ
 flips_in [] = 0
@@ -33,7 +34,7 @@ flips_in (c ∷ cs) = flip_count c.end + flips_in cs
 
 -- Steps of a heap, as its numbers tell them.
 
--- a step that moves no roots: so many words were made
+-- a step without a flip: so many words were made
 pub record IsMade (made : ℕ) (before after : Stat) : Type 0 where
   pub used : after.used ≡ before.used + made
   pub flips : after.flips ≡ before.flips
@@ -68,6 +69,11 @@ words_in (s ∷ steps) = s.0 + words_in steps
 abbrev pub IsWhole : ReaderState → Type 0
 IsWhole r = is_some r.running ≡ r.last.cycle
 
+-- lines rise from one on, or stay
+abbrev pub AreRising : ℕ → List Reading → Type 0
+AreRising line [] = Unit {0}
+AreRising line (x ∷ xs) = line ≤ x.line × AreRising x.line xs
+
 -- Runs of a heap.
 
 -- the entries of a deal or a give that was answered so
@@ -99,3 +105,13 @@ module _ {A : Type 0} where
   steps_of line h [] = []
   steps_of line h (event ∷ rest) =
       step_of line h event ∷ steps_of (line + 1) (event_step h event).0 rest
+
+  -- A cycle was ended by this event at this line: its flip kept the words that live then, and the
+  -- objects that were placed before it, and freed the other words.
+  pub record IsEndedBy (line : ℕ) (h : HeapState) (event : Event A) (c : Cycle) : Type 0 where
+    pub flipped : Flipped
+    pub accepted : (event_step h event).1 ≡ answers.Flip (Ok flipped)
+    pub ended : c.ended ≡ line
+    pub live : c.live ≡ flipped.live_words
+    pub freed : c.freed + c.live ≡ (stat_of h).used
+    pub objects : c.objects ≡ length h.joint.placed

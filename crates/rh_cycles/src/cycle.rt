@@ -75,7 +75,7 @@ impl EntryCounts {
 /// The numbers of a cycle that ended. Words are words of 16 bytes of one space.
 #[derive(Clone, Copy, Debug, PartialEq, Eq)]
 pub struct Cycle {
-    /// Which one it is of those that ended, counted from 1.
+    /// Which one it is of those that ended since the reader was made, counted from 1.
     pub number: u64,
     /// How it ended.
     pub end: CycleEnd,
@@ -97,13 +97,15 @@ pub struct Cycle {
     pub objects: u64,
     /// The units that words allocated in it granted.
     pub granted: u64,
-    /// The idle words that were added in it, a unit each.
+    /// The idle words that were added in it, a unit each. Of a heap that collects by itself also
+    /// what stores paid, and what `collect` added.
     pub idle: u64,
     /// The units that it spent.
     pub spent: u64,
     /// The most units that one line, or one call, of it spent.
     pub most: u64,
-    /// The stores in it, each of which was an entry of the log.
+    /// The stores in it, each of which was an entry of the log. Of a heap that collects by itself
+    /// also those that its last call made after the flip, as `insist` of a store may.
     pub logged: u64,
     /// The entries of its deals and gives, by class. `None` where they aren't known.
     pub entries: Option<EntryCounts>,

@@ -18,8 +18,11 @@ use std::marker::Model;
 /// - A call counts as a line does in a trace, from 1.
 /// - Of the entries of deals and gives nothing is known: a count of each class would be a cost in
 ///   the loop that holds them. So `entries` is `None`.
-/// - A call that ends a cycle and then begins or ends another, as `insist` and `run` may, tells
-///   none of those that ended. They are counted, so the number of the next one shows it.
+/// - A list of commands is one call: of a cycle that begins in it, `used` is what is used after the
+///   list.
+/// - A call that does an increment after its flip, or flips twice, tells none: so does `insist` of
+///   an allocation for which it collected. A list of commands tells none that began in it and ended
+///   at a later one of them. Each is counted, so the number of the next one shows it.
 #[derive(Drop)]
 pub struct Cycles {
     calls: u64,
@@ -35,7 +38,8 @@ impl Model for Cycles {
 }
 
 impl Cycles {
-    /// For a heap as it stands. A cycle that is on isn't told, since its begin wasn't seen.
+    /// For a heap as it stands. A cycle that is on isn't told, since its begin wasn't seen. It
+    /// counts once it ended.
     pub fn new<A: Allocator + Copy>(heap: &PacedHeap<A>) -> Cycles
         ensures { result ≡ new_cycles heap.now }
     {
@@ -46,7 +50,7 @@ impl Cycles {
     }
 
     /// Reads the heap after a call. Answers the cycle that ended at it, if one did whose begin was
-    /// seen.
+    /// seen, if the call did that one flip and no increment after it.
     pub fn after<A: Allocator + Copy>(&mut self, heap: &PacedHeap<A>) -> Option<Cycle>
         ensures state { self.new ≡ (after_step self.old heap.now).0 }
         ensures told { result ≡ (after_step self.old heap.now).1 }
@@ -83,12 +87,13 @@ impl Cycles {
     }
 }
 
-/// Whether a call did one flip, and this was the last that it did.
+/// Whether a call did one flip, and this was the last that it did, in a cycle that was on before the
+/// call or that the last increment began too.
 fn ends_with_flip<A: Allocator + Copy>(last: &Stat, heap: &PacedHeap<A>) -> bool
     ensures { result ≡ ends_with_flip_of last.now heap.now }
 {
-    let flips = heap.stat().flips;
-    heap.last_did().flipped.is_some() && flips > 0 && last.flips == flips - 1
+    let (flips, did) = (heap.stat().flips, heap.last_did());
+    did.flipped.is_some() && (last.cycle || did.began) && flips > 0 && last.flips == flips - 1
 }
 
 /// The heap's numbers just before the flip with which a call ended.

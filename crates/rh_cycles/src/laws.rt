@@ -1,12 +1,15 @@
 //! Laws of the definitions alone. Each function does nothing: its contract is the law.
 
-ghost use Rattle.std.specs.Prelude.{◌≡◌, ℕ, ◌+◌, List, false};
+ghost use Rattle.std.specs.Prelude.{◌≡◌, ℕ, ◌+◌, ◌≤◌, All, List, Some, false};
 ghost use Rattle.rh_core.specs.declared.event.Event.{Event};
+ghost use Rattle.rh_core.specs.declared.stat.Stat.{Stat};
 ghost use Rattle.rh_core.specs.Heap.{HeapState, IsWellFormed};
 ghost use Rattle.rh_core.specs.Stat.{stat_of};
 ghost use Rattle.rh_core.specs.runs.Run.{event_step, heap_after};
-ghost use Rattle.rh_cycles.specs.Cycles.{Reading, ReaderState, cycles_of, new_reader, reader_after};
-ghost use Rattle.rh_cycles.specs.Runs.{AreSteps, IsStep, IsWhole, flips_in, readings_of, step_of, steps_of, words_freed, words_in};
+ghost use Rattle.rh_cycles.specs.declared.cycle.Cycle.{Cycle};
+ghost use Rattle.rh_cycles.specs.declared.cycle.CycleEnd.TheVariants.{Flipped};
+ghost use Rattle.rh_cycles.specs.Cycles.{Reading, ReaderState, cycles_of, new_reader, read_step, reader_after};
+ghost use Rattle.rh_cycles.specs.Runs.{AreRising, AreSteps, IsEndedBy, IsStep, IsWhole, flips_in, readings_of, step_of, steps_of, words_freed, words_in};
 
 use rh_core::laws::cycles::{
     a_flip_ends_the_cycle, a_flip_is_refused_exactly_where_its_cycle_is_not_closed,
@@ -61,3 +64,27 @@ pub fn each_word_of_a_run_is_used_or_was_freed<A: Allocator + Copy>()
     each_event_is_a_step::<A>();
     every_event_keeps_a_heap_well_formed::<A>();
 }
+
+/// A reader that read a heap's numbers reads them again after an event. If it tells a cycle that a
+/// flip ended, the event was that flip. Then `live` is the words that the flip answered, `freed` the
+/// other words that were used, and `objects` those that were placed.
+pub fn a_cycle_that_a_flip_ended_has_its_numbers<A: Allocator + Copy>()
+    ensures { (h : HeapState) → IsWellFormed h → (r : ReaderState) → r.last ≡ stat_of h
+        → (line : ℕ) (event : Event A) (c : Cycle)
+        → (read_step r (step_of line h event).1).1 ≡ Some c → c.end ≡ Flipped
+        → IsEndedBy line h event c }
+{
+    what_a_heap_tells_follows_its_calls();
+    each_call_leaves_the_rest_of_what_a_heap_tells();
+    a_flip_ends_the_cycle();
+    a_well_formed_heap_is_bounded();
+    a_flip_is_refused_exactly_where_its_cycle_is_not_closed();
+}
+
+/// Lines are read that rise from one on. Each cycle that is told began at that one or later, and no
+/// later than it ended.
+pub fn a_cycle_begins_before_it_ends()
+    ensures { (stat : Stat) (line : ℕ) (readings : List Reading) → AreRising line readings
+        → All (λ c. (line ≤ c.began) × (c.began ≤ c.ended))
+        (cycles_of (new_reader stat) readings) }
+{}

@@ -1,6 +1,6 @@
 //! The line of a cycle.
 
-ghost use Rattle.std.specs.Prelude.{◌≡◌, ◌+◌, ◌≤◌, ◌++◌, ◌∷◌, [], length, OnOk};
+ghost use Rattle.std.specs.Prelude.{◌≡◌, ◌+◌, ◌≤◌, ◌++◌, ◌∷◌, [], ℕ, length, take, OnOk, OnErr};
 ghost use Rattle.rh_cycles.specs.Line.{column, cycle_line, end_text, ends_text, entries_text, words_text, work_text};
 
 use crate::cycle::{Cycle, CycleEnd, EntryCounts};
@@ -17,13 +17,15 @@ pub const HEADER: &[u8] =
 ///
 /// # Errors
 ///
-/// `OutOfMemory` where memory for the line was refused. The text has a part of the line then, or
-/// none.
+/// `OutOfMemory` where memory for the line was refused. The text has a first part of the line then,
+/// or none of it.
 pub fn put_cycle<A: Allocator + Copy>(
     text: &mut Vec<u8, A>,
     cycle: &Cycle,
 ) -> Result<(), OutOfMemory>
-    ensures { OnOk result (text.new.items ≡ text.old.items ++ cycle_line cycle.now) }
+    ensures line { OnOk result (text.new.items ≡ text.old.items ++ cycle_line cycle.now) }
+    ensures part { OnErr result ((n : ℕ)
+        × (text.new.items ≡ text.old.items ++ take n (cycle_line cycle.now))) }
 {
     let mut part = LineText::new();
     put_ends(&mut part, cycle);

@@ -1,7 +1,7 @@
 //! The reader of a heap's cycles.
 
 ghost use Rattle.std.specs.Prelude.{◌≡◌, ℕ};
-ghost use Rattle.rh_cycles.specs.Cycles.{begun as begun_of, cycle_of, cycle_told, going as going_of, goes_on as goes_on_of, new_reader, no_counts, read_step, running_after as running_after_of, skip_step};
+ghost use Rattle.rh_cycles.specs.Cycles.{begun as begun_of, cycle_of, cycle_told, ended_after as ended_after_of, going as going_of, goes_on as goes_on_of, new_reader, no_counts, read_step, running_after as running_after_of, skip_step};
 
 use crate::cycle::{Cycle, CycleEnd, EntryCounts, sum};
 use crate::running::Running;
@@ -31,7 +31,7 @@ impl Model for CycleReader {
 
 impl CycleReader {
     /// A reader of a heap whose numbers are these now. A cycle that is on isn't told, since its
-    /// begin wasn't read.
+    /// begin wasn't read. It counts once it ended.
     pub fn new(stat: &Stat) -> CycleReader
         ensures { result ≡ new_reader stat.now }
     {
@@ -54,9 +54,7 @@ impl CycleReader {
             (record { line = line; stat = stat.now; entries = entries })).1 }
     {
         let told = self.told(line, stat, entries);
-        if let Some(cycle) = told {
-            self.ended = cycle.number;
-        }
+        self.ended = self.ended_after(stat);
         self.running = self.running_after(line, stat, entries);
         self.last = *stat;
         told
@@ -107,6 +105,16 @@ impl CycleReader {
             entries: Some(running.entries),
             words: sum(stat.used, stat.free),
         }
+    }
+
+    /// How many cycles ended once a line was read.
+    fn ended_after(&self, stat: &Stat) -> u64
+        ensures { result ≡ ended_after_of self.now stat.now }
+    {
+        if self.last.cycle && !(stat.cycle && goes_on(&self.last, stat)) {
+            return sum(self.ended, 1);
+        }
+        self.ended
     }
 
     /// What is kept of the cycle that is on once a line was read.
