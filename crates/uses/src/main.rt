@@ -2,6 +2,7 @@
 //! proved, and run.
 #![tactic(auto)]
 
+mod cycles;
 mod files;
 mod full;
 mod growing_list;
@@ -49,6 +50,7 @@ fn run(rt: &(impl Print + AllocGlobal + Threads + Wait + Sync)) -> Result<(), Pr
     println!(rt; "texts freed {freed} bytes of the rest {bytes}")?;
     let (calls, objects) = recorded::run(alloc, &mut io::writer(rt))?;
     println!(rt; "recorded calls {calls} objects {objects}")?;
+    cycles::run(alloc, &mut io::writer(rt))?;
     Ok(())
 }
 
