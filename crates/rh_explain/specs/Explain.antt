@@ -16,8 +16,8 @@ use Rattle.rh_explain.specs.declared.why.Why.TheVariants as whys
 -- what a part should be, as the format's tables say it
 abbrev pub sort_of : Expected → Sort
 sort_of expected.Keyword = keyword
-sort_of expected.Number = number
-sort_of expected.Root = root
+sort_of (expected.Number name) = number
+sort_of (expected.Root name) = root
 sort_of expected.Operand = operand
 sort_of expected.Dealt = copies_or_entries
 sort_of expected.Tray = tray
@@ -29,6 +29,7 @@ class whys.TooManyBytes = kinds.Long
 class whys.Unended = kinds.Cut
 class whys.Tab = kinds.Form
 class whys.CarriageReturn = kinds.Form
+class whys.ByteOrderMark = kinds.Form
 class (whys.Byte byte) = kinds.Form
 class whys.Blank = kinds.Form
 class whys.SpaceAtStart = kinds.Form
@@ -41,17 +42,21 @@ class whys.HeaderShort = kinds.Header
 class whys.HeaderLong = kinds.Header
 class whys.OwnerAlone = kinds.Form
 class whys.Unknown = kinds.Word
+class whys.UnknownOwned = kinds.Word
+class whys.Comment = kinds.Word
+class whys.HeapAgain = kinds.Word
 class (whys.Misspelled near) = kinds.Word
 class (whys.OwnerMissing word) = kinds.Word
 class (whys.OwnerSurplus word) = kinds.Word
 class whys.NotCommand = kinds.Word
-class (whys.Missing sort) = kinds.Form
+class (whys.Missing part row) = kinds.Form
 class whys.Surplus = kinds.Form
 class whys.NotDealt = kinds.Word
 class whys.NotNumber = kinds.Number
 class whys.NumberRange = kinds.Number
 class whys.NotOperand = kinds.Number
 class whys.NotRoot = kinds.Root
+class whys.NotFraction = kinds.Root
 class whys.NotTray = kinds.Tray
 
 -- the kind of fault that reading gives, if it gives one

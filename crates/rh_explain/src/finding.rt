@@ -13,8 +13,9 @@ use crate::columns::columns_of;
 use crate::expected::Expected;
 use crate::forms::{header_form, keyword_form, owned_form};
 use crate::keyword::{LEADING, OWNED};
-use crate::near::{near_in, nearest};
+use crate::near::{nearest, same_in};
 use crate::part::{Misfit, Part};
+use crate::row::{Row, row_of};
 use crate::why::Why;
 use rh_layout::limits::{MAX_LINE_BYTES, MAX_LINES};
 use rh_syntax::tray_name_of;
@@ -76,7 +77,7 @@ fn why_no_operand(part: &[u8]) -> Option<Why>
     if has_dot(part) {
         return match read_root(part) {
             Some(_) => None,
-            None => Some(Why::NotRoot),
+            None => Some(Why::NotFraction),
         };
     }
     match read_integer(part) {
@@ -114,8 +115,8 @@ fn why_not(expected: Expected, part: &[u8]) -> Option<Why>
 {
     match expected {
         Expected::Keyword => None,
-        Expected::Number => why_no_number(part),
-        Expected::Root => why_no_root(part),
+        Expected::Number(_) => why_no_number(part),
+        Expected::Root(_) => why_no_root(part),
         Expected::Operand => why_no_operand(part),
         Expected::Dealt => why_not_dealt(part),
         Expected::Tray => why_no_tray(part),
@@ -142,7 +143,7 @@ fn argument_misfit(form: &[Expected], line: &[u8]) -> Option<Misfit>
 }
 
 /// The part that is missing, or the first that is too many.
-fn count_misfit(form: &[Expected], line: &[u8]) -> Option<Misfit>
+fn count_misfit(form: &[Expected], row: Row, line: &[u8]) -> Option<Misfit>
     ensures { MatchOption result (length (parts_of line.now) ≡ length form.now)
         (λ m. IsMiscounted (length form.now) (length (parts_of line.now)) m.index
         × (class m.why ≡ kinds.Form)) }
@@ -152,7 +153,7 @@ fn count_misfit(form: &[Expected], line: &[u8]) -> Option<Misfit>
         let Some((_, after)) = next_part(rest) else {
             return Some(Misfit {
                 index,
-                why: Why::Missing(*expected),
+                why: Why::Missing(*expected, row),
             });
         };
         rest = after;
@@ -167,13 +168,13 @@ fn count_misfit(form: &[Expected], line: &[u8]) -> Option<Misfit>
 }
 
 /// The first misfit of a line whose form is known: in the number of parts, or else part by part.
-fn form_misfit(form: &[Expected], line: &[u8]) -> Option<Misfit>
+fn form_misfit(form: &[Expected], row: Row, line: &[u8]) -> Option<Misfit>
     ensures judged { Judges (form_faults (Some (map sort_of form.now)) (parts_of line.now))
         (misfit_verdict result) }
     ensures place { IfSome result (λ m. MisfitAt (map sort_of form.now) (parts_of line.now)
         m.index (class m.why)) }
 {
-    if let Some(misfit) = count_misfit(form, line) {
+    if let Some(misfit) = count_misfit(form, row, line) {
         return Some(misfit);
     }
     argument_misfit(form, line)
@@ -183,12 +184,12 @@ fn form_misfit(form: &[Expected], line: &[u8]) -> Option<Misfit>
 fn why_no_owned_keyword(word: &[u8]) -> Why
     ensures { class result ≡ kinds.Word }
 {
-    if let Some(keyword) = near_in(LEADING, word, 0) {
+    if let Some(keyword) = same_in(LEADING, word) {
         return Why::OwnerSurplus(keyword);
     }
     match nearest(OWNED, LEADING, word) {
         Some(keyword) => Why::Misspelled(keyword),
-        None => Why::Unknown,
+        None => Why::UnknownOwned,
     }
 }
 
@@ -196,8 +197,14 @@ fn why_no_owned_keyword(word: &[u8]) -> Why
 fn why_no_keyword(word: &[u8]) -> Why
     ensures { class result ≡ kinds.Word }
 {
-    if let Some(keyword) = near_in(OWNED, word, 0) {
+    if let Some(keyword) = same_in(OWNED, word) {
         return Why::OwnerMissing(keyword);
+    }
+    if is_text(word, b"heap") {
+        return Why::HeapAgain;
+    }
+    if let [b'#', ..] = word {
+        return Why::Comment;
     }
     match nearest(LEADING, OWNED, word) {
         Some(keyword) => Why::Misspelled(keyword),
@@ -219,7 +226,7 @@ fn line_misfit(line: &[u8]) -> Option<Misfit>
     };
     if !begins_with_digit(first) {
         return match keyword_form(first) {
-            Some(form) => form_misfit(form, line),
+            Some(form) => form_misfit(form, row_of(first), line),
             None => Some(Misfit {
                 index: 0,
                 why: why_no_keyword(first),
@@ -233,7 +240,7 @@ fn line_misfit(line: &[u8]) -> Option<Misfit>
         });
     };
     match owned_form(word) {
-        Some(form) => form_misfit(form, line),
+        Some(form) => form_misfit(form, row_of(word), line),
         None => Some(Misfit {
             index: 1,
             why: why_no_owned_keyword(word),
@@ -272,7 +279,7 @@ fn header_misfit(line: &[u8]) -> Option<Misfit>
             why: why_no_heap(first),
         });
     }
-    if let Some(misfit) = count_misfit(header_form(), line) {
+    if let Some(misfit) = count_misfit(header_form(), Row::Heap, line) {
         return Some(header_count(misfit));
     }
     argument_misfit(header_form(), line)
@@ -284,7 +291,7 @@ fn header_count(misfit: Misfit) -> Misfit
     ensures index { result.index ≡ misfit.index }
 {
     let why = match misfit.why {
-        Why::Missing(_) => Why::HeaderShort,
+        Why::Missing(_, _) => Why::HeaderShort,
         _ => Why::HeaderLong,
     };
     Misfit {
@@ -336,8 +343,19 @@ fn why_ill_byte(line: &[u8], index: usize, byte: u8) -> Why
                 Why::Byte(byte)
             }
         }
-        _ => Why::Byte(byte),
+        _ => {
+            if index == 0 && is_marked(line) {
+                Why::ByteOrderMark
+            } else {
+                Why::Byte(byte)
+            }
+        }
     }
+}
+
+/// Whether a line begins with a byte order mark.
+pub fn is_marked(line: &[u8]) -> bool {
+    matches!(line, [0xef, 0xbb, 0xbf, ..])
 }
 
 /// The first part of a line at which its form fails.

@@ -5,57 +5,69 @@ ghost use Rattle.std.specs.Option.{option_map};
 ghost use Rattle.rh_syntax.specs.Faults.{header_form, owned_forms, keyword_forms, lookup};
 ghost use Rattle.rh_explain.specs.Explain.{sort_of};
 
-use crate::expected::Expected;
+use crate::expected::{Expected, Name};
 use rh_text::is_text;
 
 /// `OWNER alloc ROOT FIELDS`, and so `raw`.
-const OWNED_ROOT_NUMBER: &[Expected] = &[
-    Expected::Number,
+const ALLOC: &[Expected] = &[
+    Expected::Number(Name::Owner),
     Expected::Keyword,
-    Expected::Root,
-    Expected::Number,
+    Expected::Root(Name::Root),
+    Expected::Number(Name::Fields),
 ];
 
 /// `OWNER load DST SRC FIELD`.
-const OWNED_ROOTS_NUMBER: &[Expected] = &[
-    Expected::Number,
+const LOAD: &[Expected] = &[
+    Expected::Number(Name::Owner),
     Expected::Keyword,
-    Expected::Root,
-    Expected::Root,
-    Expected::Number,
+    Expected::Root(Name::Target),
+    Expected::Root(Name::Source),
+    Expected::Number(Name::Field),
 ];
 
 /// `OWNER store OBJ FIELD OPERAND`.
-const OWNED_STORE: &[Expected] = &[
-    Expected::Number,
+const STORE: &[Expected] = &[
+    Expected::Number(Name::Owner),
     Expected::Keyword,
-    Expected::Root,
-    Expected::Number,
+    Expected::Root(Name::Object),
+    Expected::Number(Name::Field),
     Expected::Operand,
 ];
 
-/// `OWNER copy DST SRC`, and so `same`.
-const OWNED_ROOTS: &[Expected] = &[
-    Expected::Number,
+/// `OWNER copy DST SRC`.
+const COPY: &[Expected] = &[
+    Expected::Number(Name::Owner),
     Expected::Keyword,
-    Expected::Root,
-    Expected::Root,
+    Expected::Root(Name::Target),
+    Expected::Root(Name::Source),
+];
+
+/// `OWNER same A B`.
+const SAME: &[Expected] = &[
+    Expected::Number(Name::Owner),
+    Expected::Keyword,
+    Expected::Root(Name::Left),
+    Expected::Root(Name::Right),
 ];
 
 /// `OWNER drop ROOT`, and so `watch`.
-const OWNED_ROOT: &[Expected] = &[Expected::Number, Expected::Keyword, Expected::Root];
+const OWNED_ROOT: &[Expected] = &[
+    Expected::Number(Name::Owner),
+    Expected::Keyword,
+    Expected::Root(Name::Root),
+];
 
 /// A keyword alone.
 const ALONE: &[Expected] = &[Expected::Keyword];
 
 /// `shade ROOT`.
-const ONE_ROOT: &[Expected] = &[Expected::Keyword, Expected::Root];
+const ONE_ROOT: &[Expected] = &[Expected::Keyword, Expected::Root(Name::Root)];
 
 /// `deal copies MOST TRAY`, or `deal entries MOST TRAY`.
 const DEALT: &[Expected] = &[
     Expected::Keyword,
     Expected::Dealt,
-    Expected::Number,
+    Expected::Number(Name::Most),
     Expected::Tray,
 ];
 
@@ -65,17 +77,23 @@ const ONE_TRAY: &[Expected] = &[Expected::Keyword, Expected::Tray];
 /// `join TRAY TRAY`.
 const TWO_TRAYS: &[Expected] = &[Expected::Keyword, Expected::Tray, Expected::Tray];
 
-/// `idle N`, and so `resize`, `tickets` and `unwatch`.
-const ONE_NUMBER: &[Expected] = &[Expected::Keyword, Expected::Number];
+/// `idle N`, and so `tickets`.
+const ONE_NUMBER: &[Expected] = &[Expected::Keyword, Expected::Number(Name::Count)];
+
+/// `resize WORDS`.
+const RESIZE: &[Expected] = &[Expected::Keyword, Expected::Number(Name::Words)];
+
+/// `unwatch T`.
+const UNWATCH: &[Expected] = &[Expected::Keyword, Expected::Number(Name::Ticket)];
 
 /// `heap WORDS RATIO LOG OWNERS SLOTS`.
 const HEADER: &[Expected] = &[
     Expected::Keyword,
-    Expected::Number,
-    Expected::Number,
-    Expected::Number,
-    Expected::Number,
-    Expected::Number,
+    Expected::Number(Name::Words),
+    Expected::Number(Name::Words),
+    Expected::Number(Name::Words),
+    Expected::Number(Name::Words),
+    Expected::Number(Name::Words),
 ];
 
 /// The form of the first line.
@@ -93,22 +111,22 @@ pub fn owned_form(word: &[u8]) -> Option<&'static [Expected]>
         return Some(OWNED_ROOT);
     }
     if is_text(word, b"alloc") {
-        return Some(OWNED_ROOT_NUMBER);
+        return Some(ALLOC);
     }
     if is_text(word, b"raw") {
-        return Some(OWNED_ROOT_NUMBER);
+        return Some(ALLOC);
     }
     if is_text(word, b"load") {
-        return Some(OWNED_ROOTS_NUMBER);
+        return Some(LOAD);
     }
     if is_text(word, b"store") {
-        return Some(OWNED_STORE);
+        return Some(STORE);
     }
     if is_text(word, b"copy") {
-        return Some(OWNED_ROOTS);
+        return Some(COPY);
     }
     if is_text(word, b"same") {
-        return Some(OWNED_ROOTS);
+        return Some(SAME);
     }
     if is_text(word, b"drop") {
         return Some(OWNED_ROOT);
@@ -148,13 +166,13 @@ pub fn keyword_form(word: &[u8]) -> Option<&'static [Expected]>
         return Some(ONE_NUMBER);
     }
     if is_text(word, b"resize") {
-        return Some(ONE_NUMBER);
+        return Some(RESIZE);
     }
     if is_text(word, b"tickets") {
         return Some(ONE_NUMBER);
     }
     if is_text(word, b"unwatch") {
-        return Some(ONE_NUMBER);
+        return Some(UNWATCH);
     }
     if is_text(word, b"gone") {
         return Some(ALONE);

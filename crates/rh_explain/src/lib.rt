@@ -9,12 +9,14 @@ mod forms;
 mod keyword;
 mod near;
 mod part;
+mod row;
 mod why;
 
 pub use block::{write_block, write_rows};
 pub use columns::columns_of;
-pub use expected::Expected;
-pub use finding::{fault_part, no_command_part};
+pub use expected::{Expected, Name};
+pub use finding::{fault_part, is_marked, no_command_part};
 pub use keyword::Keyword;
 pub use part::Part;
+pub use row::Row;
 pub use why::Why;

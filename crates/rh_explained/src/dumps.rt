@@ -8,7 +8,7 @@ use crate::spot::{Spot, at_found, at_line, at_part};
 use crate::told::Told;
 use rh_dump::limits::{LAST_OBJECT, MAX_OBJECTS, MAX_ROOTS};
 use rh_dump::{DumpFault, DumpKind};
-use rh_explain::{Why, fault_part};
+use rh_explain::{Why, fault_part, is_marked};
 use rh_layout::limits::{MAX_FIELDS, MAX_OWNERS, MAX_SLOTS};
 use rh_layout::{RootId, is_whole};
 use rh_text::{first_line, is_formed, is_text, next_part, read_integer, read_number, read_root};
@@ -20,6 +20,8 @@ struct Before {
     due: Due,
     /// Whether objects may be raw, as in version 2.
     has_raw: bool,
+    /// How many roots there are, once that was said.
+    roots: u32,
     /// How many objects were met.
     met: u32,
     /// How many objects there are, once that was said.
@@ -87,6 +89,7 @@ fn before_line(text: &[u8], number: u32) -> Before {
     let mut before = Before {
         due: Due::Header,
         has_raw: is_text(part_at(first, 1), b"2"),
+        roots: 0,
         met: 0,
         count: 0,
         object: 0,
@@ -114,6 +117,7 @@ fn after_line(before: &Before, roots: u32, line: &[u8]) -> (Before, u32) {
         Due::Header => after.due = Due::Roots,
         Due::Roots => {
             left = number_at(line, 1);
+            after.roots = left;
             after.due = if left == 0 { Due::Objects } else { Due::Root };
         }
         Due::Root => {
@@ -146,10 +150,10 @@ fn after_line(before: &Before, roots: u32, line: &[u8]) -> (Before, u32) {
 fn end_spot<'a>(number: u32, line: &'a [u8], due: Due) -> Spot<'a>
     ensures { (result.begins ≤ result.ends) × (result.ends ≤ length result.line.now) }
 {
-    let told = if line.is_empty() {
-        Told::Missing(due)
-    } else {
-        Told::Line(Why::Unended)
+    let told = match due {
+        _ if !line.is_empty() => Told::Line(Why::Unended),
+        Due::End => Told::NoDumpEnd,
+        due => Told::Missing(due),
     };
     Spot {
         number,
@@ -187,8 +191,10 @@ fn form_spot<'a>(number: u32, line: &'a [u8], before: &Before) -> Spot<'a>
         return bytes_spot(number, line);
     }
     match before.due {
-        Due::Root => root_form_spot(number, line),
-        Due::Object => object_form_spot(number, line, before.has_raw),
+        Due::Root => root_form_spot(number, line, before.roots),
+        Due::Objects => at_line(number, line, Told::ObjectsDue(before.roots)),
+        Due::Object => object_form_spot(number, line, before),
+        Due::End => at_line(number, line, Told::EndDue(before.count)),
         due => at_line(number, line, Told::Form(due)),
     }
 }
@@ -218,6 +224,7 @@ fn why_ill(line: &[u8], index: usize, byte: u8) -> Why {
     match byte {
         b'\t' => Why::Tab,
         b'\r' if line.len() <= index.saturating_add(1) => Why::CarriageReturn,
+        _ if index == 0 && is_marked(line) => Why::ByteOrderMark,
         _ => Why::Byte(byte),
     }
 }
@@ -260,14 +267,14 @@ fn spaces_spot<'a>(number: u32, line: &'a [u8]) -> Spot<'a>
     }
 }
 
-/// The spot of a root's line whose form is wrong.
-fn root_form_spot<'a>(number: u32, line: &'a [u8]) -> Spot<'a>
+/// The spot of a line whose form is wrong where a root's is due, of which there are so many.
+fn root_form_spot<'a>(number: u32, line: &'a [u8], roots: u32) -> Spot<'a>
     ensures { (result.begins ≤ result.ends) × (result.ends ≤ length result.line.now) }
 {
     if count_parts(line, 3) == 2 && is_text(part_at(line, 1), b"nil") {
         return at_part(number, line, 1, Told::NilRoot);
     }
-    at_line(number, line, Told::Form(Due::Root))
+    at_line(number, line, Told::RootDue(roots))
 }
 
 /// Whether an object's line says that it is raw.
@@ -275,13 +282,16 @@ fn is_raw(line: &[u8], has_raw: bool) -> bool {
     has_raw && is_text(part_at(line, 1), b"raw")
 }
 
-/// The spot of an object's line whose form is wrong.
-fn object_form_spot<'a>(number: u32, line: &'a [u8], has_raw: bool) -> Spot<'a>
+/// The spot of a line whose form is wrong where an object's is due.
+fn object_form_spot<'a>(number: u32, line: &'a [u8], before: &Before) -> Spot<'a>
     ensures { (result.begins ≤ result.ends) × (result.ends ≤ length result.line.now) }
 {
-    let head = if is_raw(line, has_raw) { 3 } else { 2 };
+    let head = if is_raw(line, before.has_raw) { 3 } else { 2 };
     let has_at = matches!(part_at(line, 0), [b'@', ..]);
-    if !has_at || count_parts(line, head) < head {
+    if !has_at {
+        return at_line(number, line, Told::ObjectDue(before.object, before.count));
+    }
+    if count_parts(line, head) < head {
         return at_line(number, line, Told::Form(Due::Object));
     }
     let fields = number_at(line, head - 1);
@@ -362,7 +372,12 @@ fn object_spot<'a>(number: u32, line: &'a [u8], before: &Before) -> Spot<'a>
     let head = if raw { 3 } else { 2 };
     let fields = read_number(part_at(line, head - 1)).unwrap_or(u32::MAX);
     if fields > MAX_FIELDS {
-        return at_part(number, line, head - 1, Told::NumberUpTo(MAX_FIELDS));
+        let told = if !before.has_raw && is_raw(line, true) {
+            Told::RawInVersion1
+        } else {
+            Told::NumberUpTo(MAX_FIELDS)
+        };
+        return at_part(number, line, head - 1, told);
     }
     values_spot(number, line, before, raw)
 }

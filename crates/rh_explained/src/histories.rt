@@ -97,11 +97,13 @@ fn equals_index(line: &[u8]) -> usize
     line.len() + 1
 }
 
-/// What is wrong with a part of a command before `=`, as it is told of a history.
-fn told_of(why: Why) -> Told {
+/// What is wrong with a part of a command before `=`, as it is told of a history after so many calls.
+fn told_of(why: Why, calls: u32) -> Told {
     match why {
-        Why::Missing(expected) => Told::CommandShort(expected),
+        Why::Missing(expected, row) => Told::CommandShort(expected, row),
         Why::Surplus => Told::CommandLong,
+        Why::Unknown => Told::UnknownCall(calls),
+        Why::UnknownOwned => Told::NoCall,
         why => Told::Line(why),
     }
 }
@@ -139,7 +141,7 @@ fn command_spot<'a>(number: u32, line: &'a [u8]) -> Spot<'a>
     let command = if is_there { before(line, begins) } else { line };
     let (part, is_faulty) = command_part(command);
     let told = if is_faulty {
-        told_of(part.why)
+        told_of(part.why, number.saturating_sub(2))
     } else {
         Told::NoCall
     };

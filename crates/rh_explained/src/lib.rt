@@ -15,7 +15,7 @@ pub use due::Due;
 pub use dumps::dump_spot;
 pub use histories::history_spot;
 pub use lines::nth_line;
-pub use sizes::{config_spot, few_words_spot, limits_spot, low_ratio_spot};
+pub use sizes::{beyond_spot, config_spot, few_words_spot, limits_spot, low_ratio_spot};
 pub use spot::{Spot, write_spot};
 pub use told::Told;
 pub use traces::{Way, trace_spot};

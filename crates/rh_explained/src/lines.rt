@@ -27,6 +27,17 @@ pub fn nth_line(text: &[u8], number: u32) -> (&[u8], bool)
     (line, ended)
 }
 
+/// How many line ends a text has, up to 4,294,967,295.
+pub fn count_lines(text: &[u8]) -> u32 {
+    let mut lines = 0;
+    for byte in text {
+        if *byte == b'\n' {
+            lines = u32::saturating_add(lines, 1);
+        }
+    }
+    lines
+}
+
 /// The columns of the part of this number, from 0, and those of the line's end where there is none.
 pub fn columns(line: &[u8], index: usize) -> (usize, usize)
     ensures { (result.0 ≤ result.1) × (result.1 ≤ length line.now) }

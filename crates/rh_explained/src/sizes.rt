@@ -2,8 +2,8 @@
 
 ghost use Rattle.std.specs.Prelude.{◌≤◌, length};
 
-use crate::lines::{nth_line, number_at};
-use crate::spot::{Spot, at_part};
+use crate::lines::{count_lines, nth_line, number_at};
+use crate::spot::{Spot, at_line, at_part};
 use crate::told::Told;
 use rh_layout::MAX_OWNERS;
 use rh_mutator::ConfigFault;
@@ -42,6 +42,15 @@ pub fn few_words_spot<'a>(text: &'a [u8], need: u64) -> Spot<'a>
 {
     let (line, _) = nth_line(text, 1);
     at_part(1, line, 1, Told::FewWords(need))
+}
+
+/// The spot of the last line of a trace that hasn't so many lines.
+pub fn beyond_spot<'a>(text: &'a [u8], asked: u32) -> Spot<'a>
+    ensures { (result.begins ≤ result.ends) × (result.ends ≤ length result.line.now) }
+{
+    let lines = count_lines(text);
+    let (line, _) = nth_line(text, lines);
+    at_line(lines, line, Told::BeyondLines(asked, lines))
 }
 
 /// The spot of the words with which a heap can't begin that grows to at most so many.

@@ -1,7 +1,7 @@
 //! What is wrong at a place of a text.
 
 use crate::due::Due;
-use rh_explain::{Expected, Why};
+use rh_explain::{Expected, Row, Why};
 use thiserror::Error;
 
 /// What is wrong at a place of a text, and what may stand there. Each text is one sentence.
@@ -20,7 +20,7 @@ pub enum Told {
     #[error("line {0} is no command: only commands run in threads; rheap run takes this line")]
     NotThreaded(u32),
     /// An owner that the heap hasn't.
-    #[error("the first line has {0} owners, from 0 on: an owner below that stands here")]
+    #[error("OWNERS is {0} in the first line, and they count from 0: a lower owner is due here")]
     NoOwner(u32),
     /// The words of a space are out of range.
     #[error("WORDS is out of its range: 8 to 16777216")]
@@ -40,6 +40,9 @@ pub enum Told {
     /// The greatest number or epoch of a heap is out of range, which no trace asks for.
     #[error("the numbers of this heap are out of their range")]
     Numbers,
+    /// A picture is asked for after a line that isn't there: its number, and how many there are.
+    #[error("--line {0} is too great: the trace has {1} lines")]
+    BeyondLines(u32, u32),
     /// The ratio is too low for a pace.
     #[error("RATIO is too low for a pace that keeps up: at least 4 is needed")]
     LowRatio,
@@ -59,7 +62,7 @@ pub enum Told {
     #[error("the first line is history OWNERS SLOTS")]
     HistoryHeader,
     /// A line after the last one.
-    #[error("a line after the line end: the text ends with that line")]
+    #[error("a line after the last one, end")]
     AfterEnd,
     /// A line of a history that is no call.
     #[error("only commands have answers: alloc, raw, load, store, copy, same and drop")]
@@ -67,9 +70,12 @@ pub enum Told {
     /// Nothing stands before `=`.
     #[error("a command is missing before =, as in 1 drop 1.0 = done")]
     NoCommand,
+    /// No keyword is this word or near it, at the beginning of a call, after so many calls.
+    #[error("no such command: a call has an owner first, and the last line is end {0}")]
+    UnknownCall(u32),
     /// A part of a command is missing before `=`.
-    #[error("{0} is missing: the command ends too early")]
-    CommandShort(Expected),
+    #[error("{0} is missing: {1} = ANSWER")]
+    CommandShort(Expected, Row),
     /// A part stands after a command where `=` is due.
     #[error("a part too many: = and the answer follow the command")]
     CommandLong,
@@ -77,7 +83,8 @@ pub enum Told {
     #[error("an answer is missing: = and the answer follow the command, as in 1 drop 1.0 = done")]
     NoAnswer,
     /// What stands after `=` is no answer of a history.
-    #[error("an answer stands here: done, nil, int N, object K, raw K, same yes, refused NAME ..")]
+    #[error("an answer is due here: done, nil, int N, object K, raw K, same yes, same no or refused NAME, \
+         NAME one of NoRoot, NotYours, NotObject, NoField, RawField, IntRange, FieldsRange")]
     NotAnswer,
     /// What stands after `=` is an answer that is left out of histories.
     #[error("a call that a limit refused stands in no history: leave this line out")]
@@ -100,9 +107,28 @@ pub enum Told {
     /// A line of a dump is missing.
     #[error("the text ends too early: the line {0} is missing")]
     Missing(Due),
+    /// The last line of a dump is missing.
+    #[error("the text ends too early: its last line is missing, which is just end")]
+    NoDumpEnd,
     /// A line of a dump of another form.
     #[error("another line is due here: {0}")]
     Form(Due),
+    /// Another line where a root's is due, of which there are so many.
+    #[error("a root is due here, OWNER.SLOT VALUE: the line roots says {0}")]
+    RootDue(u32),
+    /// Another line after the last root, where there are so many.
+    #[error("objects N is due here: the line roots says {0}")]
+    ObjectsDue(u32),
+    /// Another line where that of the object of the first number is due, where there are so many as
+    /// the second.
+    #[error("an object is due here, @{0}: the line objects says {1}")]
+    ObjectDue(u32, u32),
+    /// Another line after the last object, where there are so many.
+    #[error("end is due here: the line objects says {0}")]
+    EndDue(u32),
+    /// A raw object in a dump of version 1.
+    #[error("no object is raw in version 1: the first line is rheap 2 then")]
+    RawInVersion1,
     /// A dump's root that is nil.
     #[error("a root that is nil has no line in a dump")]
     NilRoot,
@@ -110,19 +136,19 @@ pub enum Told {
     #[error("the object has {0} fields: as many values follow")]
     Values(u32),
     /// A number of a dump that is none, or is above so many.
-    #[error("a number stands here: 0 to {0}, without a leading zero")]
+    #[error("a number is due here: 0 to {0}, without a leading zero")]
     NumberUpTo(u32),
     /// A dump's root that is none.
-    #[error("a root stands here: OWNER.SLOT, owners 0 to 15 and slots 0 to 255")]
+    #[error("a root is due here: OWNER.SLOT, owners 0 to 15 and slots 0 to 255")]
     Root,
     /// The number of an object that is none.
-    #[error("the object's number stands here: @K, K is 0 to 16777215")]
+    #[error("the object's number is due here: @K, K is 0 to 16777215")]
     ObjectNumber,
     /// A value that is none.
-    #[error("a value stands here: nil, -2^61 to 2^61 - 1, or @K with K from 0 to 16777215")]
+    #[error("a value is due here: nil, -2^61 to 2^61 - 1, or @K with K from 0 to 16777215")]
     Value,
     /// The value of a root that is none.
-    #[error("a root's value stands here: -2^61 to 2^61 - 1, or @K with K from 0 to 16777215")]
+    #[error("a root's value is due here: -2^61 to 2^61 - 1, or @K with K from 0 to 16777215")]
     RootValue,
     /// A raw object's value that is none.
     #[error("a raw object holds nil and whole numbers alone, from -2^61 to 2^61 - 1")]
