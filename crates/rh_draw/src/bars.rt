@@ -5,7 +5,7 @@ ghost use Rattle.std.specs.String.{string_bytes};
 ghost use Rattle.rh_draw.specs.Picture.{IsWhole};
 
 use crate::head::{put_head, put_stat};
-use crate::limits::{MOST_ENTRIES, MOST_OBJECTS, MOST_ROOTS, MOST_WORDS};
+use crate::sketch::Excess;
 use rh_core::Heap;
 use rh_layout::OutOfMemory;
 use std::alloc::Allocator;
@@ -37,11 +37,12 @@ fn put_bar<B: Allocator>(
     Ok(())
 }
 
-/// Puts the whole picture, up to the end of its one element.
+/// Puts the whole picture of a heap that has too much of something, up to the end of its one element.
 pub fn put_bars<A: Allocator + Copy, B: Allocator>(
     svg: &mut String<B>,
     heap: &Heap<A>,
     title: &str,
+    excess: Excess,
 ) -> Result<(), OutOfMemory>
     ensures { OnOk result (IsWhole (string_bytes svg.new)) }
 {
@@ -54,8 +55,8 @@ pub fn put_bars<A: Allocator + Copy, B: Allocator>(
     put_bar(svg, "placed-words", 148, "words placed", placed, words)?;
     write!(
         svg,
-        "<text x='16' y='198'>Only bars: more than {MOST_OBJECTS} objects, {MOST_WORDS} words, \
-         {MOST_ROOTS} roots that aren't nil, or {MOST_ENTRIES} entries.</text>\n"
+        "<text x='16' y='198'>Only bars: {} {}, and at most {} are drawn.</text>\n",
+        excess.count, excess.name, excess.most
     )?;
     svg.push_str("</svg>\n")?;
     Ok(())

@@ -5,13 +5,28 @@ use crate::sketch::Object;
 use rh_layout::{OutOfMemory, Value};
 use std::alloc::Allocator;
 
+/// Of a number that is too long for a cell the first digits, which stand before two dots.
+fn head_of(number: i64) -> Option<i64> {
+    if -999_999_999 <= number && number <= 9_999_999_999 {
+        return None;
+    }
+    let mut head = number;
+    for _ in 0..20 {
+        if -9_999 <= head && head <= 99_999 {
+            break;
+        }
+        head /= 10;
+    }
+    Some(head)
+}
+
 /// The class of a value's text: a longer one is smaller.
 pub fn class_of(value: Value) -> &'static str {
     let Value::Int(n) = value else {
         return "value";
     };
-    if n < -999_999_999 || n > 9_999_999_999 {
-        return "longest";
+    if head_of(n).is_some() {
+        return "cut";
     }
     if n < -99_999 || n > 999_999 {
         return "long";
@@ -30,11 +45,20 @@ fn class_of_number(number: u64) -> &'static str {
     "number"
 }
 
+/// Puts a whole number at the end. One that is too long is cut, and its title has it whole.
+fn put_number<B: Allocator>(svg: &mut String<B>, number: i64) -> Result<(), OutOfMemory> {
+    match head_of(number) {
+        Some(head) => write!(svg, "<title>{number}</title>{head}..")?,
+        None => write!(svg, "{number}")?,
+    }
+    Ok(())
+}
+
 /// Puts `nil`, a whole number, or `@` and an address at the end.
 pub fn put_value<B: Allocator>(svg: &mut String<B>, value: Value) -> Result<(), OutOfMemory> {
     match value {
         Value::Nil => svg.push_str("nil")?,
-        Value::Int(n) => write!(svg, "{n}")?,
+        Value::Int(n) => put_number(svg, n)?,
         Value::Ref(a) => write!(svg, "@{a}")?,
     }
     Ok(())

@@ -101,8 +101,8 @@ fn picture<A: Allocator + Copy, B: Allocator + Copy>(
 {
     let mut svg = String::new(alloc);
     match Sketch::of(alloc, heap)? {
-        Some(sketch) => put_all(&mut svg, heap, title, &sketch)?,
-        None => put_bars(&mut svg, heap, title)?,
+        Ok(sketch) => put_all(&mut svg, heap, title, &sketch)?,
+        Err(excess) => put_bars(&mut svg, heap, title, excess)?,
     }
     Ok(svg)
 }

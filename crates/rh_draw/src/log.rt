@@ -1,19 +1,10 @@
 //! The entries of the log, below the spaces.
 
-use crate::cells::{class_of, put_value};
+use crate::cells::put_value;
 use crate::entries::Entry;
 use crate::page::Page;
-use rh_layout::{OutOfMemory, Value};
+use rh_layout::OutOfMemory;
 use std::alloc::Allocator;
-
-/// Puts what the field of an entry holds, where that is short. The field's cell has it anyway.
-fn put_short_value<B: Allocator>(svg: &mut String<B>, value: Value) -> Result<(), OutOfMemory> {
-    if class_of(value) == "value" {
-        svg.push_str(" = ")?;
-        put_value(svg, value)?;
-    }
-    Ok(())
-}
 
 /// Puts an entry: its number, and its field with what that holds.
 fn put_entry<B: Allocator>(
@@ -31,8 +22,8 @@ fn put_entry<B: Allocator>(
     )?;
     match entry.current {
         Some(filled) => {
-            write!(svg, "@{} field {}", filled.object, filled.field)?;
-            put_short_value(svg, filled.value)?;
+            write!(svg, "@{} field {} = ", filled.object, filled.field)?;
+            put_value(svg, filled.value)?;
         }
         None => svg.push_str("stored to since")?,
     }

@@ -27,6 +27,17 @@ impl Object {
     }
 }
 
+/// What a heap has more of than is drawn one by one.
+#[derive(Clone, Copy)]
+pub struct Excess {
+    /// How many it has.
+    pub count: u64,
+    /// How many are drawn at most.
+    pub most: u64,
+    /// What they are.
+    pub name: &'static str,
+}
+
 /// What of a heap is drawn.
 #[derive(Drop)]
 pub struct Sketch<B: Allocator> {
@@ -41,20 +52,28 @@ pub struct Sketch<B: Allocator> {
 }
 
 impl<B: Allocator + Copy> Sketch<B> {
-    /// What is drawn of the heap; `None` where it has more than is drawn one by one.
+    /// What is drawn of the heap; or what it has more of than is drawn one by one: the first of words,
+    /// entries, objects and roots.
     pub fn of<A: Allocator + Copy>(
         alloc: B,
         heap: &Heap<A>,
-    ) -> Result<Option<Sketch<B>>, OutOfMemory> {
-        if heap.used() > MOST_WORDS || heap.stat().log > MOST_ENTRIES {
-            return Ok(None);
+    ) -> Result<Result<Sketch<B>, Excess>, OutOfMemory> {
+        if let Some(excess) = excess_of(heap) {
+            return Ok(Err(excess));
         }
         let objects = objects_of(alloc, heap)?;
         let roots = roots_of(alloc, heap)?;
-        if objects.len() > MOST_OBJECTS || roots.len() > MOST_ROOTS {
-            return Ok(None);
+        if let Some(excess) = over(objects.len() as u64, MOST_OBJECTS as u64, "objects") {
+            return Ok(Err(excess));
         }
-        Ok(Some(Sketch {
+        if let Some(excess) = over(
+            roots.len() as u64,
+            MOST_ROOTS as u64,
+            "roots that aren't nil",
+        ) {
+            return Ok(Err(excess));
+        }
+        Ok(Ok(Sketch {
             replicas: replicas_of(alloc, heap.replica())?,
             entries: entries_of(alloc, heap, &objects)?,
             objects,
@@ -63,14 +82,30 @@ impl<B: Allocator + Copy> Sketch<B> {
     }
 }
 
-/// The first objects of from-space, as many as are drawn and one more.
+/// What there is more of than is drawn, if there is.
+fn over(count: u64, most: u64, name: &'static str) -> Option<Excess> {
+    if count <= most {
+        return None;
+    }
+    Some(Excess { count, most, name })
+}
+
+/// What a heap has more of than is drawn, of its words and the entries of its log.
+fn excess_of<A: Allocator + Copy>(heap: &Heap<A>) -> Option<Excess> {
+    if let Some(excess) = over(heap.used().into(), MOST_WORDS.into(), "words in use") {
+        return Some(excess);
+    }
+    over(heap.stat().log, MOST_ENTRIES, "entries of the log")
+}
+
+/// The objects of from-space, of at most as many words as are drawn.
 fn objects_of<A: Allocator + Copy, B: Allocator + Copy>(
     alloc: B,
     heap: &Heap<A>,
 ) -> Result<Vec<Object, B>, OutOfMemory> {
     let mut objects = Vec::new(alloc);
     let mut address = 0;
-    for _ in 0..=MOST_OBJECTS {
+    for _ in 0..MOST_WORDS {
         let Some(fields) = heap.fields(address) else {
             break;
         };

@@ -10,7 +10,7 @@ text{font-family:sans-serif;font-size:13px;fill:#1f2328}
 .word{text-anchor:middle}
 .value{text-anchor:middle;font-size:13px}
 .long{text-anchor:middle;font-size:8px}
-.longest{text-anchor:middle;font-size:4.2px}
+.cut{text-anchor:middle;font-size:11px}
 .small,.number{text-anchor:middle;font-size:10px;fill:#59636e}
 .number.long{font-size:6.5px}
 .number.longest{font-size:3.6px}
