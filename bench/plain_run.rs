@@ -1,6 +1,6 @@
-// What `bench/run_trace` times beside `rheap run`: a trace of commands, but `raw`, read and played in
-// plain Rust, on a heap that never moves and never frees. It prints the same answers, byte for byte,
-// or the first line that isn't such a command. It counts words, to refuse what has no room.
+// What `bench/run_trace` times beside `rheap run`: a trace of commands, but `raw`, read and played
+// in plain Rust, on a heap that never moves and never frees. It prints the same answers, byte for
+// byte, or the first line that isn't such a command. It counts words, to refuse what has no room.
 
 use std::io::Write;
 use std::process::ExitCode;
@@ -51,53 +51,97 @@ enum Reply {
     Same(bool),
 }
 
-// A number without leading zeros.
-fn number(part: &str) -> Option<u32> {
-    let is_spelled_so =
-        part.bytes().all(|byte| byte.is_ascii_digit()) && (part == "0" || !part.starts_with('0'));
-    part.parse().ok().filter(|_| is_spelled_so)
+// What is left of a trace. Each part is read up to the byte that must end it.
+struct Text<'a> {
+    rest: &'a [u8],
 }
 
-fn whole_number(part: &str) -> Option<i64> {
-    let digits = part.strip_prefix('-').unwrap_or(part);
-    let is_digits = digits.bytes().all(|byte| byte.is_ascii_digit());
-    let is_spelled_so = is_digits && (part == "0" || !digits.starts_with('0'));
-    part.parse().ok().filter(|_| is_spelled_so)
-}
-
-fn root(part: &str) -> Option<Root> {
-    let (owner, slot) = part.split_once('.')?;
-    Some(Root { owner: number(owner)?, slot: number(slot)? })
-}
-
-fn operand(part: &str) -> Option<Operand> {
-    match part {
-        "nil" => Some(Operand::Nil),
-        _ if part.contains('.') => root(part).map(Operand::Root),
-        _ => whole_number(part).map(Operand::Int),
+impl<'a> Text<'a> {
+    fn part(&mut self, end: u8) -> Option<&'a [u8]> {
+        let at = self.rest.iter().position(|byte| *byte == end)?;
+        let part = &self.rest[..at];
+        self.rest = &self.rest[at + 1..];
+        Some(part)
     }
-}
 
-// The owner and the command of a line.
-fn command(line: &str) -> Option<(u32, Command)> {
-    let mut parts = line.split(' ');
-    let owner = number(parts.next()?)?;
-    let mut part = || parts.next();
-    let command = match part()? {
-        "alloc" => Command::Alloc { to: root(part()?)?, fields: number(part()?)? },
-        "load" => {
-            Command::Load { to: root(part()?)?, object: root(part()?)?, field: number(part()?)? }
+    // At most 19 digits, of which the first isn't 0 if there are more.
+    fn digits(&mut self, end: u8) -> Option<u64> {
+        let mut number = 0u64;
+        for (at, byte) in self.rest.iter().enumerate().take(20) {
+            let digit = byte.wrapping_sub(b'0');
+            if *byte == end && at > 0 && (at == 1 || self.rest[0] != b'0') {
+                self.rest = &self.rest[at + 1..];
+                return Some(number);
+            }
+            if digit > 9 || at == 19 {
+                return None;
+            }
+            number = number * 10 + u64::from(digit);
         }
-        "store" => {
-            let (object, field) = (root(part()?)?, number(part()?)?);
-            Command::Store { object, field, operand: operand(part()?)? }
+        None
+    }
+
+    fn number(&mut self, end: u8) -> Option<u32> {
+        self.digits(end).and_then(|number| u32::try_from(number).ok())
+    }
+
+    fn root(&mut self, end: u8) -> Option<Root> {
+        Some(Root { owner: self.number(b'.')?, slot: self.number(end)? })
+    }
+
+    fn whole_number(&mut self, end: u8) -> Option<i64> {
+        match self.rest {
+            [b'-', b'0', ..] => None,
+            [b'-', rest @ ..] => {
+                self.rest = rest;
+                0i64.checked_sub_unsigned(self.digits(end)?)
+            }
+            _ => self.digits(end).and_then(|number| i64::try_from(number).ok()),
         }
-        "copy" => Command::Copy { to: root(part()?)?, from: root(part()?)? },
-        "same" => Command::Same { left: root(part()?)?, right: root(part()?)? },
-        "drop" => Command::Drop { root: root(part()?)? },
-        _ => return None,
-    };
-    part().is_none().then_some((owner, command))
+    }
+
+    fn operand(&mut self, end: u8) -> Option<Operand> {
+        if self.rest.starts_with(b"nil") {
+            return self.part(end).filter(|part| part.len() == 3).map(|_| Operand::Nil);
+        }
+        let whole = self.rest;
+        if let Some(root) = self.root(end) {
+            return Some(Operand::Root(root));
+        }
+        self.rest = whole;
+        self.whole_number(end).map(Operand::Int)
+    }
+
+    // The owner and the command of the next line.
+    fn command(&mut self) -> Option<(u32, Command)> {
+        let owner = self.number(b' ')?;
+        let command = match self.part(b' ')? {
+            b"alloc" => Command::Alloc { to: self.root(b' ')?, fields: self.number(b'\n')? },
+            b"load" => {
+                let (to, object) = (self.root(b' ')?, self.root(b' ')?);
+                Command::Load { to, object, field: self.number(b'\n')? }
+            }
+            b"store" => {
+                let (object, field) = (self.root(b' ')?, self.number(b' ')?);
+                Command::Store { object, field, operand: self.operand(b'\n')? }
+            }
+            b"copy" => Command::Copy { to: self.root(b' ')?, from: self.root(b'\n')? },
+            b"same" => Command::Same { left: self.root(b' ')?, right: self.root(b'\n')? },
+            b"drop" => Command::Drop { root: self.root(b'\n')? },
+            _ => return None,
+        };
+        Some((owner, command))
+    }
+
+    // The heap of the first line.
+    fn heap(&mut self) -> Option<Heap> {
+        self.part(b' ').filter(|part| *part == b"heap")?;
+        let (words, _ratio, _log) = (self.number(b' ')?, self.number(b' ')?, self.number(b' ')?);
+        let (owners, slots) = (self.number(b' ')?, self.number(b'\n')?);
+        let roots = vec![Value::Nil; owners as usize * slots as usize];
+        let (objects, fields) = (Vec::new(), Vec::new());
+        Some(Heap { words: words.into(), used: 0, owners, slots, roots, objects, fields })
+    }
 }
 
 struct Object {
@@ -116,17 +160,6 @@ struct Heap {
 }
 
 impl Heap {
-    fn of(header: &str) -> Option<Heap> {
-        let sizes =
-            header.strip_prefix("heap ")?.split(' ').map(number).collect::<Option<Vec<u32>>>()?;
-        let &[words, _, _, owners, slots] = &sizes[..] else {
-            return None;
-        };
-        let roots = vec![Value::Nil; owners as usize * slots as usize];
-        let (objects, fields) = (Vec::new(), Vec::new());
-        Some(Heap { words: words.into(), used: 0, owners, slots, roots, objects, fields })
-    }
-
     // The places of roots that a command of the owner names.
     fn places<const N: usize>(&self, owner: u32, roots: [Root; N]) -> Result<[usize; N], Refusal> {
         let is_there = |root: &Root| root.owner < self.owners && root.slot < self.slots;
@@ -226,9 +259,9 @@ impl Heap {
             Ok(Reply::Same(true)) => out.write_all(b"same yes\n"),
             Ok(Reply::Same(false)) => out.write_all(b"same no\n"),
             Ok(Reply::Value(Value::Nil)) => out.write_all(b"nil\n"),
-            Ok(Reply::Value(Value::Int(number))) => writeln!(out, "int {number}"),
+            Ok(Reply::Value(Value::Int(number))) => put(out, b"int ", number),
             Ok(Reply::Value(Value::Object(at))) => {
-                writeln!(out, "object {}", self.objects[at].fields)
+                put(out, b"object ", self.objects[at].fields.into())
             }
             Err(Refusal::SpaceFull { need, free }) => {
                 writeln!(out, "refused SpaceFull need {need} free {free}")
@@ -238,12 +271,34 @@ impl Heap {
     }
 }
 
+// Writes a line of these words and a number.
+fn put(out: &mut impl Write, words: &[u8], number: i64) -> std::io::Result<()> {
+    let (mut text, mut at, mut rest) = ([0; 20], 20, number.unsigned_abs());
+    loop {
+        at -= 1;
+        text[at] = b'0' + (rest % 10) as u8;
+        rest /= 10;
+        if rest == 0 {
+            break;
+        }
+    }
+    out.write_all(words)?;
+    if number < 0 {
+        out.write_all(b"-")?;
+    }
+    out.write_all(&text[at..])?;
+    out.write_all(b"\n")
+}
+
 // The heap and the commands of a trace, or the number of the first line that is neither.
-fn read(text: &str) -> Result<(Heap, Vec<(u32, Command)>), usize> {
-    let mut lines = text.split_terminator('\n');
-    let heap = lines.next().and_then(Heap::of).ok_or(1usize)?;
-    let read = lines.enumerate().map(|(at, line)| command(line).ok_or(at + 2));
-    Ok((heap, read.collect::<Result<_, _>>()?))
+fn read(text: &[u8]) -> Result<(Heap, Vec<(u32, Command)>), usize> {
+    let mut text = Text { rest: text };
+    let heap = text.heap().ok_or(1usize)?;
+    let mut commands = Vec::new();
+    while !text.rest.is_empty() {
+        commands.push(text.command().ok_or(commands.len() + 2)?);
+    }
+    Ok((heap, commands))
 }
 
 fn play(mut heap: Heap, commands: &[(u32, Command)]) -> std::io::Result<()> {
@@ -260,8 +315,8 @@ fn play(mut heap: Heap, commands: &[(u32, Command)]) -> std::io::Result<()> {
 
 fn main() -> ExitCode {
     let path = std::env::args().nth(1).unwrap_or_default();
-    let Ok(text) = std::fs::read_to_string(&path) else {
-        eprintln!("plain_run: not a text that can be read: {path}");
+    let Ok(text) = std::fs::read(&path) else {
+        eprintln!("plain_run: not a file that can be read: {path}");
         return ExitCode::FAILURE;
     };
     let played = match read(&text) {
