@@ -105,6 +105,7 @@ fn write_gone<A: Allocator + Copy, W: io::Write>(
 ) -> Result<(), Stop>
     requires { writes.old.failed ≡ false }
     ensures state { OnOk result (engine.new ≡ (gone_line_step engine.old).0) }
+    ensures stopped { IsErrOf result Stop.Write → engine.new ≡ (gone_line_step engine.old).0 }
     ensures written { Writes (with_line_end (gone_text (gone_line_step engine.old).1)) result
         (W.contents writer.old) (W.contents writer.new) }
     ensures failed { IsErrOf result Stop.Write → AreSpent writes.new }
@@ -206,6 +207,8 @@ fn play_any<A: Allocator + Copy, W: io::Write>(
     requires few_flips { summary.old.flips < 2 ^ 63 }
     requires few_root_words { summary.old.root_words < 2 ^ 127 }
     ensures state { OnOk result (engine.new ≡ (request_step engine.old request.now).0) }
+    ensures stopped { IsErrOf result Stop.Write
+        → engine.new ≡ (request_step engine.old request.now).0 }
     ensures summary { OnOk result (summary.new
         ≡ summary_with summary.old (request_step engine.old request.now).1) }
     ensures few_roots { summary.new.root_words ≤ summary.old.root_words + 2 ^ 32 }
@@ -248,8 +251,9 @@ fn play_any<A: Allocator + Copy, W: io::Write>(
 /// # Errors
 ///
 /// `Write` where a write failed, or 33,554,432 writes of one line, or of a part of a dump's, didn't
-/// come to its end. `OutOfMemory` where the allocator refused memory, at a deal, a join, a resize,
-/// room for tickets, a `gone` or a dump. A prefix of the answer may be written then, and not all.
+/// come to its end: the request was done then. `OutOfMemory` where the allocator refused memory, at
+/// a deal, a join, a resize, room for tickets, a `gone` or a dump. A prefix of the answer may be
+/// written then, and not all.
 #[inline(always)]
 pub fn play_request<A: Allocator + Copy, W: io::Write>(
     alloc: A,
@@ -266,6 +270,9 @@ pub fn play_request<A: Allocator + Copy, W: io::Write>(
     requires few_flips { summary.old.flips < 2 ^ 63 }
     requires few_root_words { summary.old.root_words < 2 ^ 127 }
     ensures state { OnOk result (engine.new ≡ (request_step engine.old request.now).0) }
+    // Where a write failed the request was done.
+    ensures stopped { IsErrOf result Stop.Write
+        → engine.new ≡ (request_step engine.old request.now).0 }
     ensures summary { OnOk result (summary.new
         ≡ summary_with summary.old (request_step engine.old request.now).1) }
     ensures few_roots { summary.new.root_words ≤ summary.old.root_words + 2 ^ 32 }
