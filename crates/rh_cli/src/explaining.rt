@@ -11,8 +11,8 @@ use crate::driving::{act, tell};
 use crate::fault::LineFault;
 use crate::keeping::KeptReader;
 use rh_explained::{
-    Spot, Way, config_spot, dump_spot, few_words_spot, history_spot, limits_spot, low_ratio_spot,
-    trace_spot, write_spot,
+    Spot, Way, beyond_spot, config_spot, dump_spot, few_words_spot, history_spot, limits_spot,
+    low_ratio_spot, trace_spot, write_spot,
 };
 use rh_pace::PaceError;
 use std::alloc::Allocator;
@@ -90,6 +90,18 @@ fn spot_of<'a>(subcommand: Subcommand, fault: &LineFault, text: &'a [u8]) -> Opt
         LineFault::Pace(PaceError::RatioTooLow) => Some(low_ratio_spot(text)),
         LineFault::Pace(PaceError::TooSmall { need }) => Some(few_words_spot(text, *need)),
         LineFault::Limits => limits_of(subcommand, text),
+        LineFault::NoLine => beyond_of(subcommand, text),
+        _ => None,
+    }
+}
+
+/// Where a text ends that hasn't the line after which a picture is asked for.
+fn beyond_of<'a>(subcommand: Subcommand, text: &'a [u8]) -> Option<Spot<'a>>
+    ensures { IfSome result (λ spot. (spot.begins ≤ spot.ends)
+        × (spot.ends ≤ length spot.line.now)) }
+{
+    match subcommand {
+        Subcommand::Draw { line: Some(asked) } => Some(beyond_spot(text, asked)),
         _ => None,
     }
 }

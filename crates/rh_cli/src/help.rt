@@ -248,7 +248,9 @@ Dumps and faults are described in docs/formats.md.";
 pub const DRAW: &str = "\
 The trace is one that `rheap run` runs. It is played up to line N, of which the first is the heap's,
 and the heap is drawn as it stands then: roots at the left, objects as rows of their fields, what a
-cycle has placed and held, and the log; a large heap as bars of its words. Answers aren't printed.
+cycle has placed and held, and the log. Of more than 4096 words in use, 300 entries of the log, 300
+objects, or 300 roots that aren't nil it has bars of its words alone, and says of what there is too
+much. A number that is too long for its cell is cut; a browser shows it whole. Answers aren't printed.
 `rheap draw FILE --line 7 >FILE.svg` makes a picture that any browser shows.
 
 On failure standard error has one line, as `run` has it, and also
@@ -268,7 +270,8 @@ Traces and faults are described in docs/formats.md.";
 pub const COMPLETIONS: &str = "\
 The text is a script of that shell. It completes the commands, their options and names of files:
 
-  bash  rheap completions bash >~/.local/share/bash-completion/completions/rheap
+  bash  source <(rheap completions bash), in this shell or in ~/.bashrc; or for each shell
+        rheap completions bash >~/.local/share/bash-completion/completions/rheap
   zsh   rheap completions zsh >_rheap, in a folder that $fpath has
   fish  rheap completions fish >~/.config/fish/completions/rheap.fish
 
