@@ -18,6 +18,13 @@ const GROWING: Ask<'static> = Ask {
     explain: true,
 };
 
+/// A picture of a line that isn't there.
+const BEYOND: Ask<'static> = Ask {
+    subcommand: Subcommand::Draw { line: Some(40) },
+    file: "-",
+    explain: true,
+};
+
 /// Traces that fail, or whose sizes make no heap, and what is told of them.
 const TRACES: &[(Ask<'static>, &[u8], &[u8])] = &[
     (
@@ -38,7 +45,7 @@ const TRACES: &[(Ask<'static>, &[u8], &[u8])] = &[
     (
         RUN,
         b"heap 64 8 16 2 2\n1\talloc 1.0 2\n",
-        b"rheap: line 2: Form\n2 | 1\\x09alloc 1.0 2\n     ^^^^\na tab stands between parts: one space does\n",
+        b"rheap: line 2: Form\n2 | 1\\x09alloc 1.0 2\n     ^^^^\na tab: parts are set apart by one space\n",
     ),
     (
         RUN,
@@ -88,7 +95,7 @@ const TRACES: &[(Ask<'static>, &[u8], &[u8])] = &[
     (
         RUN,
         b"heap 64 8 16 2 2\ndrop 1.0\n",
-        b"rheap: line 2: Word\n2 | drop 1.0\n    ^^^^\nan owner is missing before drop, as 1 in 1 drop 1.0\n",
+        b"rheap: line 2: Word\n2 | drop 1.0\n    ^^^^\nan owner is missing before drop, as in 1 drop ..\n",
     ),
     (
         RUN,
@@ -98,7 +105,7 @@ const TRACES: &[(Ask<'static>, &[u8], &[u8])] = &[
     (
         RUN,
         b"heap 64 8 16 2 2\nfrobnicate\n",
-        b"rheap: line 2: Word\n2 | frobnicate\n    ^^^^^^^^^^\nno such command\n",
+        b"rheap: line 2: Word\n2 | frobnicate\n    ^^^^^^^^^^\nno such command: an owner and a command, or a line of a cycle; see rheap run --help\n",
     ),
     (
         RUN,
@@ -108,7 +115,7 @@ const TRACES: &[(Ask<'static>, &[u8], &[u8])] = &[
     (
         RUN,
         b"heap 64 8 16 2 2\n1 load 1.0 1.1\n",
-        b"rheap: line 2: Form\n2 | 1 load 1.0 1.1\n                  ^\na number is missing: the line ends too early\n",
+        b"rheap: line 2: Form\n2 | 1 load 1.0 1.1\n                  ^\nFIELD is missing: OWNER load DST SRC FIELD\n",
     ),
     (
         RUN,
@@ -118,7 +125,7 @@ const TRACES: &[(Ask<'static>, &[u8], &[u8])] = &[
     (
         RUN,
         b"heap 64 8 16 2 2\ndeal x 1 t\n",
-        b"rheap: line 2: Word\n2 | deal x 1 t\n         ^\nwhat is dealt is missing: copies or entries stands here\n",
+        b"rheap: line 2: Word\n2 | deal x 1 t\n         ^\ncopies or entries is due here\n",
     ),
     (
         RUN,
@@ -128,27 +135,27 @@ const TRACES: &[(Ask<'static>, &[u8], &[u8])] = &[
     (
         RUN,
         b"heap 64 8 16 2 2\n1 alloc 1.0 x\n",
-        b"rheap: line 2: Number\n2 | 1 alloc 1.0 x\n                ^\na number stands here: digits without a leading zero, 0 to 4294967295\n",
+        b"rheap: line 2: Number\n2 | 1 alloc 1.0 x\n                ^\na number is due here: digits without a leading zero, 0 to 4294967295\n",
     ),
     (
         RUN,
         b"heap 64 8 16 2 2\n1 drop 10\n",
-        b"rheap: line 2: Root\n2 | 1 drop 10\n           ^^\na root stands here: OWNER.SLOT as 1.0, two numbers from 0 to 4294967295\n",
+        b"rheap: line 2: Root\n2 | 1 drop 10\n           ^^\na root is due here: OWNER.SLOT as 1.0, two numbers from 0 to 4294967295\n",
     ),
     (
         RUN,
         b"heap 64 8 16 2 2\n1 store 1.0 0 x\n",
-        b"rheap: line 2: Number\n2 | 1 store 1.0 0 x\n                  ^\nnil, a root as 1.0, or a whole number of 64 bits stands here\n",
+        b"rheap: line 2: Number\n2 | 1 store 1.0 0 x\n                  ^\nnil, a root as 1.0, or -2^63 to 2^63 - 1 is due here; no + and no leading zero\n",
     ),
     (
         RUN,
         b"heap 64 8 16 2 2\ngive T\n",
-        b"rheap: line 2: Tray\n2 | give T\n         ^\na tray stands here: a letter a to z, then at most 15 of a to z, 0 to 9 and _\n",
+        b"rheap: line 2: Tray\n2 | give T\n         ^\na tray is due here: a letter a to z, then at most 15 of a to z, 0 to 9 and _\n",
     ),
     (
         RUN,
         b"heap 64 x 16 2 2\n",
-        b"rheap: line 1: Number\n1 | heap 64 x 16 2 2\n            ^\na number stands here: digits without a leading zero, 0 to 4294967295\n",
+        b"rheap: line 1: Number\n1 | heap 64 x 16 2 2\n            ^\na number is due here: digits without a leading zero, 0 to 4294967295\n",
     ),
     (
         RUN,
@@ -208,7 +215,72 @@ const TRACES: &[(Ask<'static>, &[u8], &[u8])] = &[
     (
         THREADS,
         b"heap 64 8 16 2 2\n1 alloc 1.0 2\n2 drop 1.0\n",
-        b"rheap: line 3: Root\n3 | 2 drop 1.0\n    ^\nthe first line has 2 owners, from 0 on: an owner below that stands here\n",
+        b"rheap: line 3: Root\n3 | 2 drop 1.0\n    ^\nOWNERS is 2 in the first line, and they count from 0: a lower owner is due here\n",
+    ),
+    (
+        RUN,
+        b"heap 64 8 16 2 2\n1 ALLOC 1.0 2\n",
+        b"rheap: line 2: Word\n2 | 1 ALLOC 1.0 2\n      ^^^^^\nno such command; did you mean alloc?\n",
+    ),
+    (
+        RUN,
+        b"heap 64 8 16 2 2\nFLIP\n",
+        b"rheap: line 2: Word\n2 | FLIP\n    ^^^^\nno such command; did you mean flip?\n",
+    ),
+    (
+        RUN,
+        b"heap 64 8 16 2 2\nset 1.0 5\n",
+        b"rheap: line 2: Word\n2 | set 1.0 5\n    ^^^\nno such command: an owner and a command, or a line of a cycle; see rheap run --help\n",
+    ),
+    (
+        RUN,
+        b"heap 64 8 16 2 2\n1 move 1.0 1.1\n",
+        b"rheap: line 2: Word\n2 | 1 move 1.0 1.1\n      ^^^^\nno such command: alloc, raw, load, store, copy, same, drop and watch have an owner before them\n",
+    ),
+    (
+        RUN,
+        b"heap 64 8 16 2 2\nheap 64 8 16 2 2\n",
+        b"rheap: line 2: Word\n2 | heap 64 8 16 2 2\n    ^^^^\nheap stands in the first line alone\n",
+    ),
+    (
+        RUN,
+        b"heap 64 8 16 2 2\n# a cycle\n",
+        b"rheap: line 2: Word\n2 | # a cycle\n    ^\nthere are no comments: each line is read\n",
+    ),
+    (
+        RUN,
+        b"\xef\xbb\xbfheap 64 8 16 2 2\n",
+        b"rheap: line 1: Form\n1 | \\xef\\xbb\\xbfheap 64 8 16 2 2\n    ^^^^\na byte order mark: the file begins with its first line\n",
+    ),
+    (
+        RUN,
+        b"heap 64 8 16 2 2\n1 drop 1.0\t\n",
+        b"rheap: line 2: Form\n2 | 1 drop 1.0\\x09\n              ^^^^\na tab: parts are set apart by one space\n",
+    ),
+    (
+        RUN,
+        b"heap 64 8 16 2 2\n1 store 1.0 0 -1.5\n",
+        b"rheap: line 2: Root\n2 | 1 store 1.0 0 -1.5\n                  ^^^^\na part with a dot is a root, OWNER.SLOT as 1.0; there are no fractions\n",
+    ),
+    (
+        RUN,
+        b"heap 64 8 16 2 2\n1 alloc 1.0\n",
+        b"rheap: line 2: Form\n2 | 1 alloc 1.0\n               ^\nFIELDS is missing: OWNER alloc ROOT FIELDS\n",
+    ),
+    (
+        RUN,
+        b"heap 64 8 16 2 2\ndeal entries\n",
+        b"rheap: line 2: Form\n2 | deal entries\n                ^\nMOST is missing: deal copies MOST TRAY, or deal entries MOST TRAY\n",
+    ),
+    (
+        THREADS,
+        b"heap 64 8 16 1 2\n1 drop 1.0\n",
+        b"rheap: line 2: Root\n2 | 1 drop 1.0\n    ^\nOWNERS is 1 in the first line, and they count from 0: a lower owner is due here\n",
+    ),
+    (
+        BEYOND,
+        b"heap 64 8 16 2 2\n1 drop 1.0\n",
+        b"rheap: draw: NoLine\n2 | 1 drop 1.0\n    ^^^^^^^^^^\n--line 40 is too great: the trace has 2 lines\n",
     ),
 ];
 
@@ -257,7 +329,7 @@ const HISTORIES: &[(Ask<'static>, &[u8], &[u8])] = &[
     (
         REPLAY,
         b"history 2 2\nend 0\nend 0\n",
-        b"rheap: line 3: Trailing\n3 | end 0\n    ^^^^^\na line after the line end: the text ends with that line\n",
+        b"rheap: line 3: Trailing\n3 | end 0\n    ^^^^^\na line after the last one, end\n",
     ),
     (
         REPLAY,
@@ -277,12 +349,12 @@ const HISTORIES: &[(Ask<'static>, &[u8], &[u8])] = &[
     (
         REPLAY,
         b"history 2 2\n1 drop 1.0 = dome\nend 1\n",
-        b"rheap: line 2: Answer\n2 | 1 drop 1.0 = dome\n                 ^^^^\nan answer stands here: done, nil, int N, object K, raw K, same yes, refused NAME ..\n",
+        b"rheap: line 2: Answer\n2 | 1 drop 1.0 = dome\n                 ^^^^\nan answer is due here: done, nil, int N, object K, raw K, same yes, same no or refused NAME, NAME one of NoRoot, NotYours, NotObject, NoField, RawField, IntRange, FieldsRange\n",
     ),
     (
         REPLAY,
         b"history 2 2\n1 drop 1.0 =\nend 1\n",
-        b"rheap: line 2: Answer\n2 | 1 drop 1.0 =\n                ^\nan answer stands here: done, nil, int N, object K, raw K, same yes, refused NAME ..\n",
+        b"rheap: line 2: Answer\n2 | 1 drop 1.0 =\n                ^\nan answer is due here: done, nil, int N, object K, raw K, same yes, same no or refused NAME, NAME one of NoRoot, NotYours, NotObject, NoField, RawField, IntRange, FieldsRange\n",
     ),
     (
         REPLAY,
@@ -292,12 +364,12 @@ const HISTORIES: &[(Ask<'static>, &[u8], &[u8])] = &[
     (
         REPLAY,
         b"history 2 2\n1 drop 10 = done\nend 1\n",
-        b"rheap: line 2: Root\n2 | 1 drop 10 = done\n           ^^\na root stands here: OWNER.SLOT as 1.0, two numbers from 0 to 4294967295\n",
+        b"rheap: line 2: Root\n2 | 1 drop 10 = done\n           ^^\na root is due here: OWNER.SLOT as 1.0, two numbers from 0 to 4294967295\n",
     ),
     (
         REPLAY,
         b"history 2 2\n1 drop = done\nend 1\n",
-        b"rheap: line 2: Form\n2 | 1 drop = done\n          ^\na root is missing: the command ends too early\n",
+        b"rheap: line 2: Form\n2 | 1 drop = done\n          ^\nROOT is missing: OWNER drop ROOT = ANSWER\n",
     ),
     (
         REPLAY,
@@ -344,6 +416,21 @@ const HISTORIES: &[(Ask<'static>, &[u8], &[u8])] = &[
         b"history 2 2\nend 0",
         b"rheap: line 2: Cut\n2 | end 0\n         ^\nthe line has no line end: a line feed ends each line\n",
     ),
+    (
+        REPLAY,
+        b"history 2 2\nfrobnicate = done\nend 1\n",
+        b"rheap: line 2: Word\n2 | frobnicate = done\n    ^^^^^^^^^^\nno such command: a call has an owner first, and the last line is end 0\n",
+    ),
+    (
+        REPLAY,
+        b"history 2 2\n1 move 1.0 = done\nend 1\n",
+        b"rheap: line 2: Word\n2 | 1 move 1.0 = done\n      ^^^^\nonly commands have answers: alloc, raw, load, store, copy, same and drop\n",
+    ),
+    (
+        REPLAY,
+        b"history 2 2\n1 store 1.0 0 1.x = done\nend 1\n",
+        b"rheap: line 2: Root\n2 | 1 store 1.0 0 1.x = done\n                  ^^^\na part with a dot is a root, OWNER.SLOT as 1.0; there are no fractions\n",
+    ),
 ];
 
 /// Dumps that fail, and what is told of them.
@@ -381,12 +468,12 @@ const DUMPS: &[(Ask<'static>, &[u8], &[u8])] = &[
     (
         DUMP,
         b"rheap 2\nroots x\n",
-        b"rheap: line 2: Number\n2 | roots x\n          ^\na number stands here: 0 to 4096, without a leading zero\n",
+        b"rheap: line 2: Number\n2 | roots x\n          ^\na number is due here: 0 to 4096, without a leading zero\n",
     ),
     (
         DUMP,
         b"rheap 2\nroots 4097\n",
-        b"rheap: line 2: Number\n2 | roots 4097\n          ^^^^\na number stands here: 0 to 4096, without a leading zero\n",
+        b"rheap: line 2: Number\n2 | roots 4097\n          ^^^^\na number is due here: 0 to 4096, without a leading zero\n",
     ),
     (
         DUMP,
@@ -401,17 +488,17 @@ const DUMPS: &[(Ask<'static>, &[u8], &[u8])] = &[
     (
         DUMP,
         b"rheap 2\nroots 1\n1.x 5\n",
-        b"rheap: line 3: Number\n3 | 1.x 5\n    ^^^\na root stands here: OWNER.SLOT, owners 0 to 15 and slots 0 to 255\n",
+        b"rheap: line 3: Number\n3 | 1.x 5\n    ^^^\na root is due here: OWNER.SLOT, owners 0 to 15 and slots 0 to 255\n",
     ),
     (
         DUMP,
         b"rheap 2\nroots 1\n16.0 5\n",
-        b"rheap: line 3: Number\n3 | 16.0 5\n    ^^^^\na root stands here: OWNER.SLOT, owners 0 to 15 and slots 0 to 255\n",
+        b"rheap: line 3: Number\n3 | 16.0 5\n    ^^^^\na root is due here: OWNER.SLOT, owners 0 to 15 and slots 0 to 255\n",
     ),
     (
         DUMP,
         b"rheap 2\nroots 1\n1.0 x\n",
-        b"rheap: line 3: Number\n3 | 1.0 x\n        ^\na root's value stands here: -2^61 to 2^61 - 1, or @K with K from 0 to 16777215\n",
+        b"rheap: line 3: Number\n3 | 1.0 x\n        ^\na root's value is due here: -2^61 to 2^61 - 1, or @K with K from 0 to 16777215\n",
     ),
     (
         DUMP,
@@ -431,7 +518,7 @@ const DUMPS: &[(Ask<'static>, &[u8], &[u8])] = &[
     (
         DUMP,
         b"rheap 2\nroots 1\n1.0 @0\n1.1 @0\n",
-        b"rheap: line 4: Form\n4 | 1.1 @0\n    ^^^^^^\nanother line is due here: objects N\n",
+        b"rheap: line 4: Form\n4 | 1.1 @0\n    ^^^^^^\nobjects N is due here: the line roots says 1\n",
     ),
     (
         DUMP,
@@ -441,7 +528,7 @@ const DUMPS: &[(Ask<'static>, &[u8], &[u8])] = &[
     (
         DUMP,
         b"rheap 2\nroots 1\n1.0 @0\nobjects 1\n@x 0\n",
-        b"rheap: line 5: Number\n5 | @x 0\n    ^^\nthe object's number stands here: @K, K is 0 to 16777215\n",
+        b"rheap: line 5: Number\n5 | @x 0\n    ^^\nthe object's number is due here: @K, K is 0 to 16777215\n",
     ),
     (
         DUMP,
@@ -466,12 +553,12 @@ const DUMPS: &[(Ask<'static>, &[u8], &[u8])] = &[
     (
         DUMP,
         b"rheap 2\nroots 1\n1.0 @0\nobjects 1\n@0 4096\n",
-        b"rheap: line 5: Number\n5 | @0 4096\n       ^^^^\na number stands here: 0 to 4095, without a leading zero\n",
+        b"rheap: line 5: Number\n5 | @0 4096\n       ^^^^\na number is due here: 0 to 4095, without a leading zero\n",
     ),
     (
         DUMP,
         b"rheap 2\nroots 1\n1.0 @0\nobjects 1\n@0 1 x\n",
-        b"rheap: line 5: Number\n5 | @0 1 x\n         ^\na value stands here: nil, -2^61 to 2^61 - 1, or @K with K from 0 to 16777215\n",
+        b"rheap: line 5: Number\n5 | @0 1 x\n         ^\na value is due here: nil, -2^61 to 2^61 - 1, or @K with K from 0 to 16777215\n",
     ),
     (
         DUMP,
@@ -486,17 +573,17 @@ const DUMPS: &[(Ask<'static>, &[u8], &[u8])] = &[
     (
         DUMP,
         b"rheap 1\nroots 1\n1.0 @0\nobjects 3\n@0 raw 2 nil @0\n",
-        b"rheap: line 5: Number\n5 | @0 raw 2 nil @0\n       ^^^\na number stands here: 0 to 4095, without a leading zero\n",
+        b"rheap: line 5: Number\n5 | @0 raw 2 nil @0\n       ^^^\nno object is raw in version 1: the first line is rheap 2 then\n",
     ),
     (
         DUMP,
         b"rheap 2\nroots 1\n1.0 @0\nobjects 1\n@0 0\nend\n\n",
-        b"rheap: line 7: Trailing\n7 | \n    ^\na line after the line end: the text ends with that line\n",
+        b"rheap: line 7: Trailing\n7 | \n    ^\na line after the last one, end\n",
     ),
     (
         DUMP,
         b"rheap 2\nroots 1\n1.0 @0\nobjects 1\n@0 0\nnoend\n",
-        b"rheap: line 6: Form\n6 | noend\n    ^^^^^\nanother line is due here: end\n",
+        b"rheap: line 6: Form\n6 | noend\n    ^^^^^\nend is due here: the line objects says 1\n",
     ),
     (
         DUMP,
@@ -521,7 +608,7 @@ const DUMPS: &[(Ask<'static>, &[u8], &[u8])] = &[
     (
         DUMP,
         b"rheap 2\nroots 1\n1.0 @0\nobjects 1\n@0\t0\n",
-        b"rheap: line 5: Form\n5 | @0\\x090\n      ^^^^\na tab stands between parts: one space does\n",
+        b"rheap: line 5: Form\n5 | @0\\x090\n      ^^^^\na tab: parts are set apart by one space\n",
     ),
     (
         DUMP,
@@ -531,12 +618,37 @@ const DUMPS: &[(Ask<'static>, &[u8], &[u8])] = &[
     (
         DUMP,
         b"rheap 2\nroots 1\n1.0 @0\nobjects 1\n0 0\n",
-        b"rheap: line 5: Form\n5 | 0 0\n    ^^^\nanother line is due here: @K FIELDS VALUE .. or @K raw FIELDS VALUE ..\n",
+        b"rheap: line 5: Form\n5 | 0 0\n    ^^^\nan object is due here, @0: the line objects says 1\n",
     ),
     (
         DUMP,
         b"rheap 2\nroots 1\n\x80.0 5\n",
         b"rheap: line 3: Form\n3 | \\x80.0 5\n    ^^^^\nthe byte 128 isn't printable ASCII: the bytes of a line are 32 to 126\n",
+    ),
+    (
+        DUMP,
+        b"rheap 2\nroots 1\n1.0 @0\nobjects 1\n@0 0\n",
+        b"rheap: line 6: End\n6 | \n    ^\nthe text ends too early: its last line is missing, which is just end\n",
+    ),
+    (
+        DUMP,
+        b"rheap 2\nroots 2\n1.0 @0\nobjects 1\n",
+        b"rheap: line 4: Form\n4 | objects 1\n    ^^^^^^^^^\na root is due here, OWNER.SLOT VALUE: the line roots says 2\n",
+    ),
+    (
+        DUMP,
+        b"rheap 2\nroots 1\n1.0 @0\nobjects 2\n@0 1 @1\nend\n",
+        b"rheap: line 6: Form\n6 | end\n    ^^^\nan object is due here, @1: the line objects says 2\n",
+    ),
+    (
+        DUMP,
+        b"rheap 2\nroots 1\n1.0 @0\nobjects 1\n@0 0\n@1 0\nend\n",
+        b"rheap: line 6: Form\n6 | @1 0\n    ^^^^\nend is due here: the line objects says 1\n",
+    ),
+    (
+        DUMP,
+        b"\xef\xbb\xbfrheap 2\n",
+        b"rheap: line 1: Header\n1 | \\xef\\xbb\\xbfrheap 2\n    ^^^^\na byte order mark: the file begins with its first line\n",
     ),
 ];
 
