@@ -13,7 +13,7 @@ const BLOCKS: &[(u32, &[u8], &[u8])] = &[
     (
         12,
         b"1\talloc 1.0 2",
-        b"12 | 1\\x09alloc 1.0 2\n      ^^^^\na tab stands between parts: one space does\n",
+        b"12 | 1\\x09alloc 1.0 2\n      ^^^^\na tab: parts are set apart by one space\n",
     ),
     (
         2,
@@ -23,12 +23,12 @@ const BLOCKS: &[(u32, &[u8], &[u8])] = &[
     (
         7,
         b"1 load 1.0",
-        b"7 | 1 load 1.0\n              ^\na root is missing: the line ends too early\n",
+        b"7 | 1 load 1.0\n              ^\nSRC is missing: OWNER load DST SRC FIELD\n",
     ),
     (
         2,
         b"1 store 1.0 0 12345678901234567890123456789012345678901234567890123456789012345678901234567890",
-        b"2 | 1 store 1.0 0 123456789012345678901234567890123456789012345678901234567890..\n                  ^^^^^^^^^^^^^^^^^^^^^^^^^^^^^^^^^^^^^^^^^^^^^^^^^^^^^^^^^^^^\nnil, a root as 1.0, or a whole number of 64 bits stands here\n",
+        b"2 | 1 store 1.0 0 123456789012345678901234567890123456789012345678901234567890..\n                  ^^^^^^^^^^^^^^^^^^^^^^^^^^^^^^^^^^^^^^^^^^^^^^^^^^^^^^^^^^^^\nnil, a root as 1.0, or -2^63 to 2^63 - 1 is due here; no + and no leading zero\n",
     ),
 ];
 
