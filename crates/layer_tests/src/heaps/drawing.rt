@@ -216,10 +216,21 @@ fn a_heap_over_the_limit_has_bars_alone(rt: HostRuntime) {
     let text = str::from_utf8(&bars).ok().expect(&rt, "text");
     expect_equal(
         &rt,
-        (count(text, "<g class='box"), text.contains("Only bars")),
-        (0, true),
+        (
+            count(text, "<g class='box"),
+            count(text, "Only bars: 301 objects, and at most 300 are drawn."),
+        ),
+        (0, 1),
     );
     expect_well_formed(&rt, text);
+}
+
+#[test]
+fn a_long_number_is_cut(rt: HostRuntime) {
+    let bytes = picture(&rt, &in_a_cycle(&rt));
+    let text = str::from_utf8(&bytes).ok().expect(&rt, "text");
+    let cut = "<title>-2305843009213693952</title>-2305..</text>";
+    expect_equal(&rt, count(text, cut), 1);
 }
 
 #[test]
