@@ -1,0 +1,6 @@
+mod Shown
+mod Answered
+mod Typed
+mod Runs
+mod Lines
+mod Taken

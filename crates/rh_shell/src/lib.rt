@@ -1,0 +1,18 @@
+//! A session on a heap: each line of the trace language is answered as it is typed.
+#![tactic(auto)]
+
+mod answering;
+mod fault;
+mod help;
+mod host;
+pub mod laws;
+mod own;
+mod playing;
+mod session;
+mod shell;
+mod telling;
+
+pub use fault::ShellFault;
+pub use host::Host;
+pub use rh_trace::Summary;
+pub use shell::run_shell;
