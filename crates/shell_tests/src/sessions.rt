@@ -1,0 +1,187 @@
+//! Sessions: what is typed, and what is answered.
+
+use crate::devices::{Counts, Full, SlowReader};
+use refusing::{RefusingAllocator, refused_in_turn};
+use rh_shell::{ShellFault, run_shell};
+use rh_trace::run_trace;
+use std::process::Abort;
+
+/// A trace with a cycle.
+const CYCLE: &[u8] = b"\
+heap 32 8 8 1 2
+0 alloc 0.0 1
+begin
+idle 16
+shade 0.0
+deal copies 1 t
+give t
+flip
+stat
+";
+
+/// The same cycle, and all that a session has of its own.
+const OWN: &[u8] = b"\
+heap 32 8 8 1 2
+0 alloc 0.0 1
+begin
+idle 16
+shade 0.0
+deal copies 1 t
+give t
+flip
+cycles
+draw heap.svg
+stat
+";
+
+/// What is answered to that.
+const OWN_ANSWERS: &[u8] = b"\
+object 1
+cycle 1
+idle 16
+placed
+dealt 1 passed 0
+given joined 1 repeated 0 stale 0 placed 0
+flipped roots 1 live 3
+number\tend\tepoch\tbegan\tended\tused\tlive\tfreed\tobjects\tgranted\tidle\tspent\tmost\tlogged\tjoined\trepeated\tstale\tpassed\twords
+1\tflipped\t1\t3\t8\t3\t3\t0\t1\t0\t16\t6\t3\t0\t-\t-\t-\t-\t32
+drawn
+stat used 3 free 29 cycle off epoch 2 number 0 log 0 granted 0 spent 6 placed 0 missing 0 idle 16
+total commands 1 refused 0 flips 1 rootwords 1
+";
+
+/// Lines that need a heap before there is one, and sizes that make none.
+const EARLY: &[u8] = b"stat
+cycles
+draw heap.svg
+heap 4 8 8 1 2
+heap 32 8 8 1 2
+1 allok 0.0 1
+";
+
+const EARLY_ANSWERS: &[u8] = b"\
+fault: Header: the first line is heap WORDS RATIO LOG OWNERS SLOTS
+fault: Header: the first line is heap WORDS RATIO LOG OWNERS SLOTS
+fault: Header: the first line is heap WORDS RATIO LOG OWNERS SLOTS
+fault: BadSpace: WORDS is out of its range: 8 to 16777216
+fault: Word: no such command; did you mean alloc?
+total commands 0 refused 0 flips 0 rootwords 0
+";
+
+/// Faults between lines of a trace, and a last line without its line end.
+const FAULTS: &[u8] = b"heap 32 8 8 1 2
+
+0 alloc 0.0 1
+ stat
+0 same 0.0 0.0
+stat";
+
+const FAULTS_ANSWERS: &[u8] = b"\
+fault: Form: a blank line: each line has a keyword
+object 1
+fault: Form: a space at the start: a line begins with its first part
+same yes
+fault: Cut: the line has no line end: a line feed ends each line
+total commands 2 refused 0 flips 0 rootwords 0
+";
+
+/// Files of pictures, and a word that is nearly a command.
+const FILES: &[u8] = b"heap 32 8 8 1 2\ndraw heap.svg\ndraw \ndraw \xff\n1 allok 0.0 1\n";
+
+const FILES_ANSWERS: &[u8] = b"\
+drawn
+fault: Form: a space at the end: a line ends with its last part
+fault: Form: the file's name is no text
+fault: Word: no such command; did you mean alloc?
+total commands 0 refused 0 flips 0 rootwords 0
+";
+
+/// Rows: what is typed, and what is answered. Lines with faults change nothing.
+const SESSIONS: &[(&[u8], &[u8])] = &[
+    (b"", b"total commands 0 refused 0 flips 0 rootwords 0\n"),
+    (OWN, OWN_ANSWERS),
+    (EARLY, EARLY_ANSWERS),
+    (FAULTS, FAULTS_ANSWERS),
+    (FILES, FILES_ANSWERS),
+];
+
+/// Ends the test unless a text is what was wanted, and shows both then.
+fn expect_text(rt: &impl Abort, got: &[u8], wanted: &[u8]) {
+    assert!(rt;
+        got == wanted,
+        "got {} wanted {}",
+        got.escape_ascii(),
+        wanted.escape_ascii()
+    );
+}
+
+#[test]
+fn each_line_is_answered(rt: HostRuntime) {
+    for &(typed, answers) in SESSIONS {
+        let mut writer = Full::new(&rt, 0);
+        let mut host = Counts::new(true);
+        let mut reader = SlowReader::new(typed);
+        let outcome = run_shell(rt.alloc(), &mut reader, &mut writer, &mut host);
+        assert!(rt; outcome.is_ok());
+        expect_text(&rt, &writer.text, answers);
+    }
+}
+
+#[test]
+fn a_session_of_a_trace_is_its_run(rt: HostRuntime) {
+    let mut run = Full::new(&rt, 0);
+    let mut reader = CYCLE;
+    let ran = run_trace(rt.alloc(), &mut reader, &mut run).ok();
+    let mut writer = Full::new(&rt, 0);
+    let mut reader = CYCLE;
+    let outcome = run_shell(rt.alloc(), &mut reader, &mut writer, &mut Counts::new(true));
+    assert!(rt; outcome.ok() == ran);
+    assert!(rt; ran.is_some());
+    expect_text(&rt, &writer.text, &run.text);
+}
+
+#[test]
+fn a_host_is_told_what_comes(rt: HostRuntime) {
+    for takes in [false, true] {
+        let mut host = Counts::new(takes);
+        let mut reader = OWN;
+        let mut writer = Full::new(&rt, 0);
+        let outcome = run_shell(rt.alloc(), &mut reader, &mut writer, &mut host);
+        assert!(rt; outcome.is_ok());
+        assert!(rt; (host.prompts, host.ends, host.pictures) == (12, 1, 1));
+        let is_told = writer.text.as_slice() == OWN_ANSWERS;
+        assert!(rt; is_told == takes);
+    }
+}
+
+#[test]
+fn each_failing_call_ends_a_session(rt: HostRuntime) {
+    for nth in 1..100u32 {
+        let mut writer = Full::new(&rt, nth);
+        let mut reader = OWN;
+        let outcome = run_shell(rt.alloc(), &mut reader, &mut writer, &mut Counts::new(true));
+        assert!(rt; OWN_ANSWERS.starts_with(&writer.text));
+        match outcome {
+            Err(fault) => {
+                assert!(rt; fault == ShellFault::Write);
+                assert!(rt; writer.calls == nth);
+            }
+            Ok(_) => {
+                assert!(rt; nth > 20);
+                return;
+            }
+        }
+    }
+}
+
+#[test]
+fn each_allocation_is_refused(rt: HostRuntime) {
+    let refused = refused_in_turn(rt.alloc(), |memory: &RefusingAllocator<_>| {
+        let mut writer = Full::new(&rt, 0);
+        let mut reader = OWN;
+        let outcome = run_shell(memory, &mut reader, &mut writer, &mut Counts::new(true));
+        assert!(rt; OWN_ANSWERS.starts_with(&writer.text));
+        outcome == Err(ShellFault::OutOfMemory)
+    });
+    assert!(rt; refused.is_ok_and(|n| n > 9), "{refused:?}");
+}
