@@ -11,7 +11,9 @@ use rh_dump::{DumpFault, DumpKind};
 use rh_explain::{Why, fault_part, is_marked};
 use rh_layout::limits::{MAX_FIELDS, MAX_OWNERS, MAX_SLOTS};
 use rh_layout::{RootId, is_whole};
-use rh_text::{first_line, is_formed, is_text, next_part, read_integer, read_number, read_root};
+use rh_text::{
+    first_line, has_dot, is_formed, is_text, next_part, read_integer, read_number, read_root,
+};
 
 /// What stands in a dump before one of its lines.
 #[derive(Clone, Copy)]
@@ -341,8 +343,12 @@ fn is_later(last: Option<RootId>, root: RootId) -> bool {
 fn root_spot<'a>(number: u32, line: &'a [u8], before: &Before, kind: DumpKind) -> Spot<'a>
     ensures { (result.begins ≤ result.ends) × (result.ends ≤ length result.line.now) }
 {
-    let Some(root) = root_of(part_at(line, 0)) else {
-        return at_part(number, line, 0, Told::Root);
+    let part = part_at(line, 0);
+    let Some(root) = root_of(part) else {
+        if has_dot(part) {
+            return at_part(number, line, 0, Told::Root);
+        }
+        return at_line(number, line, Told::RootDue(before.roots));
     };
     if !is_later(before.last, root) {
         return at_part(number, line, 0, Told::RootOrder);

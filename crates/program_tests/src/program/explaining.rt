@@ -633,7 +633,7 @@ const DUMPS: &[(Ask<'static>, &[u8], &[u8])] = &[
     (
         DUMP,
         b"rheap 2\nroots 2\n1.0 @0\nobjects 1\n",
-        b"rheap: line 4: Form\n4 | objects 1\n    ^^^^^^^^^\na root is due here, OWNER.SLOT VALUE: the line roots says 2\n",
+        b"rheap: line 4: Number\n4 | objects 1\n    ^^^^^^^^^\na root is due here, OWNER.SLOT VALUE: the line roots says 2\n",
     ),
     (
         DUMP,
