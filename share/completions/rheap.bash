@@ -3,7 +3,7 @@ _rheap() {
     local word=${COMP_WORDS[COMP_CWORD]} before=${COMP_WORDS[COMP_CWORD - 1]} options= valued=
     COMPREPLY=()
     if [ "$COMP_CWORD" = 1 ]; then
-        mapfile -t COMPREPLY < <(compgen -W 'run threads replay dump draw completions help -h --help -V --version' -- "$word")
+        mapfile -t COMPREPLY < <(compgen -W 'run threads replay dump draw shell completions help -h --help -V --version' -- "$word")
         return
     fi
     case ${COMP_WORDS[1]} in
@@ -12,9 +12,10 @@ _rheap() {
     replay) options='--explain -h --help' valued='' ;;
     dump) options='--explain --dot -h --help' valued='' ;;
     draw) options='--explain --line -h --help' valued='--line' ;;
+    shell) options='-h --help' valued='' ;;
     completions) options='-h --help' valued='' ;;
     help)
-        mapfile -t COMPREPLY < <(compgen -W 'run threads replay dump draw completions' -- "$word")
+        mapfile -t COMPREPLY < <(compgen -W 'run threads replay dump draw shell completions' -- "$word")
         return
         ;;
     *) return ;;
@@ -27,6 +28,7 @@ _rheap() {
         mapfile -t COMPREPLY < <(compgen -W 'bash zsh fish' -- "$word")
         return
         ;;
+    shell:[!-]* | shell:) return ;;
     esac
     case $word in
     -*) mapfile -t COMPREPLY < <(compgen -W "$options" -- "$word") ;;

@@ -3,6 +3,7 @@ pub mod Counted
 pub mod Drawn
 pub mod Flushed
 pub mod Inputs
+pub mod Sessions
 pub mod SharedStatuses
 pub mod StatusLaws
 pub mod Statuses

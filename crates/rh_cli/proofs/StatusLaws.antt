@@ -36,9 +36,14 @@ use Rattle.rh_paced_trace.specs.declared.fault.PacedFault.{PacedFault}
 use Rattle.rh_paced_trace.specs.declared.fault.PacedFault.TheVariants as paced_faults
 use Rattle.rh_cli.proofs.SharedStatuses.{shared_is_0_1_3_or_4, shared_is_4}
 use Rattle.rh_cli.specs.Replay.{IsJudged, IsReplayStatus, ReplayEnds}
+use Rattle.rh_text.specs.RawLine.{lines_of}
+use Rattle.rh_shell.specs.Session.{IsSession}
+use Rattle.rh_shell.specs.declared.fault.ShellFault.{ShellFault}
+use Rattle.rh_shell.specs.declared.fault.ShellFault.TheVariants as shell_faults
+use Rattle.rh_cli.specs.Session.{IsSessionStatus, SessionEnds, session_status}
 use Rattle.rh_cli.specs.declared.ask.Shell.{Shell}
 use Rattle.rh_cli.specs.declared.ask.Subcommand.{Subcommand}
-use Rattle.rh_cli.specs.declared.ask.Subcommand.TheVariants.{Run, RunPaced, RunGrowing, Threads, Replay, Dump, Dot, Draw, Completions}
+use Rattle.rh_cli.specs.declared.ask.Subcommand.TheVariants.{Run, RunPaced, RunGrowing, Threads, Replay, Dump, Dot, Draw, Session, Completions}
 use Rattle.rh_cli.specs.declared.ending.Ending.{Ending}
 use Rattle.rh_cli.specs.declared.ending.Ending.TheVariants.{Done, WrongHistory}
 use Rattle.rh_cli.specs.declared.fault.LineFault.{LineFault}
@@ -421,6 +426,30 @@ concludes_completions_0 shell input old new c = sent_is_0 c.0 old new c.1 c.2
 pub concludes_completions_3 : (shell : Shell) (input : List ℕ) (old new : Option (List ℕ)) → Concludes (Completions shell) input 3 old new → Keeps old new
 concludes_completions_3 shell input old new c = absurd (sent_is_not_3 c.0 c.2)
 
+-- a session's status
+session_fault_is_1_or_3 : (fault : ShellFault) → (session_status fault ≡ 1) ⊎ (session_status fault ≡ 3)
+session_fault_is_1_or_3 shell_faults.Read = inl refl
+session_fault_is_1_or_3 shell_faults.Write = inl refl
+session_fault_is_1_or_3 shell_faults.OutOfMemory = inr refl
+
+session_is_0_1_or_3 : (outcome : Result Summary ShellFault) (status : ℕ) → IsSessionStatus outcome status → (status ≡ 0) ⊎ ((status ≡ 1) ⊎ (status ≡ 3))
+session_is_0_1_or_3 (Ok summary) status is = inl is
+session_is_0_1_or_3 (Err fault) status is = inr (rw is (session_fault_is_1_or_3 fault))
+
+session_fault_is_not_0 : (fault : ShellFault) → 0 ≡ session_status fault → ⊥
+session_fault_is_not_0 shell_faults.Read is = omega (arith, is)
+session_fault_is_not_0 shell_faults.Write is = omega (arith, is)
+session_fault_is_not_0 shell_faults.OutOfMemory is = omega (arith, is)
+
+session_is_0 : (outcome : Result Summary ShellFault) (input : List ℕ) (old new : Option (List ℕ)) → SessionEnds input outcome old new → IsSessionStatus outcome 0
+    → (text : List ℕ) × (summary : Summary) × IsSession (lines_of input) text summary × Appends old new text
+session_is_0 (Ok summary) input old new ends is = (ends.0, summary, ends.1, ends.2)
+session_is_0 (Err fault) input old new ends is = absurd (session_fault_is_not_0 fault is)
+
+pub concludes_session_0 : (input : List ℕ) (old new : Option (List ℕ)) → Concludes Session input 0 old new
+    → (text : List ℕ) × (summary : Summary) × IsSession (lines_of input) text summary × Appends old new text
+concludes_session_0 input old new c = session_is_0 c.0 input old new c.1 c.2
+
 pub concludes_late : (subcommand : Subcommand) (input : List ℕ) (status : ℕ) (old new : Option (List ℕ)) → Concludes subcommand input status old new → IsLateStatus status
 concludes_late Run input status old new c = late_of_three status (run_is_0_1_or_3 c.0 status c.2)
 concludes_late (RunPaced mark) input status old new c = late_of_three status (paced_is_0_1_or_3 c.0 status c.2)
@@ -429,6 +458,7 @@ concludes_late (Threads replicators idle) input status old new c = late_of_four 
 concludes_late Replay input status old new c = late_of_four status (replay_is_0_1_3_or_4 input c.0 status old new c.1 c.2)
 concludes_late Dump input status old new c = late_of_three status (count_is_0_1_or_3 counts_line input c.0 status old new c.1 c.2)
 concludes_late Dot input status old new c = late_of_three status (count_is_0_1_or_3 dot_text input c.0 status old new c.1 c.2)
+concludes_late Session input status old new c = late_of_three status (session_is_0_1_or_3 c.0 status c.2)
 concludes_late (Completions shell) input status old new c = late_of_three status (sent_is_0_1_or_3 c.0 status c.2)
 concludes_late (Draw line) input status old new c = late_of_three status (draw_is_0_1_or_3 c.0 status old new c.1 c.2)
 
@@ -468,6 +498,7 @@ concludes_4 (Threads replicators idle) input old new c =
 concludes_4 Replay input old new c = inl (refl, replay_is_4 input c.0 old new c.1 c.2)
 concludes_4 Dump input old new c = absurd (not_2_or_4 4 4 (inr refl) (count_is_0_1_or_3 counts_line input c.0 4 old new c.1 c.2) refl)
 concludes_4 Dot input old new c = absurd (not_2_or_4 4 4 (inr refl) (count_is_0_1_or_3 dot_text input c.0 4 old new c.1 c.2) refl)
+concludes_4 Session input old new c = absurd (not_2_or_4 4 4 (inr refl) (session_is_0_1_or_3 c.0 4 c.2) refl)
 concludes_4 (Completions shell) input old new c = absurd (not_2_or_4 4 4 (inr refl) (sent_is_0_1_or_3 c.0 4 c.2) refl)
 concludes_4 (Draw line) input old new c = absurd (not_2_or_4 4 4 (inr refl) (draw_is_0_1_or_3 c.0 4 old new c.1 c.2) refl)
 

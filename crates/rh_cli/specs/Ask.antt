@@ -5,7 +5,7 @@ use Rattle.rh_text.specs.Number.{number_of}
 use Rattle.clap.specs.declared.builder.action.ArgAction.TheVariants.{SetTrue}
 use Rattle.clap.specs.Words.{App, Kinds, Row, Rule, Text, new_app, new_rule, with_rule, with_subcommand, subcommand_of, fault_of, first_of, takes}
 use Rattle.rh_cli.specs.declared.ask.Subcommand.{Subcommand}
-use Rattle.rh_cli.specs.declared.ask.Subcommand.TheVariants.{Run, RunPaced, RunGrowing, Threads, Replay, Dump, Dot, Draw, Completions}
+use Rattle.rh_cli.specs.declared.ask.Subcommand.TheVariants.{Run, RunPaced, RunGrowing, Threads, Replay, Dump, Dot, Draw, Session, Completions}
 use Rattle.rh_cli.specs.declared.ask.Shell.TheVariants.{Bash, Zsh, Fish}
 use Rattle.rh_cli.specs.declared.ask.Ask.{Ask}
 use Rattle.rh_cli.specs.declared.fault.LineFault.{LineFault}
@@ -69,6 +69,10 @@ line_rule = record (new_rule (codes "line")) { long = Some (codes "line"); value
 abbrev pub draw_app : App
 draw_app = with_rule (file_app (codes "draw")) line_rule
 
+-- the command `shell`: no file
+abbrev pub shell_app : App
+shell_app = new_app (codes "shell")
+
 -- the shell of `completions`, which is required
 abbrev pub shell_rule : Rule
 shell_rule = record (new_rule (codes "SHELL")) { required = true }
@@ -91,7 +95,8 @@ rheap_app =
     in let with_replay = with_subcommand with_threads (file_app (codes "replay")).top
     in let with_dump = with_subcommand with_replay dump_app.top
     in let with_draw = with_subcommand with_dump draw_app.top
-    in with_subcommand with_draw completions_app.top
+    in let with_shell = with_subcommand with_draw shell_app.top
+    in with_subcommand with_shell completions_app.top
 
 -- whether the value of the flag says that it was set
 abbrev pub is_set : Option Text → Bool
@@ -196,8 +201,9 @@ command_named name given =
     else (if bytes_eq name (codes "replay") then Ok Replay
     else (if bytes_eq name (codes "dump") then Ok (dump_asked (is_set given.dot))
     else (if bytes_eq name (codes "draw") then draw_asked given.line
+    else (if bytes_eq name (codes "shell") then Ok Session
     else (if bytes_eq name (codes "completions") then completions_asked given.shell
-    else Err faults.Incomplete)))))
+    else Err faults.Incomplete))))))
 
 -- the file, or standard input of a command that takes none
 abbrev pub file_or_input : Option Text → Text

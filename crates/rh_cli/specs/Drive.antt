@@ -7,11 +7,12 @@ use Rattle.rh_trace.specs.Run.{Ends, run_of}
 use Rattle.rh_cli.specs.declared.fault.LineFault.{LineFault}
 use Rattle.rh_cli.specs.declared.fault.LineFault.TheVariants as line_faults
 use Rattle.rh_cli.specs.declared.ask.Subcommand.{Subcommand}
-use Rattle.rh_cli.specs.declared.ask.Subcommand.TheVariants.{Run, RunPaced, RunGrowing, Threads, Replay, Dump, Dot, Draw, Completions}
+use Rattle.rh_cli.specs.declared.ask.Subcommand.TheVariants.{Run, RunPaced, RunGrowing, Threads, Replay, Dump, Dot, Draw, Session, Completions}
 use Rattle.rh_cli.specs.Count.{ConcludesCount, ConcludesDot}
 use Rattle.rh_cli.specs.Draw.{ConcludesDraw, ConcludesSent}
 use Rattle.rh_cli.specs.Paced.{ConcludesGrowing, ConcludesPaced}
 use Rattle.rh_cli.specs.Replay.{ConcludesReplay}
+use Rattle.rh_cli.specs.Session.{ConcludesSession}
 use Rattle.rh_cli.specs.Shared.{ConcludesShared}
 
 -- the status after a fault of the run: 3 for want of memory, else 1
@@ -56,4 +57,5 @@ Concludes Replay input status old new = ConcludesReplay input status old new
 Concludes Dump input status old new = ConcludesCount input status old new
 Concludes Dot input status old new = ConcludesDot input status old new
 Concludes (Draw line) input status old new = ConcludesDraw status old new
+Concludes Session input status old new = ConcludesSession input status old new
 Concludes (Completions shell) input status old new = ConcludesSent status old new

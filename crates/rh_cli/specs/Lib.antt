@@ -5,4 +5,5 @@ pub mod Drive
 pub mod Fault
 pub mod Paced
 pub mod Replay
+pub mod Session
 pub mod Shared

@@ -3,7 +3,7 @@
 ghost use Rattle.std.specs.Prelude.{◌≡◌, ◌≢◌, ◌⊎◌, [], map, option_map, false, Ok, Err, IsTrue, IfOk, IfErr, codes};
 ghost use Rattle.clap.specs.declared.builder.command.Command.TheViews.{out-Command as fields_of};
 ghost use Rattle.clap.specs.Words.{kind_of, app_of, subcommand_rows_of};
-ghost use Rattle.rh_cli.specs.Ask.{command_and_file, command_and_file_in, command_and_file_of, command_named, completions_app, completions_asked, completions_for, error_kinds, explains_in, explains_of, file_or_input, draw_app, draw_asked, dump_app, dump_asked, file_app, growing_asked, marked_app, number_within, run_app, run_given, rheap_app, is_set, is_taken, run_asked, threads_app, threads_asked};
+ghost use Rattle.rh_cli.specs.Ask.{command_and_file, command_and_file_in, command_and_file_of, command_named, completions_app, completions_asked, completions_for, error_kinds, explains_in, explains_of, file_or_input, draw_app, draw_asked, dump_app, dump_asked, file_app, growing_asked, marked_app, number_within, run_app, run_given, rheap_app, is_set, shell_app, is_taken, run_asked, threads_app, threads_asked};
 ghost use Rattle.rh_cli.specs.Fault.{IsArgumentsFault, IsClapFault};
 ghost use Rattle.rh_cli.specs.declared.ask.Ask.{Ask};
 
@@ -51,6 +51,7 @@ fn command_line<'a>(alloc: Global) -> Result<Command<'a>, AllocError>
         .subcommand(replay_command(alloc)?)?
         .subcommand(dump_command(alloc)?)?
         .subcommand(draw_command(alloc)?)?
+        .subcommand(shell_command(alloc))?
         .subcommand(completions_command(alloc)?)
 }
 
@@ -133,6 +134,16 @@ fn draw_command<'a>(alloc: Global) -> Result<Command<'a>, AllocError>
         "The line after which it is drawn, from 1; the last if it isn't said",
     );
     file_command(alloc, "draw", about, help::DRAW)?.arg(line)
+}
+
+/// The command `shell` as clap knows it.
+fn shell_command<'a>(alloc: Global) -> Command<'a>
+    ensures app { app_of result ≡ shell_app }
+    ensures local { (fields_of result).has_globals ≡ false }
+{
+    Command::new(alloc, "shell")
+        .about("Answers the lines of a trace as they are typed, and draws the heap")
+        .after_help(help::SHELL)
 }
 
 /// The command `completions` as clap knows it.
@@ -322,6 +333,9 @@ fn command_named(name: &str, given: Options<'_>) -> Result<Subcommand, LineFault
     }
     if name == "draw" {
         return draw_asked(given.line);
+    }
+    if name == "shell" {
+        return Ok(Subcommand::Session);
     }
     if name == "completions" {
         return completions_asked(given.shell);

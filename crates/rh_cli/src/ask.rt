@@ -45,6 +45,8 @@ pub enum Subcommand {
         /// The number of the line, from 1, after which it is drawn; without one it is the last.
         line: Option<u32>,
     },
+    /// Answer the lines of a session as they are typed.
+    Session,
     /// Write the completions for a shell. There is no file.
     Completions {
         /// The shell.

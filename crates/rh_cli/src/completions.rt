@@ -7,7 +7,7 @@ _rheap() {
     local word=${COMP_WORDS[COMP_CWORD]} before=${COMP_WORDS[COMP_CWORD - 1]} options= valued=
     COMPREPLY=()
     if [ \"$COMP_CWORD\" = 1 ]; then
-        mapfile -t COMPREPLY < <(compgen -W 'run threads replay dump draw completions help -h --help -V --version' -- \"$word\")
+        mapfile -t COMPREPLY < <(compgen -W 'run threads replay dump draw shell completions help -h --help -V --version' -- \"$word\")
         return
     fi
     case ${COMP_WORDS[1]} in
@@ -16,9 +16,10 @@ _rheap() {
     replay) options='--explain -h --help' valued='' ;;
     dump) options='--explain --dot -h --help' valued='' ;;
     draw) options='--explain --line -h --help' valued='--line' ;;
+    shell) options='-h --help' valued='' ;;
     completions) options='-h --help' valued='' ;;
     help)
-        mapfile -t COMPREPLY < <(compgen -W 'run threads replay dump draw completions' -- \"$word\")
+        mapfile -t COMPREPLY < <(compgen -W 'run threads replay dump draw shell completions' -- \"$word\")
         return
         ;;
     *) return ;;
@@ -31,6 +32,7 @@ _rheap() {
         mapfile -t COMPREPLY < <(compgen -W 'bash zsh fish' -- \"$word\")
         return
         ;;
+    shell:[!-]* | shell:) return ;;
     esac
     case $word in
     -*) mapfile -t COMPREPLY < <(compgen -W \"$options\" -- \"$word\") ;;
@@ -61,6 +63,7 @@ command)
         'replay:Checks a history against a heap that never moves its objects, and reports on it'
         'dump:Reads a dump, and prints how many roots and objects it has'
         'draw:Draws the heap of a trace after one of its lines, in SVG'
+        'shell:Answers the lines of a trace as they are typed, and draws the heap'
         'completions:Prints completions of the program'\\''s command lines for a shell'
         'help:Print this message or the help of the given subcommand(s)'
     )
@@ -105,12 +108,17 @@ argument)
             '(- *)'{-h,--help}'[Print help]' \\
             '1:FILE:_files'
         ;;
+    shell)
+        _arguments \\
+            '(- *)'{-h,--help}'[Print help]' \\
+            && return
+        ;;
     completions)
         _arguments \\
             '(- *)'{-h,--help}'[Print help]' \\
             '1:SHELL:(bash zsh fish)'
         ;;
-    help) _values 'command' run threads replay dump draw completions ;;
+    help) _values 'command' run threads replay dump draw shell completions ;;
     esac
     ;;
 esac
@@ -124,11 +132,12 @@ complete -c rheap -n __fish_use_subcommand -f -a threads -d 'Plays a trace of co
 complete -c rheap -n __fish_use_subcommand -f -a replay -d 'Checks a history against a heap that never moves its objects, and reports on it'
 complete -c rheap -n __fish_use_subcommand -f -a dump -d 'Reads a dump, and prints how many roots and objects it has'
 complete -c rheap -n __fish_use_subcommand -f -a draw -d 'Draws the heap of a trace after one of its lines, in SVG'
+complete -c rheap -n __fish_use_subcommand -f -a shell -d 'Answers the lines of a trace as they are typed, and draws the heap'
 complete -c rheap -n __fish_use_subcommand -f -a completions -d 'Prints completions of the program\\'s command lines for a shell'
 complete -c rheap -n __fish_use_subcommand -f -a help -d 'Print this message or the help of the given subcommand(s)'
 complete -c rheap -n '__fish_use_subcommand' -s h -l help -d 'Print help'
 complete -c rheap -n '__fish_use_subcommand' -s V -l version -d 'Print version'
-complete -c rheap -n '__fish_seen_subcommand_from help' -f -a 'run threads replay dump draw completions'
+complete -c rheap -n '__fish_seen_subcommand_from help' -f -a 'run threads replay dump draw shell completions'
 complete -c rheap -n '__fish_seen_subcommand_from run' -l explain -d 'Shows the part of a line that is wrong, and says what may stand there'
 complete -c rheap -n '__fish_seen_subcommand_from run' -l paced -d 'Runs a trace of commands alone, on a heap that collects by itself'
 complete -c rheap -n '__fish_seen_subcommand_from run' -l mark -x -d 'With --paced: a cycle begins where fewer than N words are free'
@@ -146,6 +155,8 @@ complete -c rheap -n '__fish_seen_subcommand_from dump' -s h -l help -d 'Print h
 complete -c rheap -n '__fish_seen_subcommand_from draw' -l explain -d 'Shows the part of a line that is wrong, and says what may stand there'
 complete -c rheap -n '__fish_seen_subcommand_from draw' -l line -x -d 'The line after which it is drawn, from 1; the last if it isn\\'t said'
 complete -c rheap -n '__fish_seen_subcommand_from draw' -s h -l help -d 'Print help'
+complete -c rheap -n '__fish_seen_subcommand_from shell' -s h -l help -d 'Print help'
+complete -c rheap -n '__fish_seen_subcommand_from shell' -f
 complete -c rheap -n '__fish_seen_subcommand_from completions' -s h -l help -d 'Print help'
 complete -c rheap -n '__fish_seen_subcommand_from completions' -f -a 'bash zsh fish'
 ";

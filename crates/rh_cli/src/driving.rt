@@ -9,6 +9,7 @@ ghost use Rattle.rh_cli.specs.declared.fault.LineFault.TheVariants as faults;
 
 use crate::ask::{Ask, Subcommand};
 use crate::completing::print_completions;
+use crate::conversing::{Alone, converse};
 use crate::counting::count;
 use crate::drawing::draw;
 use crate::ending::Ending;
@@ -27,7 +28,8 @@ use std::thread::Threads;
 /// Does what is asked with the file's bytes, which `reader` gives: answers and reports go to `out`,
 /// which is flushed at the end, and one line on failure to `err`. Answers the status that the
 /// program ends with: 0 where it is done, 4 for a wrong history or, of `threads`, one that differs,
-/// 3 where memory or a thread was refused, and else 1. It waits for the threads of `threads`.
+/// 3 where memory or a thread was refused, and else 1. It waits for the threads of `threads`. A
+/// session has no prompt, and no file for a picture.
 pub fn drive<T, A, R, O, E>(
     rt: &T,
     alloc: A,
@@ -96,6 +98,7 @@ where
         Subcommand::Dump => count(alloc, reader, out),
         Subcommand::Dot => print_graph(alloc, reader, out),
         Subcommand::Draw { line } => draw(alloc, reader, out, line),
+        Subcommand::Session => converse(alloc, reader, out, &mut Alone),
         Subcommand::Completions { shell } => print_completions(shell, out),
     }
 }

@@ -266,6 +266,28 @@ Statuses:
 
 Traces and faults are described in docs/formats.md.";
 
+/// What the help of `shell` ends with.
+pub const SHELL: &str = "\
+Each line is answered as it is typed. The first line makes the heap, as in a trace; what may follow
+is all that `rheap run --help` has, and also
+
+  help       the lines in short
+  cycles     a line of numbers for each cycle so far
+  draw FILE  a picture of the heap as it stands, into that file
+
+A line with a fault is answered by its fault and what may stand there; it leaves the heap as it was,
+and the session goes on. The end of the input (Ctrl-D) ends it with the total line. A prompt stands on
+standard error where standard input is a terminal. A trace that is given as the input is answered as
+`rheap run` answers it.
+
+Statuses:
+  0  the input came to its end
+  1  a read or a write failed
+  2  the command line isn't understood
+  3  memory was refused
+
+Lines and answers are described in docs/formats.md.";
+
 /// What the help of `completions` ends with.
 pub const COMPLETIONS: &str = "\
 The text is a script of that shell. It completes the commands, their options and names of files:

@@ -38,6 +38,8 @@ ghost use Rattle.rh_cli.specs.Drive.{Concludes, run_status};
 ghost use Rattle.rh_cli.specs.Fault.{ending_status, status_of};
 ghost use Rattle.rh_cli.specs.Paced.{paced_status};
 ghost use Rattle.rh_cli.specs.Replay.{IsJudged};
+ghost use Rattle.rh_text.specs.RawLine.{lines_of};
+ghost use Rattle.rh_shell.specs.Session.{IsSession};
 ghost use Rattle.rh_cli.specs.declared.ask.Shell.{Shell as ShellOf};
 ghost use Rattle.rh_cli.specs.declared.ask.Subcommand.{Subcommand as SubcommandOf};
 ghost use Rattle.rh_cli.specs.declared.ending.Ending.{Ending as EndingOf};
@@ -57,7 +59,7 @@ use std::alloc::Global;
 /// 0 says that all was done: a run answered its whole trace, a paced run its whole trace of
 /// commands at its pace, a growing run its whole trace of commands, the history of one in threads
 /// is written, a history is legal and its report is written, or the counts of a dump's graph are,
-/// or its text for Graphviz, or a picture, or completions.
+/// or its text for Graphviz, or a picture, or completions, or the whole text of a session.
 pub fn status_0_says_done()
     ensures run { (input : List ℕ) (old new : Option (List ℕ))
         → Concludes SubcommandOf.Run input 0 old new
@@ -88,6 +90,10 @@ pub fn status_0_says_done()
     ensures draw { (line : Option ℕ) (input : List ℕ) (old new : Option (List ℕ))
         → Concludes (SubcommandOf.Draw line) input 0 old new
         → (text : List ℕ) × Appends old new text }
+    ensures session { (input : List ℕ) (old new : Option (List ℕ))
+        → Concludes SubcommandOf.Session input 0 old new
+        → (text : List ℕ) × (summary : SummaryOf) × IsSession (lines_of input) text summary
+        × Appends old new text }
     ensures completions { (shell : ShellOf) (input : List ℕ) (old new : Option (List ℕ))
         → Concludes (SubcommandOf.Completions shell) input 0 old new
         → (text : List ℕ) × Appends old new text }
@@ -230,6 +236,9 @@ pub fn worked_command_lines()
         (codes "rheap" ∷ codes "draw" ∷ codes "x" ∷ codes "--line=0" ∷ []) ≡ Err FaultOf.Line }
     ensures draw_run { false
         ≡ is_taken (codes "rheap" ∷ codes "run" ∷ codes "x" ∷ codes "--line=7" ∷ []) }
+    ensures session { command_and_file_of (codes "rheap" ∷ codes "shell" ∷ [])
+        ≡ Ok (SubcommandOf.Session, codes "-") }
+    ensures session_file { false ≡ is_taken (codes "rheap" ∷ codes "shell" ∷ codes "x" ∷ []) }
     ensures completions { command_and_file_of
         (codes "rheap" ∷ codes "completions" ∷ codes "zsh" ∷ [])
         ≡ Ok (SubcommandOf.Completions ShellOf.Zsh, codes "-") }

@@ -10,7 +10,8 @@ ghost use Rattle.rh_cli.specs.Fault.{IsEarlyFault, IsLateStatus};
 ghost use Rattle.rh_cli.specs.declared.ask.Ask.{Ask as AskOf};
 
 use crate::arguments::read_words;
-use crate::ask::Ask;
+use crate::ask::{Ask, Subcommand};
+use crate::conversing::{Prompter, converse};
 use crate::driving::{drive, show, tell};
 use crate::explaining::drive_explained;
 use crate::fault::LineFault;
@@ -26,18 +27,26 @@ use std::thread::Threads;
 /// How many bytes of answers are gathered before they are written.
 const OUTPUT_BYTES: usize = 65_536;
 
+/// What of the program is a terminal.
+#[derive(Clone, Copy, Debug, PartialEq, Eq)]
+pub struct Terminals {
+    /// Standard input. A session shows a prompt then.
+    pub input: bool,
+    /// Standard error. A fault is explained then, whatever the command line says of that.
+    pub error: bool,
+}
+
 /// Reads the command line, does what it asks, and answers the status to end with. Answers, help and
-/// the version go to standard output, and what went wrong to `err`. What is done in threads is done
-/// in those of `threads`. Where `explains` is set a fault is explained, whatever the command line
-/// says of that.
-pub fn play<R, T, E>(rt: &R, threads: &T, err: &mut E, explains: bool) -> u8
+/// the version go to standard output, what went wrong and a session's prompts to `err`. What is done
+/// in threads is done in those of `threads`.
+pub fn play<R, T, E>(rt: &R, threads: &T, err: &mut E, terminals: Terminals) -> u8
 where
     R: Env + Files + Input + Print + AllocGlobal,
     T: Threads + Wait + Sync,
     E: Write,
     ensures { result ≤ 4 }
 {
-    match carry_out(rt, threads, err, explains) {
+    match carry_out(rt, threads, err, terminals) {
         Ok(status) => status,
         Err(fault) if fault.status() == 0 => show(&fault, &mut io::writer(rt), err),
         Err(fault) => tell(&fault, err),
@@ -45,7 +54,12 @@ where
 }
 
 /// Carries out what the command line asks. An `Err` is for what went wrong before that.
-fn carry_out<R, T, E>(rt: &R, threads: &T, err: &mut E, explains: bool) -> Result<u8, LineFault>
+fn carry_out<R, T, E>(
+    rt: &R,
+    threads: &T,
+    err: &mut E,
+    terminals: Terminals,
+) -> Result<u8, LineFault>
 where
     R: Env + Files + Input + Print + AllocGlobal,
     T: Threads + Wait + Sync,
@@ -55,7 +69,7 @@ where
 {
     let arguments = arguments_of(rt.alloc(), env::args(rt))?;
     let words = words_of(rt.alloc(), arguments.as_slice())?;
-    with_arguments(rt, threads, words.as_slice(), err, explains)
+    with_arguments(rt, threads, words.as_slice(), err, terminals)
 }
 
 /// The arguments that were read, where they are text and memory isn't refused.
@@ -112,7 +126,7 @@ fn with_arguments<'a, R, T, E>(
     threads: &T,
     arguments: &'a [&'a str],
     err: &mut E,
-    explains: bool,
+    terminals: Terminals,
 ) -> Result<u8, LineFault>
 where
     R: Files + Input + Print + AllocGlobal,
@@ -131,7 +145,7 @@ where
     ensures early { IfErr result (λ fault. IsEarlyFault fault) }
 {
     let ask = read_words(rt.alloc(), arguments)?;
-    with_file(rt, threads, &ask, err, explains)
+    with_file(rt, threads, &ask, err, terminals)
 }
 
 /// Carries out a request with its file.
@@ -140,7 +154,7 @@ pub(crate) fn with_file<R, T, E>(
     threads: &T,
     ask: &Ask<'_>,
     err: &mut E,
-    explains: bool,
+    terminals: Terminals,
 ) -> Result<u8, LineFault>
 where
     R: Files + Input + Print + AllocGlobal,
@@ -153,6 +167,10 @@ where
     ensures input { IfErr result (λ fault. ask.now.file.now ≡ codes "-"
         → fault ≡ LineFault.OutOfMemory) }
 {
+    if let Subcommand::Session = ask.subcommand {
+        return hold_session(rt, err, terminals.input);
+    }
+    let explains = terminals.error;
     let mut out = gathering(rt.alloc(), io::writer(rt))?;
     if is_standard_input(ask.file) {
         return Ok(carried_out(
@@ -192,6 +210,23 @@ where
     }
     let mut plain = reader;
     drive(threads, alloc, ask, &mut plain, out, err)
+}
+
+/// Answers the lines of a session, and shows a prompt where that is asked.
+fn hold_session<R, E>(rt: &R, err: &mut E, prompts: bool) -> Result<u8, LineFault>
+where
+    R: Files + Input + Print + AllocGlobal,
+    E: Write,
+    ensures late { IfOk result (λ status. IsLateStatus status) }
+    ensures refused { IfErr result (λ fault. fault ≡ LineFault.OutOfMemory) }
+{
+    let mut out = gathering(rt.alloc(), io::writer(rt))?;
+    let mut reader = rt.reader();
+    let mut host = Prompter { rt, err, prompts };
+    match converse(rt.alloc(), &mut reader, &mut out, &mut host) {
+        Ok(ending) => Ok(ending.status()),
+        Err(fault) => Ok(tell(&fault, host.err)),
+    }
 }
 
 /// A writer that gathers what is written before the other writes it.

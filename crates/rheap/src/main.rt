@@ -1,11 +1,15 @@
 //! The program `rheap`.
 #![tactic(auto)]
 
+use rh_cli::{Terminals, play};
 use std::io::IsTerminal;
 use std::process::ExitCode;
 
 fn main(rt: HostRuntime) -> ExitCode {
     let mut err = rt.stderr();
-    let is_terminal = err.is_terminal();
-    ExitCode::from(rh_cli::play(&rt, &rt, &mut err, is_terminal))
+    let terminals = Terminals {
+        input: rt.stdin().is_terminal(),
+        error: err.is_terminal(),
+    };
+    ExitCode::from(play(&rt, &rt, &mut err, terminals))
 }

@@ -3,11 +3,17 @@
 use crate::expectations::{Row, expect_bytes, expect_equal, expect_prefix};
 use crate::program::terminal::Terminal;
 use crate::texts::{WITHOUT_FIELDS, WITHOUT_FIELDS_ANSWERS};
-use rh_cli::{Ask, LineFault, Subcommand, play, read_words, tell};
+use rh_cli::{Ask, LineFault, Subcommand, Terminals, play, read_words, tell};
 use std::cell::RefCell;
 use std::process::Abort;
 use std::sync::Wait;
 use std::thread::Threads;
+
+/// Neither standard input nor standard error is a terminal.
+const NO_TERMINALS: Terminals = Terminals {
+    input: false,
+    error: false,
+};
 
 /// The commands by name.
 const COMMANDS: &[(&str, Subcommand)] = &[
@@ -61,7 +67,7 @@ fn expect_played(
         is_closed,
         printed: RefCell::new(Vec::new(rt.alloc())),
     };
-    expect_equal(test, play(&terminal, test, &mut told, false), status);
+    expect_equal(test, play(&terminal, test, &mut told, NO_TERMINALS), status);
     expect_written(test, &terminal.printed.into_inner(), out);
     expect_written(test, &told, err);
 }

@@ -2,7 +2,7 @@ use Rattle.std.proofs.Common.{ap, ap₂, codes, true, ◌≡◌, ◌∙◌}
 use Rattle.std.proofs.lemmas.Result.{IfOk-weaker}
 use Rattle.clap.specs.Words.{App, Shape, app_of, new_app, with_subcommand}
 use Rattle.clap.specs.Simple.{app_of_fields, on_top}
-use Rattle.rh_cli.specs.Ask.{rheap_top, file_app, run_app, threads_app, dump_app, draw_app}
+use Rattle.rh_cli.specs.Ask.{rheap_top, file_app, run_app, threads_app, dump_app, draw_app, shell_app}
 use Rattle.rh_cli.proofs.arguments.command_line.Goals as goal
 
 abbrev versioned : App → App
@@ -30,5 +30,7 @@ returns c =
     c.in_ok-subcommand-4.ensures.shape c.in_ok-dump_command.ensures.local ∙ ap₂ with_subcommand replay_is (ap top_of c.in_ok-dump_command.ensures.app) in
     let draw_is : app_of c.in_ok-subcommand-5.field-0 ≡ with_subcommand (with_subcommand (with_subcommand (with_subcommand (with_subcommand rheap_top run_app.top) threads_app.top) (file_app (codes "replay")).top) dump_app.top) draw_app.top =
     c.in_ok-subcommand-5.ensures.shape c.in_ok-draw_command.ensures.local ∙ ap₂ with_subcommand dump_is (ap top_of c.in_ok-draw_command.ensures.app) in
-    IfOk-weaker c.subcommand-6.result _ _
-    (λ r added. added.shape c.in_ok-completions_command.ensures.local ∙ ap₂ with_subcommand draw_is (ap top_of c.in_ok-completions_command.ensures.app)) c.subcommand-6.ensures
+    let shell_is : app_of c.in_ok-subcommand-6.field-0 ≡ with_subcommand to_draw shell_app.top =
+    c.in_ok-subcommand-6.ensures.shape c.shell_command.ensures.local ∙ ap₂ with_subcommand draw_is (ap top_of c.shell_command.ensures.app) in
+    IfOk-weaker c.subcommand-7.result _ _
+    (λ r added. added.shape c.in_ok-completions_command.ensures.local ∙ ap₂ with_subcommand shell_is (ap top_of c.in_ok-completions_command.ensures.app)) c.subcommand-7.ensures

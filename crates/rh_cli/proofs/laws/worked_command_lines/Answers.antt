@@ -156,3 +156,11 @@ returns-clause-no_shell c = refl
 pub returns-clause-completions_bare : goal.returns-clause-completions_bare
 unfolding is_taken clap_on_literals
 returns-clause-completions_bare c = refl
+
+pub returns-clause-session : goal.returns-clause-session
+unfolding command_and_file_of clap_on_literals
+returns-clause-session c = refl
+
+pub returns-clause-session_file : goal.returns-clause-session_file
+unfolding is_taken clap_on_literals
+returns-clause-session_file c = refl
