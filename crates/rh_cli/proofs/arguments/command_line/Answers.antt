@@ -14,23 +14,42 @@ needing_command = on_top (λ (s : Shape). record s { subcommand_required = true 
 abbrev top_of : App → Shape
 top_of a = a.top
 
+-- the program with its commands up to each
+abbrev to_run : App
+to_run = with_subcommand rheap_top run_app.top
+
+abbrev to_threads : App
+to_threads = with_subcommand to_run threads_app.top
+
+abbrev to_replay : App
+to_replay = with_subcommand to_threads (file_app (codes "replay")).top
+
+abbrev to_dump : App
+to_dump = with_subcommand to_replay dump_app.top
+
+abbrev to_draw : App
+to_draw = with_subcommand to_dump draw_app.top
+
+abbrev to_shell : App
+to_shell = with_subcommand to_draw shell_app.top
+
 pub returns : goal.returns
 returns c =
     let new_is : app_of c.about.result ≡ new_app (codes "rheap") = ap app_of_fields c.about.ensures ∙ c.new.ensures.app in
     let versioned_is : app_of c.version.result ≡ versioned (new_app (codes "rheap")) = ap app_of_fields c.version.ensures ∙ ap versioned new_is in
     let required_is : app_of c.subcommand_required.result ≡ rheap_top = ap app_of_fields c.subcommand_required.ensures ∙ ap needing_command versioned_is in
     let top_is : app_of c.in_ok-bin_name.field-0 ≡ rheap_top = ap app_of_fields c.in_ok-bin_name.ensures.0 ∙ required_is in
-    let run_is : app_of c.in_ok-subcommand.field-0 ≡ with_subcommand rheap_top run_app.top =
+    let run_is : app_of c.in_ok-subcommand.field-0 ≡ to_run =
     c.in_ok-subcommand.ensures.shape c.in_ok-run_command.ensures.local ∙ ap₂ with_subcommand top_is (ap top_of c.in_ok-run_command.ensures.app) in
-    let threads_is : app_of c.in_ok-subcommand-2.field-0 ≡ with_subcommand (with_subcommand rheap_top run_app.top) threads_app.top =
+    let threads_is : app_of c.in_ok-subcommand-2.field-0 ≡ to_threads =
     c.in_ok-subcommand-2.ensures.shape c.in_ok-threads_command.ensures.local ∙ ap₂ with_subcommand run_is (ap top_of c.in_ok-threads_command.ensures.app) in
-    let replay_is : app_of c.in_ok-subcommand-3.field-0 ≡ with_subcommand (with_subcommand (with_subcommand rheap_top run_app.top) threads_app.top) (file_app (codes "replay")).top =
+    let replay_is : app_of c.in_ok-subcommand-3.field-0 ≡ to_replay =
     c.in_ok-subcommand-3.ensures.shape c.in_ok-replay_command.ensures.local ∙ ap₂ with_subcommand threads_is (ap top_of c.in_ok-replay_command.ensures.app) in
-    let dump_is : app_of c.in_ok-subcommand-4.field-0 ≡ with_subcommand (with_subcommand (with_subcommand (with_subcommand rheap_top run_app.top) threads_app.top) (file_app (codes "replay")).top) dump_app.top =
+    let dump_is : app_of c.in_ok-subcommand-4.field-0 ≡ to_dump =
     c.in_ok-subcommand-4.ensures.shape c.in_ok-dump_command.ensures.local ∙ ap₂ with_subcommand replay_is (ap top_of c.in_ok-dump_command.ensures.app) in
-    let draw_is : app_of c.in_ok-subcommand-5.field-0 ≡ with_subcommand (with_subcommand (with_subcommand (with_subcommand (with_subcommand rheap_top run_app.top) threads_app.top) (file_app (codes "replay")).top) dump_app.top) draw_app.top =
+    let draw_is : app_of c.in_ok-subcommand-5.field-0 ≡ to_draw =
     c.in_ok-subcommand-5.ensures.shape c.in_ok-draw_command.ensures.local ∙ ap₂ with_subcommand dump_is (ap top_of c.in_ok-draw_command.ensures.app) in
-    let shell_is : app_of c.in_ok-subcommand-6.field-0 ≡ with_subcommand to_draw shell_app.top =
+    let shell_is : app_of c.in_ok-subcommand-6.field-0 ≡ to_shell =
     c.in_ok-subcommand-6.ensures.shape c.shell_command.ensures.local ∙ ap₂ with_subcommand draw_is (ap top_of c.shell_command.ensures.app) in
     IfOk-weaker c.subcommand-7.result _ _
     (λ r added. added.shape c.in_ok-completions_command.ensures.local ∙ ap₂ with_subcommand shell_is (ap top_of c.in_ok-completions_command.ensures.app)) c.subcommand-7.ensures
