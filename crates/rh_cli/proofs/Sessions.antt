@@ -1,11 +1,11 @@
 -- How a session ends the program.
-use Rattle.std.proofs.Common.{◌≡◌, ℕ, List, [], ◌++◌, Option, Some, None, Result, Ok, Err, IfSome, refl, sym, ap, subst, ◌∙◌}
+use Rattle.std.proofs.Common.{ℕ, List, [], Option, Result, Ok, Err, IfSome, refl, sym}
 use Rattle.std.proofs.lemmas.List.{append-nil}
 use Rattle.std.specs.Io.KnownBytes.{Consumes}
 use Rattle.rh_trace.specs.declared.summary.Summary.{Summary}
 use Rattle.rh_shell.specs.declared.fault.ShellFault.{ShellFault}
 use Rattle.rh_shell.specs.Session.{Ends}
-use Rattle.rh_cli.specs.Session.{ConcludesSession, IsSessionStatus, SessionEnds}
+use Rattle.rh_cli.specs.Session.{ConcludesSession, IsSessionStatus}
 use Rattle.rh_cli.proofs.Inputs.{begun_input, whole_input}
 
 -- how a session ended is how it ended by all bytes that were known
