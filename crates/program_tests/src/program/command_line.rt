@@ -79,6 +79,14 @@ const CALLS: &[(&[&[u8]], u8, &[u8], &[u8])] = &[
     (&[b"rheap", b"--help"], 0, b"A managed heap", b""),
     (&[b"rheap", b"run", b"--help"], 0, b"Runs a trace", b""),
     (&[b"rheap", b"run", b"-"], 0, WITHOUT_FIELDS_ANSWERS, b""),
+    (&[b"rheap", b"shell"], 0, WITHOUT_FIELDS_ANSWERS, b""),
+    (
+        &[b"rheap", b"shell", b"--help"],
+        0,
+        b"Answers the lines",
+        b"",
+    ),
+    (&[b"rheap", b"shell", b"a"], 2, b"", b"error: unexpected"),
     (
         &[b"rheap", b"replay", b"--help"],
         0,
@@ -431,6 +439,7 @@ const CLOSED: &[(&[&[u8]], u8, &[u8], &[u8])] = &[
         b"rheap: write failed\n",
     ),
     (&[b"rheap", b"run", b"-"], 1, b"", b"rheap: write failed\n"),
+    (&[b"rheap", b"shell"], 1, b"", b"rheap: write failed\n"),
 ];
 
 #[test]
@@ -459,6 +468,26 @@ fn calls_of_the_program(rt: HostRuntime) {
     for (row, call) in CLOSED.iter().enumerate() {
         expect_played(&Row { rt: &rt, row }, &rt, true, call);
     }
+}
+
+/// A session whose standard input is a terminal.
+#[test]
+fn a_session_shows_its_prompts(rt: HostRuntime) {
+    let mut told = Vec::new(rt.alloc());
+    let terminal = Terminal {
+        rt: &rt,
+        args: &[b"rheap", b"shell"],
+        input: b"heap 64 8 8 2 2\n1 alloc 1.0 2\n",
+        is_closed: false,
+        printed: RefCell::new(Vec::new(rt.alloc())),
+    };
+    let terminals = Terminals {
+        input: true,
+        error: false,
+    };
+    expect_equal(&rt, play(&terminal, &rt, &mut told, terminals), 0);
+    expect_prefix(&rt, &terminal.printed.into_inner(), b"object 2\ntotal ");
+    expect_bytes(&rt, &told, b"> > > \n");
 }
 
 #[test]
