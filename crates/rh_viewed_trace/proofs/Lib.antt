@@ -1,0 +1,3 @@
+pub mod LegalHistory
+pub mod InTurn
+pub mod EngineRuns

@@ -1,0 +1,5 @@
+pub mod Lines
+pub mod Json
+pub mod Views
+pub mod History
+pub mod Runs

@@ -1,0 +1,32 @@
+-- The lines of traces and histories, as they are told.
+use Rattle.std.specs.Prelude.{ℕ, ◌+◌, ◌-◌, List, [], ◌∷◌, ◌++◌, Option, Some, None, decimal, slice_get}
+use Rattle.std.specs.List.{join_with_byte}
+use Rattle.rh_syntax.specs.CommandAnswers.{answer_text}
+use Rattle.rh_syntax.specs.Spelling.{command_text, request_parts}
+use Rattle.rh_syntax.specs.declared.request.Request.{Request}
+use Rattle.rh_replay.specs.declared.call.Call.{Call}
+use Rattle.rh_replay.specs.declared.checking.Verdict.{Verdict}
+use Rattle.rh_replay.specs.declared.checking.Verdict.TheVariants.{Legal, Wrong}
+use Rattle.rh_replay.specs.History.{HistoryState}
+use Rattle.rh_replay.specs.Report.{report_text}
+
+-- the text of a request's line, without its line end
+abbrev pub request_text : Request → List ℕ
+request_text request = join_with_byte 32 (request_parts request)
+
+-- LINE, COMMAND and ANSWER of a history's line, with tabs between; the first call stands on line 2
+abbrev pub call_echo : ℕ → Call → List ℕ
+call_echo at call =
+    decimal (at + 1) ++ 9 ∷ (command_text call.owner call.command ++ 9 ∷ (answer_text call.answer
+    ++ 10 ∷ []))
+
+-- that of the call, where there is one
+abbrev pub call_echo_if : ℕ → Option Call → List ℕ
+call_echo_if at None = []
+call_echo_if at (Some call) = call_echo at call
+
+-- the report on a history, and the line of its first wrong call, counted from 1
+abbrev pub report_echo : HistoryState → Verdict → List ℕ
+report_echo h (Legal count) = report_text h (Legal count)
+report_echo h (Wrong at expected) =
+    report_text h (Wrong at expected) ++ call_echo_if at (slice_get h.calls (at - 1))

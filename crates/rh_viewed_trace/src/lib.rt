@@ -1,0 +1,23 @@
+//! Runs of traces, seen in other ways: each line with its answer, as objects of JSON, and as the
+//! history of the run's commands. And reports on histories and dumps as JSON.
+#![tactic(auto)]
+
+mod answering;
+mod buffer;
+mod echo;
+mod json;
+pub mod laws;
+mod player;
+mod playing;
+mod reports;
+mod request_text;
+mod sort;
+mod stop;
+mod telling;
+mod viewing;
+
+pub use echo::report_echo;
+pub use player::Player;
+pub use reports::{fault_json, put_json_dump, put_json_string, report_json};
+pub use request_text::put_request_text;
+pub use telling::Telling;
