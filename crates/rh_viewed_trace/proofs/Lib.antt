@@ -1,3 +1,4 @@
 pub mod LegalHistory
 pub mod InTurn
 pub mod EngineRuns
+pub mod Pieces

@@ -14,16 +14,16 @@ use Rattle.rh_replay.specs.Report.{report_text}
 abbrev pub request_text : Request → List ℕ
 request_text request = join_with_byte 32 (request_parts request)
 
--- LINE, COMMAND and ANSWER of a history's line, with tabs between; the first call stands on line 2
+-- LINE, COMMAND and ANSWER of a history's line, with tabs between
 abbrev pub call_echo : ℕ → Call → List ℕ
-call_echo at call =
-    decimal (at + 1) ++ 9 ∷ (command_text call.owner call.command ++ 9 ∷ (answer_text call.answer
+call_echo line call =
+    decimal line ++ 9 ∷ (command_text call.owner call.command ++ 9 ∷ (answer_text call.answer
     ++ 10 ∷ []))
 
--- that of the call, where there is one
+-- that of the call, counted from 1, where there is one; the first stands on line 2
 abbrev pub call_echo_if : ℕ → Option Call → List ℕ
 call_echo_if at None = []
-call_echo_if at (Some call) = call_echo at call
+call_echo_if at (Some call) = call_echo (at + 1) call
 
 -- the report on a history, and the line of its first wrong call, counted from 1
 abbrev pub report_echo : HistoryState → Verdict → List ℕ

@@ -1,29 +1,43 @@
 //! The report on a history, and the line of its first wrong call.
 
-ghost use Rattle.std.specs.Prelude.{◌≡◌, ◌-◌, ◌++◌, IfOk, OnOk, slice_get};
+ghost use Rattle.std.specs.Prelude.{◌≡◌, ◌-◌, [], ◌∷◌, ◌++◌, IfOk, OnOk, slice_get};
+ghost use Rattle.rh_syntax.specs.CommandAnswers.{answer_text};
 ghost use Rattle.rh_viewed_trace.specs.Lines.{call_echo, call_echo_if, report_echo};
 
 use crate::buffer::{put, put_part};
-use rh_layout::OutOfMemory;
+use rh_layout::{OutOfMemory, Refusal, Reply};
 use rh_replay::{Call, History, Verdict, report};
 use rh_syntax::{put_answer_text, put_command_text};
 use rh_text::LineText;
 use std::alloc::Allocator;
 
-/// Puts the line of a call, counted from 1: its number in the history's text, its command, and its
-/// answer, with tabs between.
-fn put_call<A: Allocator>(text: &mut Vec<u8, A>, at: u32, call: &Call) -> Result<(), OutOfMemory>
-    ensures { OnOk result (text.new.items ≡ text.old.items ++ call_echo at call.now) }
+/// Puts an answer, and a line end.
+fn put_answer<A: Allocator>(
+    text: &mut Vec<u8, A>,
+    answer: Result<Reply, Refusal>,
+) -> Result<(), OutOfMemory>
+    ensures { OnOk result (text.new.items
+        ≡ text.old.items ++ (answer_text answer ++ 10 ∷ [])) }
 {
-    let mut line = LineText::new();
-    put_part(text, b"", u64::from(at) + 1)?;
-    put(text, b"\t")?;
-    put_command_text(&mut line, call.owner, &call.command);
-    put(text, line.as_bytes())?;
-    put(text, b"\t")?;
-    put_answer_text(&mut line, call.answer);
-    put(text, line.as_bytes())?;
+    let mut part = LineText::new();
+    put_answer_text(&mut part, answer);
+    put(text, part.as_bytes())?;
     put(text, b"\n")?;
+    Ok(())
+}
+
+/// Puts the line of a call: its number in the history's text, its command, and its answer, with tabs
+/// between.
+fn put_call<A: Allocator>(text: &mut Vec<u8, A>, line: u64, call: &Call) -> Result<(), OutOfMemory>
+    ensures { OnOk result (text.new.items ≡ text.old.items ++ call_echo line call.now) }
+{
+    let mut part = LineText::new();
+    put_command_text(&mut part, call.owner, &call.command);
+    put_part(text, b"", line)?;
+    put(text, b"\t")?;
+    put(text, part.as_bytes())?;
+    put(text, b"\t")?;
+    put_answer(text, call.answer)?;
     Ok(())
 }
 
@@ -38,7 +52,7 @@ fn put_call_if<A: Allocator>(
 {
     match calls.get((at as usize).saturating_sub(1)) {
         Some(call) => {
-            put_call(text, at, call)?;
+            put_call(text, u64::from(at) + 1, call)?;
             Ok(())
         }
         None => Ok(()),
