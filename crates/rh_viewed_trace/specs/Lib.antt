@@ -3,3 +3,4 @@ pub mod Json
 pub mod Views
 pub mod History
 pub mod Runs
+pub mod Run

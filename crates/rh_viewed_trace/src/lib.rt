@@ -5,19 +5,24 @@
 mod answering;
 mod buffer;
 mod echo;
+mod fault;
 mod json;
 pub mod laws;
 mod player;
 mod playing;
 mod reports;
 mod request_text;
+mod running;
 mod sort;
 mod stop;
 mod telling;
 mod viewing;
 
 pub use echo::report_echo;
+pub use fault::ViewFault;
 pub use player::Player;
 pub use reports::{fault_json, put_json_dump, put_json_string, report_json};
 pub use request_text::put_request_text;
+pub use rh_trace::Summary;
+pub use running::{run_viewed, run_viewed_logged};
 pub use telling::Telling;

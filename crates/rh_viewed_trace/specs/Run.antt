@@ -1,0 +1,89 @@
+-- What a viewed run of an input gives, and how it ends.
+use Rattle.std.specs.Prelude.{◌≡◌, ◌⊎◌, ℕ, ◌<◌, ◌≤◌, List, ◌++◌, length, Option, Some, None, Result, Ok, Err}
+use Rattle.std.specs.Io.KnownBytes.{Appends, Consumes, Keeps}
+use Rattle.rh_core.specs.Config.{fault_of}
+use Rattle.rh_text.specs.Output.{AppendsLess, AppendsPrefix}
+use Rattle.rh_engine.specs.Engine.{EngineState}
+use Rattle.rh_syntax.specs.declared.request.Request.{Request}
+use Rattle.rh_syntax.specs.Reading.{trace_of}
+use Rattle.rh_syntax.specs.Spelling.{Script}
+use Rattle.rh_replay.specs.History.{HistoryState}
+use Rattle.rh_replay.specs.Spelling.{spelling}
+use Rattle.rh_trace.specs.declared.summary.Summary.{Summary}
+use Rattle.rh_trace.specs.Answers.{Answered}
+use Rattle.rh_trace.specs.Run.{answers_of, answers_to, config_of, new_run, summary_of}
+use Rattle.rh_viewed_trace.specs.declared.fault.ViewFault.{ViewFault}
+use Rattle.rh_viewed_trace.specs.declared.fault.ViewFault.TheVariants as faults
+use Rattle.rh_viewed_trace.specs.declared.telling.Telling.{Telling}
+use Rattle.rh_viewed_trace.specs.History.{calls_of, history_of, with_calls}
+use Rattle.rh_viewed_trace.specs.Views.{Viewed, numbered, total_text, views_text}
+
+-- the lines of requests that an engine answers, the first of which has number 2
+abbrev pub lines_to : EngineState → List Request → List Viewed
+lines_to e requests = numbered 2 requests (answers_to e requests)
+
+-- what is told of them, and what they add up to
+abbrev pub view_to : Telling → EngineState → List Request → List ℕ
+view_to telling e requests =
+    views_text telling (lines_to e requests)
+    ++ total_text telling (summary_of (answers_to e requests))
+
+-- the text of a history with their calls after its own
+abbrev pub history_text_to : HistoryState → EngineState → List Request → List ℕ
+history_text_to h e requests = spelling (with_calls h (calls_of (lines_to e requests)))
+
+-- the lines of a run
+abbrev pub viewed_of : Script → List Viewed
+viewed_of script = lines_to (new_run script) script.requests
+
+-- the history of its commands
+abbrev pub run_history : Script → HistoryState
+run_history script =
+    history_of script.header.owners script.header.slots (viewed_of script)
+
+-- what is told of a run: its lines, and what it adds up to
+abbrev pub view_of_run : Telling → Script → List ℕ
+view_of_run telling script = view_to telling (new_run script) script.requests
+
+-- the input is this trace, and within the limit of bytes
+abbrev pub IsTrace : List ℕ → Script → Type 0
+IsTrace input script = (length input ≤ 16777216) × (trace_of input ≡ Ok script)
+
+-- and the sizes of its heap have no fault
+abbrev pub IsRun : List ℕ → Script → Type 0
+IsRun input script = IsTrace input script × (fault_of (config_of script.header) ≡ None)
+
+-- where the two writers were before, and where they are now
+pub record Written : Type 0 where
+  pub old : Option (List ℕ)
+  pub new : Option (List ℕ)
+  pub history_old : Option (List ℕ)
+  pub history_new : Option (List ℕ)
+
+-- nothing was written
+abbrev pub KeepsBoth : Written → Type 0
+KeepsBoth w = Keeps w.old w.new × Keeps w.history_old w.history_new
+
+-- How a viewed run of an input ends: with both texts written; with the first fault of the input and
+-- nothing written; where a write failed with a prefix of both, and not all of the first; where
+-- memory was refused with a prefix of what is told of the lines, or, if it was before the first of
+-- them, with nothing; and where a read failed with nothing.
+abbrev pub Ends : Telling → List ℕ → Result Summary ViewFault → Written → Type 0
+Ends telling input (Ok summary) w =
+    (script : Script) × IsRun input script × (summary ≡ summary_of (answers_of script))
+    × Appends w.old w.new (view_of_run telling script)
+    × Appends w.history_old w.history_new (spelling (run_history script))
+Ends telling input (Err faults.Write) w =
+    (script : Script) × IsRun input script × AppendsLess w.old w.new (view_of_run telling script)
+    × AppendsPrefix w.history_old w.history_new (spelling (run_history script))
+Ends telling input (Err faults.OutOfMemory) w =
+    Keeps w.history_old w.history_new
+    × (Keeps w.old w.new ⊎ ((script : Script) × IsRun input script
+    × AppendsPrefix w.old w.new (views_text telling (viewed_of script))))
+Ends telling input (Err faults.Long) w = (16777216 < length input) × KeepsBoth w
+Ends telling input (Err (faults.Trace fault)) w =
+    (length input ≤ 16777216) × (trace_of input ≡ Err fault) × KeepsBoth w
+Ends telling input (Err (faults.New fault)) w =
+    (script : Script) × IsTrace input script
+    × (fault_of (config_of script.header) ≡ Some fault) × KeepsBoth w
+Ends telling input (Err faults.Read) w = KeepsBoth w

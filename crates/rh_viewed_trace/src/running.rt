@@ -1,0 +1,239 @@
+//! A trace run on a new heap, and seen in other ways.
+
+ghost use Rattle.std.specs.Prelude.{◌≡◌, ◌+◌, ◌≤◌, List, ℕ, None, length, false, IfOk, IfSome, IsErrOf};
+ghost use Rattle.std.specs.Io.KnownBytes.{Appends, Consumes, Keeps};
+ghost use Rattle.rh_core.specs.Config.{fault_of};
+ghost use Rattle.rh_text.specs.IoLog.{AreSpent};
+ghost use Rattle.rh_text.specs.Output.{AppendsLess, AppendsPrefix};
+ghost use Rattle.rh_replay.specs.History.{empty_history};
+ghost use Rattle.rh_trace.specs.Run.{answers_to, config_of as config_of_header, summary_of};
+ghost use Rattle.rh_viewed_trace.specs.Run.{Ends, history_text_to, lines_to, view_to};
+ghost use Rattle.rh_viewed_trace.specs.Views.{views_text};
+
+use crate::fault::ViewFault;
+use crate::playing::play;
+use crate::stop::Stop;
+use crate::telling::Telling;
+use crate::viewing::put_end;
+use rh_core::{Heap, HeapError};
+use rh_engine::Engine;
+use rh_layout::OutOfMemory;
+use rh_layout::limits::{MAX_HISTORY_CALLS, MAX_INPUT_BYTES};
+use rh_replay::{Recorder, RecorderError, write_history_logged};
+use rh_syntax::{Header, ParseError, Request, parse};
+use rh_text::{InputFault, IoLog, LineText, read_all, send};
+use rh_trace::{Summary, config_of};
+use std::alloc::Allocator;
+use std::io;
+
+/// A recorder with room for so many calls, of the sizes of a first line without fault.
+fn recorder_for<A: Allocator + Copy>(
+    alloc: A,
+    header: Header,
+    calls: usize,
+) -> Result<Recorder<A>, OutOfMemory>
+    requires sizes { fault_of (config_of_header header) ≡ None }
+    requires few_calls { calls ≤ MAX_HISTORY_CALLS }
+    ensures history { IfOk result (λ recorder.
+        recorder.history ≡ empty_history header.owners header.slots) }
+    ensures room { IfOk result (λ recorder. calls ≤ recorder.limit) }
+{
+    let limit = (calls as u32).max(1);
+    match Recorder::new(alloc, header.owners, header.slots, limit) {
+        Ok(recorder) => Ok(recorder),
+        Err(RecorderError::OutOfMemory) => Err(OutOfMemory),
+        Err(RecorderError::BadRoots) => unreachable!(),
+        Err(RecorderError::BadHistory) => unreachable!(),
+    }
+}
+
+/// Plays the lines of a trace, and writes what is told of them, the history, and what the run adds
+/// up to.
+fn run_lines<A: Allocator + Copy, W: io::Write, H: io::Write>(
+    alloc: A,
+    engine: &mut Engine<A>,
+    requests: &[Request],
+    telling: Telling,
+    recorder: &mut Recorder<A>,
+    out: &mut W,
+    history: &mut H,
+    writes: &mut IoLog,
+) -> Result<Summary, Stop>
+    requires none_failed { writes.old.failed ≡ false }
+    requires room { length recorder.old.history.calls + length requests.now
+        ≤ recorder.old.limit }
+    ensures done { IfOk result (λ summary.
+        (summary ≡ summary_of (answers_to engine.old requests.now))
+        × Appends (W.contents out.old) (W.contents out.new)
+        (view_to telling engine.old requests.now)
+        × Appends (H.contents history.old) (H.contents history.new)
+        (history_text_to recorder.old.history engine.old requests.now)) }
+    ensures write { IsErrOf result Stop.Write
+        → AppendsLess (W.contents out.old) (W.contents out.new)
+        (view_to telling engine.old requests.now)
+        × AppendsPrefix (H.contents history.old) (H.contents history.new)
+        (history_text_to recorder.old.history engine.old requests.now) }
+    ensures memory { IsErrOf result Stop.OutOfMemory
+        → AppendsPrefix (W.contents out.old) (W.contents out.new)
+        (views_text telling (lines_to engine.old requests.now))
+        × Keeps (H.contents history.old) (H.contents history.new) }
+    ensures failed { IsErrOf result Stop.Write → AreSpent writes.new }
+    ensures none_failed { ¬ IsErrOf result Stop.Write → writes.new.failed ≡ false }
+{
+    let counted = play(alloc, engine, requests, telling, recorder, out, writes)?;
+    write_history_logged(recorder.history(), history, writes)?;
+    let mut text = LineText::new();
+    put_end(&mut text, telling, &counted);
+    send(out, writes, text.as_bytes())?;
+    Ok(counted)
+}
+
+/// Runs the trace that the input spells.
+fn run_input<A: Allocator + Copy, W: io::Write, H: io::Write>(
+    alloc: A,
+    input: &[u8],
+    telling: Telling,
+    out: &mut W,
+    history: &mut H,
+    writes: &mut IoLog,
+) -> Result<Summary, ViewFault>
+    requires few { length input.now ≤ MAX_INPUT_BYTES }
+    requires none_failed { writes.old.failed ≡ false }
+    ensures ends { Ends telling input.now result (record {
+      old = W.contents out.old;
+      new = W.contents out.new;
+      history_old = H.contents history.old;
+      history_new = H.contents history.new;
+    }) }
+    ensures never_read { ¬ IsErrOf result ViewFault.Read }
+    ensures failed { IsErrOf result ViewFault.Write → AreSpent writes.new }
+    ensures none_failed { ¬ IsErrOf result ViewFault.Write → writes.new.failed ≡ false }
+{
+    let trace = match parse(alloc, input) {
+        Ok(trace) => trace,
+        Err(ParseError::Fault(fault)) => return Err(ViewFault::Trace(fault)),
+        Err(ParseError::OutOfMemory) => return Err(ViewFault::OutOfMemory),
+    };
+    let config = config_of(trace.header());
+    if let Some(fault) = config.fault() {
+        return Err(ViewFault::New(fault));
+    }
+    let heap = match Heap::new(alloc, config) {
+        Ok(heap) => heap,
+        Err(HeapError::Config(fault)) => return Err(ViewFault::New(fault)),
+        Err(HeapError::OutOfMemory) => return Err(ViewFault::OutOfMemory),
+    };
+    let mut recorder = match recorder_for(alloc, trace.header(), trace.len()) {
+        Ok(recorder) => recorder,
+        Err(OutOfMemory) => return Err(ViewFault::OutOfMemory),
+    };
+    let mut engine = Engine::new(alloc, heap);
+    match run_lines(
+        alloc,
+        &mut engine,
+        trace.requests(),
+        telling,
+        &mut recorder,
+        out,
+        history,
+        writes,
+    ) {
+        Ok(summary) => Ok(summary),
+        Err(Stop::Write) => Err(ViewFault::Write),
+        Err(Stop::OutOfMemory) => Err(ViewFault::OutOfMemory),
+    }
+}
+
+/// Reads a trace whole, runs its lines in order on a new heap and on trays, and tells each line, and
+/// at the end what the run adds up to, to `out`. Before that, once all lines were run, it writes the
+/// history of the commands to `history`: those that no limit refused. Nothing is written before the
+/// whole trace was read and its heap made. What is told of a line is put together in memory, also a
+/// dump, and written in one write. A trace has at most 16,777,216 bytes, and must end within
+/// 33,554,432 reads.
+///
+/// # Errors
+///
+/// Of the faults of an input the first is answered: `Long`, then `Trace`, then `New`. `Read` comes
+/// where a read failed or was one too many, `Write` where a write of either writer failed or
+/// 33,554,432 writes of one line didn't come to its end, `OutOfMemory` where the allocator refused
+/// memory; what may be written then, `ViewFault` says.
+pub fn run_viewed<A: Allocator + Copy, R: io::Read, W: io::Write, H: io::Write>(
+    alloc: A,
+    reader: &mut R,
+    telling: Telling,
+    out: &mut W,
+    history: &mut H,
+) -> Result<Summary, ViewFault>
+    // For a reader that tells its bytes: how a run of the bytes that it had ends.
+    ensures told { IfSome (R.remaining reader.old) (λ input. Ends telling input result (record {
+      old = W.contents out.old;
+      new = W.contents out.new;
+      history_old = H.contents history.old;
+      history_new = H.contents history.new;
+    })) }
+    // How a run of the bytes that were taken ends.
+    ensures read { (input : List ℕ)
+        × Consumes (R.remaining reader.old) (R.remaining reader.new) input
+        × Ends telling input result (record {
+          old = W.contents out.old;
+          new = W.contents out.new;
+          history_old = H.contents history.old;
+          history_new = H.contents history.new;
+        }) }
+{
+    run_viewed_logged(
+        alloc,
+        reader,
+        &mut IoLog::new(),
+        telling,
+        out,
+        history,
+        &mut IoLog::new(),
+    )
+}
+
+/// Runs a trace as `run_viewed` does, and tells in `reads` whether a read failed, and in `writes`
+/// whether a write of either writer did.
+///
+/// # Errors
+///
+/// As `run_viewed`.
+pub fn run_viewed_logged<A: Allocator + Copy, R: io::Read, W: io::Write, H: io::Write>(
+    alloc: A,
+    reader: &mut R,
+    reads: &mut IoLog,
+    telling: Telling,
+    out: &mut W,
+    history: &mut H,
+    writes: &mut IoLog,
+) -> Result<Summary, ViewFault>
+    requires no_read_failed { reads.old.failed ≡ false }
+    requires no_write_failed { writes.old.failed ≡ false }
+    // As of `run_viewed`.
+    ensures told { IfSome (R.remaining reader.old) (λ input. Ends telling input result (record {
+      old = W.contents out.old;
+      new = W.contents out.new;
+      history_old = H.contents history.old;
+      history_new = H.contents history.new;
+    })) }
+    ensures read { (input : List ℕ)
+        × Consumes (R.remaining reader.old) (R.remaining reader.new) input
+        × Ends telling input result (record {
+          old = W.contents out.old;
+          new = W.contents out.new;
+          history_old = H.contents history.old;
+          history_new = H.contents history.new;
+        }) }
+    // Read is answered only where a read failed or none was left, and so with Write.
+    ensures read_failed { IsErrOf result ViewFault.Read → AreSpent reads.new }
+    ensures no_read_failed { ¬ IsErrOf result ViewFault.Read → reads.new.failed ≡ false }
+    ensures write_failed { IsErrOf result ViewFault.Write → AreSpent writes.new }
+    ensures no_write_failed { ¬ IsErrOf result ViewFault.Write → writes.new.failed ≡ false }
+{
+    match read_all(alloc, reader, reads) {
+        Ok(input) => run_input(alloc, &input, telling, out, history, writes),
+        Err(InputFault::Read) => Err(ViewFault::Read),
+        Err(InputFault::Long) => Err(ViewFault::Long),
+        Err(InputFault::OutOfMemory) => Err(ViewFault::OutOfMemory),
+    }
+}
