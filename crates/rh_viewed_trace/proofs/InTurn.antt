@@ -57,7 +57,7 @@ numbered-last line [] [] request answered same = ap (λ (n : ℕ). record { line
 numbered-last line [] (a ∷ answers) request answered same = absurd (omega (arith, same))
 numbered-last line (r ∷ requests) [] request answered same = absurd (omega (arith, same))
 numbered-last line (r ∷ requests) (a ∷ answers) request answered same =
-    let first = record { line = line; request = r; answered = a } in
+    let first : Viewed = record { line = line; request = r; answered = a } in
     let on : line + 1 + length requests ≡ line + length (r ∷ requests) = omega arith in
     ap (λ (lines : List Viewed). first ∷ lines) (numbered-last (line + 1) requests answers request answered (omega (arith, same))
     ∙ ap (λ (n : ℕ). numbered (line + 1) requests answers ++ record { line = n; request = request; answered = answered } ∷ []) on)

@@ -48,8 +48,8 @@ returns-in_err-send-clause-stopped g c =
     let s = c.in_ok-play_line.ensures.stepped in
     let new = c.play_line.new in
     let p = err_from_is_err_and c.from_residual-in_err-send.result c.from_residual-in_err-send.ensures.1 in
-    let is : c.deref-2.result.now ≡ view_text c.args.telling (record { line = l.line; request = c.request-item.result; answered = s.0 }) =
-    view_is c.args.telling l.line c.request-item.result s.0 c.is_structured-structured.result c.clear.new.self.items c.deref.result.now c.clear-2.new.self.items c.put_view.new.text.items c.deref-2.result.now c.is_structured-structured.ensures c.clear.ensures.items (c.deref.ensures.value ∙ s.3) c.clear-2.ensures.items c.in_ok-put_view.ensures c.deref-2.ensures.value in
+    let is : c.deref-in-loop-request.result.now ≡ view_text c.args.telling (record { line = l.line; request = c.request-item.result; answered = s.0 }) =
+    view_is c.args.telling l.line c.request-item.result s.0 c.is_structured-structured.result c.clear.new.self.items c.deref.result.now c.clear-in-loop-request.new.self.items c.put_view.new.text.items c.deref-in-loop-request.result.now c.is_structured-structured.ensures c.clear.ensures.items (c.deref.ensures.value ∙ s.3) c.clear-in-loop-request.ensures.items c.in_ok-put_view.ensures c.deref-in-loop-request.ensures.value in
     let cut = subst (AppendsLess (known l.out) (known c.send.new.writer)) is c.in_err-send.ensures.err in
     rw p.1 (Played-cut g.P.Player.Steps c.args.telling c.args.player.now l.player new.player c.args.recorder.now.history l.recorder.history new.recorder.history (known c.args.out.now) (known l.out) l.counted new.summary c.args.requests.now l.request-index l.line c.request-item.result s.0
     c.loop-request-test.true l.invariant.line c.request-item.is l.invariant.played s.1 s.2 s.4 (known c.send.new.writer) cut)
@@ -60,8 +60,8 @@ loop-request-preserved g c =
     let l = c.loop-request in
     let s = c.in_ok-play_line.ensures.stepped in
     let new = c.play_line.new in
-    let is : c.deref-2.result.now ≡ view_text c.args.telling (record { line = l.line; request = c.request-item.result; answered = s.0 }) =
-    view_is c.args.telling l.line c.request-item.result s.0 c.is_structured-structured.result c.clear.new.self.items c.deref.result.now c.clear-2.new.self.items c.put_view.new.text.items c.deref-2.result.now c.is_structured-structured.ensures c.clear.ensures.items (c.deref.ensures.value ∙ s.3) c.clear-2.ensures.items c.in_ok-put_view.ensures c.deref-2.ensures.value in
+    let is : c.deref-in-loop-request.result.now ≡ view_text c.args.telling (record { line = l.line; request = c.request-item.result; answered = s.0 }) =
+    view_is c.args.telling l.line c.request-item.result s.0 c.is_structured-structured.result c.clear.new.self.items c.deref.result.now c.clear-in-loop-request.new.self.items c.put_view.new.text.items c.deref-in-loop-request.result.now c.is_structured-structured.ensures c.clear.ensures.items (c.deref.ensures.value ∙ s.3) c.clear-in-loop-request.ensures.items c.in_ok-put_view.ensures c.deref-in-loop-request.ensures.value in
     let sent = subst (Appends (known l.out) (known c.send.new.writer)) is c.in_ok-send.ensures.ok in
     let noted = length-noted l.recorder.history new.recorder.history c.request-item.result s.0 s.4 in
     record {
