@@ -134,7 +134,7 @@ module _ {A : Type 0} (keeps : StaysWellFormed A) (steps : Steps A) where
   )
 
   -- a trace that was read, with its answers
-  plain_run : Begins → Dumps → (input : List ℕ) (script : Script) (old new : Option (List ℕ)) → Consumes old new input → trace_of input ≡ Ok script → IsWellFormed (new_heap (config_of script.header)) → IsPlainRun script (answers_of script) old new
+  pub plain_run : Begins → Dumps → (input : List ℕ) (script : Script) (old new : Option (List ℕ)) → Consumes old new input → trace_of input ≡ Ok script → IsWellFormed (new_heap (config_of script.header)) → IsPlainRun script (answers_of script) old new
   plain_run begins dumps input script old new consumed is fine =
       let takes = trace_of-means input script is in
       record {
