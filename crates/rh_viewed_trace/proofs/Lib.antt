@@ -2,3 +2,5 @@ pub mod LegalHistory
 pub mod InTurn
 pub mod EngineRuns
 pub mod Pieces
+pub mod ScriptRuns
+pub mod PlainRuns

@@ -18,6 +18,21 @@ use Rattle.rh_viewed_trace.specs.declared.telling.Telling.{Telling}
 use Rattle.rh_viewed_trace.specs.History.{calls_of, history_of, with_calls}
 use Rattle.rh_viewed_trace.specs.Views.{Viewed, numbered, total_text, views_text}
 
+-- what is told of requests that were answered so, and of what they add up to
+abbrev pub told_of : Telling → List Request → List Answered → Summary → List ℕ
+told_of telling requests answers summary =
+    views_text telling (numbered 2 requests answers) ++ total_text telling summary
+
+-- the text of a history with their calls after its own
+abbrev pub noted_text : HistoryState → List Request → List Answered → List ℕ
+noted_text h requests answers =
+    spelling (with_calls h (calls_of (numbered 2 requests answers)))
+
+-- the history of a trace that was answered so
+abbrev pub history_with : Script → List Answered → HistoryState
+history_with script answers =
+    history_of script.header.owners script.header.slots (numbered 2 script.requests answers)
+
 -- the lines of requests that an engine answers, the first of which has number 2
 abbrev pub lines_to : EngineState → List Request → List Viewed
 lines_to e requests = numbered 2 requests (answers_to e requests)
@@ -25,12 +40,11 @@ lines_to e requests = numbered 2 requests (answers_to e requests)
 -- what is told of them, and what they add up to
 abbrev pub view_to : Telling → EngineState → List Request → List ℕ
 view_to telling e requests =
-    views_text telling (lines_to e requests)
-    ++ total_text telling (summary_of (answers_to e requests))
+    told_of telling requests (answers_to e requests) (summary_of (answers_to e requests))
 
 -- the text of a history with their calls after its own
 abbrev pub history_text_to : HistoryState → EngineState → List Request → List ℕ
-history_text_to h e requests = spelling (with_calls h (calls_of (lines_to e requests)))
+history_text_to h e requests = noted_text h requests (answers_to e requests)
 
 -- the lines of a run
 abbrev pub viewed_of : Script → List Viewed
@@ -38,8 +52,7 @@ viewed_of script = lines_to (new_run script) script.requests
 
 -- the history of its commands
 abbrev pub run_history : Script → HistoryState
-run_history script =
-    history_of script.header.owners script.header.slots (viewed_of script)
+run_history script = history_with script (answers_of script)
 
 -- what is told of a run: its lines, and what it adds up to
 abbrev pub view_of_run : Telling → Script → List ℕ

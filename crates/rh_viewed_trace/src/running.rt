@@ -5,16 +5,26 @@ ghost use Rattle.std.specs.Io.KnownBytes.{Appends, Consumes, Keeps};
 ghost use Rattle.rh_core.specs.Config.{fault_of};
 ghost use Rattle.rh_text.specs.IoLog.{AreSpent};
 ghost use Rattle.rh_text.specs.Output.{AppendsLess, AppendsPrefix};
+ghost use Rattle.rh_syntax.specs.Spelling.{Script};
 ghost use Rattle.rh_replay.specs.History.{empty_history};
-ghost use Rattle.rh_trace.specs.Run.{answers_to, config_of as config_of_header, summary_of};
-ghost use Rattle.rh_viewed_trace.specs.Run.{Ends, history_text_to, lines_to, view_to};
+ghost use Rattle.rh_replay.specs.Legal.{IsLegal};
+ghost use Rattle.rh_replay.specs.Spelling.{spelling};
+ghost use Rattle.rh_trace.specs.Answers.{Answered};
+ghost use Rattle.rh_trace.specs.Run.{IsPlainRun, answers_to, config_of as config_of_header, summary_of};
+ghost use Rattle.rh_viewed_trace.specs.Run.{Ends, history_text_to, history_with, lines_to, told_of, view_to};
 ghost use Rattle.rh_viewed_trace.specs.Views.{views_text};
 
 use crate::fault::ViewFault;
+use crate::laws::the_history_of_plain_answers_is_legal;
 use crate::playing::play;
 use crate::stop::Stop;
 use crate::telling::Telling;
 use crate::viewing::put_end;
+use rh_core::laws::heaps_answer_as_plain_heaps;
+use rh_core::laws::runs::{
+    a_new_heap_is_well_formed, an_event_answers_as_the_plain_heap,
+    every_event_keeps_a_heap_well_formed,
+};
 use rh_core::{Heap, HeapError};
 use rh_engine::Engine;
 use rh_layout::OutOfMemory;
@@ -22,6 +32,7 @@ use rh_layout::limits::{MAX_HISTORY_CALLS, MAX_INPUT_BYTES};
 use rh_replay::{Recorder, RecorderError, write_history_logged};
 use rh_syntax::{Header, ParseError, Request, parse};
 use rh_text::{InputFault, IoLog, LineText, read_all, send};
+use rh_trace::laws::dumps::a_heap_has_the_dump_of_its_plain_heap;
 use rh_trace::{Summary, config_of};
 use std::alloc::Allocator;
 use std::io;
@@ -180,6 +191,17 @@ pub fn run_viewed<A: Allocator + Copy, R: io::Read, W: io::Write, H: io::Write>(
           history_old = H.contents history.old;
           history_new = H.contents history.new;
         }) }
+    // Said of the plain heap alone, where the run succeeded: which trace was read, which answers
+    // were told and noted, and that the history is legal.
+    ensures plain { IfOk result (λ summary. (script : Script)
+        × (answers : List Answered)
+        × IsPlainRun script answers (R.remaining reader.old) (R.remaining reader.new)
+        × (summary ≡ summary_of answers)
+        × Appends (W.contents out.old) (W.contents out.new)
+        (told_of telling script.requests answers summary)
+        × Appends (H.contents history.old) (H.contents history.new)
+        (spelling (history_with script answers))
+        × IsLegal (history_with script answers)) }
 {
     run_viewed_logged(
         alloc,
@@ -224,12 +246,28 @@ pub fn run_viewed_logged<A: Allocator + Copy, R: io::Read, W: io::Write, H: io::
           history_old = H.contents history.old;
           history_new = H.contents history.new;
         }) }
+    ensures plain { IfOk result (λ summary. (script : Script)
+        × (answers : List Answered)
+        × IsPlainRun script answers (R.remaining reader.old) (R.remaining reader.new)
+        × (summary ≡ summary_of answers)
+        × Appends (W.contents out.old) (W.contents out.new)
+        (told_of telling script.requests answers summary)
+        × Appends (H.contents history.old) (H.contents history.new)
+        (spelling (history_with script answers))
+        × IsLegal (history_with script answers)) }
     // Read is answered only where a read failed or none was left, and so with Write.
     ensures read_failed { IsErrOf result ViewFault.Read → AreSpent reads.new }
     ensures no_read_failed { ¬ IsErrOf result ViewFault.Read → reads.new.failed ≡ false }
     ensures write_failed { IsErrOf result ViewFault.Write → AreSpent writes.new }
     ensures no_write_failed { ¬ IsErrOf result ViewFault.Write → writes.new.failed ≡ false }
 {
+    // The laws from which the clause on the plain heap follows.
+    heaps_answer_as_plain_heaps();
+    a_new_heap_is_well_formed();
+    an_event_answers_as_the_plain_heap::<A>();
+    every_event_keeps_a_heap_well_formed::<A>();
+    a_heap_has_the_dump_of_its_plain_heap();
+    the_history_of_plain_answers_is_legal();
     match read_all(alloc, reader, reads) {
         Ok(input) => run_input(alloc, &input, telling, out, history, writes),
         Err(InputFault::Read) => Err(ViewFault::Read),

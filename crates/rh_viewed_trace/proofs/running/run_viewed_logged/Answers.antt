@@ -1,0 +1,28 @@
+use Rattle.std.proofs.Common.{sym, subst, ◌∙◌}
+use Rattle.std.specs.Io.KnownBytes.{Consumes}
+use Rattle.rh_viewed_trace.specs.Run.{Written}
+use Rattle.rh_viewed_trace.proofs.PlainRuns.{viewed_plain}
+use Rattle.rh_viewed_trace.proofs.ScriptRuns.{refused_first, refused_first_of}
+use Rattle.rh_viewed_trace.proofs.running.run_viewed_logged.Goals as goal
+
+pub returns-in-Err-OutOfMemory-clause-told : goal.returns-in-Err-OutOfMemory-clause-told
+returns-in-Err-OutOfMemory-clause-told g c = refused_first_of c.args.telling (g.R.Read.remaining c.args.reader.now) (g.W.Write.contents c.args.out.now) (g.H.Write.contents c.args.history.now)
+
+pub returns-in-Err-OutOfMemory-clause-read : goal.returns-in-Err-OutOfMemory-clause-read
+returns-in-Err-OutOfMemory-clause-read g c =
+    let given = c.read_all.ensures.bytes in
+    (given.0, given.1, refused_first c.args.telling given.0 (g.W.Write.contents c.args.out.now) (g.H.Write.contents c.args.history.now))
+
+pub returns-in-Ok-clause-plain : goal.returns-in-Ok-clause-plain
+returns-in-Ok-clause-plain g c =
+    let known = g.R.Read.remaining in
+    let w : Written = record { old = g.W.Write.contents c.args.out.now; new = g.W.Write.contents c.run_input.new.out; history_old = g.H.Write.contents c.args.history.now; history_new = g.H.Write.contents c.run_input.new.history } in
+    let begins = c.heaps_answer_as_plain_heaps.ensures.new in
+    let steps = c.an_event_answers_as_the_plain_heap.ensures in
+    let keeps = c.every_event_keeps_a_heap_well_formed.ensures.event in
+    let dumps = c.a_heap_has_the_dump_of_its_plain_heap.ensures in
+    let fine = c.a_new_heap_is_well_formed.ensures.well_formed in
+    let legal = c.the_history_of_plain_answers_is_legal.ensures in
+    let read : Consumes (known c.args.reader.now) (known c.read_all.new.reader) c.deref.result.now =
+    subst (Consumes (known c.args.reader.now) (known c.read_all.new.reader)) (sym (c.deref.ensures.value ∙ c.in-Ok.ensures.bytes.2.0)) c.in-Ok.ensures.bytes.1 in
+    viewed_plain keeps steps begins dumps fine legal c.args.telling c.deref.result.now (known c.args.reader.now) (known c.read_all.new.reader) w read c.run_input.result c.run_input.ensures.ends
