@@ -14,21 +14,21 @@ use Rattle.rh_viewed_trace.specs.Views.{numbered, total_text, views_text}
 use Rattle.rh_viewed_trace.proofs.EngineRuns.{answers_to-runs, less_than_all, prefix_of_all}
 use Rattle.rh_viewed_trace.proofs.running.run_lines.Goals as goal
 
-pub returns-in_err-play-clause-write : goal.returns-in_err-play-clause-write
-returns-in_err-play-clause-write g c = λ failed.
+pub returns-in_err-counted-clause-write : goal.returns-in_err-counted-clause-write
+returns-in_err-counted-clause-write g c = λ failed.
     let known = g.W.Write.contents in
     let e = c.args.engine.now in
     let requests = c.args.requests.now in
-    let cut = c.in_err-play.ensures.stopped in
+    let cut = c.in_err-counted.ensures.stopped in
     let lines = prefix_of_all c.args.telling e cut.1 requests cut.0 cut.2 (known c.args.out.now) (known c.play.new.out) cut.3 cut.4 in (
       less_than_all c.args.telling (summary_of (answers_to e requests)) (views_text c.args.telling (lines_to e requests)) (known c.args.out.now) (known c.play.new.out) lines,
       ([], history_text_to c.args.recorder.now.history e requests, refl, Appends-none (g.H.Write.contents c.args.history.now)),
     )
 
-pub returns-in_err-play-clause-memory : goal.returns-in_err-play-clause-memory
-returns-in_err-play-clause-memory g c = λ refused.
+pub returns-in_err-counted-clause-memory : goal.returns-in_err-counted-clause-memory
+returns-in_err-counted-clause-memory g c = λ refused.
     let known = g.W.Write.contents in
-    let cut = c.in_err-play.ensures.stopped in (
+    let cut = c.in_err-counted.ensures.stopped in (
       prefix_of_all c.args.telling c.args.engine.now cut.1 c.args.requests.now cut.0 cut.2 (known c.args.out.now) (known c.play.new.out) cut.3 cut.4,
       Keeps-same (g.H.Write.contents c.args.history.now),
     )
@@ -40,7 +40,7 @@ returns-in_err-write_history_logged-clause-write g c = λ failed.
     let e = c.args.engine.now in
     let requests = c.args.requests.now in
     let h = c.args.recorder.now.history in
-    let told = c.in_ok-play.ensures.done in
+    let told = c.in_ok-counted.ensures.done in
     let same = answers_to-runs e requests c.play.new.player told.0 told.1 in
     let text = views_text c.args.telling (lines_to e requests) in
     let sent : Appends (known c.args.out.now) (known c.play.new.out) text = subst (λ (xs : List Answered). Appends (known c.args.out.now) (known c.play.new.out) (views_text c.args.telling (numbered 2 requests xs))) same told.4 in
@@ -57,12 +57,12 @@ returns-in_err-send-clause-write g c = λ failed.
     let e = c.args.engine.now in
     let requests = c.args.requests.now in
     let h = c.args.recorder.now.history in
-    let told = c.in_ok-play.ensures.done in
+    let told = c.in_ok-counted.ensures.done in
     let same = answers_to-runs e requests c.play.new.player told.0 told.1 in
     let text = views_text c.args.telling (lines_to e requests) in
     let end = total_text c.args.telling (summary_of (answers_to e requests)) in
     let sent : Appends (known c.args.out.now) (known c.play.new.out) text = subst (λ (xs : List Answered). Appends (known c.args.out.now) (known c.play.new.out) (views_text c.args.telling (numbered 2 requests xs))) same told.4 in
-    let counted : c.in_ok-play.counted ≡ summary_of (answers_to e requests) = told.2 ∙ ap summary_of same in
+    let counted : c.in_ok-counted.counted ≡ summary_of (answers_to e requests) = told.2 ∙ ap summary_of same in
     let last : c.as_bytes.result.now ≡ end = c.as_bytes.ensures ∙ c.put_end.ensures ∙ ap (total_text c.args.telling) counted in
     let less = subst (AppendsLess (known c.play.new.out) (known c.send.new.writer)) last c.in_err-send.ensures.err in
     let noted : c.history.result.now.contents ≡ with_calls h (calls_of (lines_to e requests)) = c.history.ensures ∙ told.3 ∙ ap (λ (xs : List Answered). with_calls h (calls_of (numbered 2 requests xs))) same in
@@ -79,12 +79,12 @@ returns-clause-done g c =
     let e = c.args.engine.now in
     let requests = c.args.requests.now in
     let h = c.args.recorder.now.history in
-    let told = c.in_ok-play.ensures.done in
+    let told = c.in_ok-counted.ensures.done in
     let same = answers_to-runs e requests c.play.new.player told.0 told.1 in
     let text = views_text c.args.telling (lines_to e requests) in
     let end = total_text c.args.telling (summary_of (answers_to e requests)) in
     let sent : Appends (known c.args.out.now) (known c.play.new.out) text = subst (λ (xs : List Answered). Appends (known c.args.out.now) (known c.play.new.out) (views_text c.args.telling (numbered 2 requests xs))) same told.4 in
-    let counted : c.in_ok-play.counted ≡ summary_of (answers_to e requests) = told.2 ∙ ap summary_of same in
+    let counted : c.in_ok-counted.counted ≡ summary_of (answers_to e requests) = told.2 ∙ ap summary_of same in
     let last : c.as_bytes.result.now ≡ end = c.as_bytes.ensures ∙ c.put_end.ensures ∙ ap (total_text c.args.telling) counted in
     let more = Appends-at (known c.play.new.out) (known c.send.new.writer) c.as_bytes.result.now end last c.in_ok-send.ensures.ok in
     let noted : c.history.result.now.contents ≡ with_calls h (calls_of (lines_to e requests)) = c.history.ensures ∙ told.3 ∙ ap (λ (xs : List Answered). with_calls h (calls_of (numbered 2 requests xs))) same in
