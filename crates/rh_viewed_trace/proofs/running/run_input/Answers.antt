@@ -32,7 +32,7 @@ returns-in-Err-Config-clause-ends g c =
     let fault = c.in-Err-Config.fault in
     let config_is : c.config_of-config.result ≡ config_of script.header = c.config_of-config.ensures ∙ ap config_of c.header.ensures in
     let refused = c.in-Err-Config.is ∙ ap Err c.in-Err-Config.field-0-is in
-    (script, (c.requires.few, c.in-Ok.ensures.exact), ap fault_of (sym config_is) ∙ (c.new.ensures.fault fault).0 refused, (Keeps-same (g.W.Write.contents c.args.out.now), Keeps-same (g.H.Write.contents c.args.history.now)))
+    rw c.in-Err-Config.field-0-is (script, (c.requires.few, c.in-Ok.ensures.exact), ap fault_of (sym config_is) ∙ (c.new.ensures.fault fault).0 refused, (Keeps-same (g.W.Write.contents c.args.out.now), Keeps-same (g.H.Write.contents c.args.history.now)))
 
 pub returns-in-Ok-run_lines-clause-ends : goal.returns-in-Ok-run_lines-clause-ends
 returns-in-Ok-run_lines-clause-ends g c =
