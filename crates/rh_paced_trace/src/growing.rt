@@ -28,7 +28,7 @@ use std::io;
 
 /// How the heap of a run grows: from the words of the first line to so many, for the biggest object
 /// that the requests ask for.
-fn growth_of(header: Header, requests: &[Request], at_most: u32) -> Growth
+pub fn growth_of(header: Header, requests: &[Request], at_most: u32) -> Growth
     ensures { result ≡ growth_of_script (record {
       header = header;
       requests = requests.now;
@@ -51,7 +51,7 @@ fn growth_of(header: Header, requests: &[Request], at_most: u32) -> Growth
 /// # Errors
 ///
 /// `Limits` and `Pace`, as `run_growing`; `OutOfMemory` where memory was refused.
-fn new_heap<A: Allocator + Copy>(alloc: A, growth: Growth) -> Result<GrowingHeap<A>, PacedFault>
+pub fn new_heap<A: Allocator + Copy>(alloc: A, growth: Growth) -> Result<GrowingHeap<A>, PacedFault>
     requires factor { growth.factor ≡ DEFAULT_FACTOR }
     requires sizes { fault_of (config_at growth growth.at_least) ≡ None }
     ensures made { IfOk result (λ heap. heap ≡ growing_heap growth) }

@@ -12,7 +12,9 @@ mod running;
 mod trace_heap;
 
 pub use fault::PacedFault;
-pub use growing::{run_growing, run_growing_logged};
+pub use growing::{growth_of, new_heap, run_growing, run_growing_logged};
+pub use lines::other_fault;
+pub use pacing::pace_of;
 pub use rh_pace::{Pace, PaceError};
 pub use rh_trace::Summary;
 pub use running::{run_bytes, run_paced, run_paced_logged};

@@ -4,3 +4,5 @@ pub mod EngineRuns
 pub mod Pieces
 pub mod ScriptRuns
 pub mod PlainRuns
+pub mod CommandRuns
+pub mod WayRuns

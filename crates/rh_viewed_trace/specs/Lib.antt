@@ -4,3 +4,4 @@ pub mod Views
 pub mod History
 pub mod Runs
 pub mod Run
+pub mod Ways

@@ -37,15 +37,6 @@ history_with script answers =
 abbrev pub lines_to : EngineState → List Request → List Viewed
 lines_to e requests = numbered 2 requests (answers_to e requests)
 
--- what is told of them, and what they add up to
-abbrev pub view_to : Telling → EngineState → List Request → List ℕ
-view_to telling e requests =
-    told_of telling requests (answers_to e requests) (summary_of (answers_to e requests))
-
--- the text of a history with their calls after its own
-abbrev pub history_text_to : HistoryState → EngineState → List Request → List ℕ
-history_text_to h e requests = noted_text h requests (answers_to e requests)
-
 -- the lines of a run
 abbrev pub viewed_of : Script → List Viewed
 viewed_of script = lines_to (new_run script) script.requests
@@ -56,7 +47,8 @@ run_history script = history_with script (answers_of script)
 
 -- what is told of a run: its lines, and what it adds up to
 abbrev pub view_of_run : Telling → Script → List ℕ
-view_of_run telling script = view_to telling (new_run script) script.requests
+view_of_run telling script =
+    told_of telling script.requests (answers_of script) (summary_of (answers_of script))
 
 -- the input is this trace, and within the limit of bytes
 abbrev pub IsTrace : List ℕ → Script → Type 0

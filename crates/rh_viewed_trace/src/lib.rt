@@ -4,12 +4,17 @@
 
 mod answering;
 mod buffer;
+mod collecting;
 mod echo;
 mod fault;
+mod growing;
 mod json;
 pub mod laws;
+mod lines;
+mod paced;
 mod player;
 mod playing;
+mod recording;
 mod reports;
 mod request_text;
 mod running;
@@ -20,9 +25,12 @@ mod viewing;
 
 pub use echo::report_echo;
 pub use fault::ViewFault;
+pub use growing::{run_viewed_growing, run_viewed_growing_logged};
+pub use paced::{run_viewed_paced, run_viewed_paced_logged};
 pub use player::Player;
 pub use reports::{fault_json, put_json_dump, put_json_string, report_json};
 pub use request_text::put_request_text;
+pub use rh_paced_trace::PacedFault;
 pub use rh_trace::Summary;
 pub use running::{run_viewed, run_viewed_logged};
 pub use telling::Telling;

@@ -1,25 +1,21 @@
 //! A trace run on a new heap, and seen in other ways.
 
-ghost use Rattle.std.specs.Prelude.{◌≡◌, ◌+◌, ◌≤◌, List, ℕ, None, length, false, IfOk, IfSome, IsErrOf};
-ghost use Rattle.std.specs.Io.KnownBytes.{Appends, Consumes, Keeps};
-ghost use Rattle.rh_core.specs.Config.{fault_of};
+ghost use Rattle.std.specs.Prelude.{◌≡◌, ◌≤◌, List, ℕ, length, false, IfOk, IfSome, IsErrOf};
+ghost use Rattle.std.specs.Io.KnownBytes.{Appends, Consumes};
 ghost use Rattle.rh_text.specs.IoLog.{AreSpent};
-ghost use Rattle.rh_text.specs.Output.{AppendsLess, AppendsPrefix};
 ghost use Rattle.rh_syntax.specs.Spelling.{Script};
-ghost use Rattle.rh_replay.specs.History.{empty_history};
 ghost use Rattle.rh_replay.specs.Legal.{IsLegal};
 ghost use Rattle.rh_replay.specs.Spelling.{spelling};
 ghost use Rattle.rh_trace.specs.Answers.{Answered};
-ghost use Rattle.rh_trace.specs.Run.{IsPlainRun, answers_to, config_of as config_of_header, summary_of};
-ghost use Rattle.rh_viewed_trace.specs.Run.{Ends, history_text_to, history_with, lines_to, told_of, view_to};
-ghost use Rattle.rh_viewed_trace.specs.Views.{views_text};
+ghost use Rattle.rh_trace.specs.Run.{IsPlainRun, summary_of};
+ghost use Rattle.rh_viewed_trace.specs.Run.{Ends, history_with, told_of};
 
 use crate::fault::ViewFault;
 use crate::laws::the_history_of_plain_answers_is_legal;
-use crate::playing::play;
+use crate::lines::run_lines;
+use crate::recording::recorder_for;
 use crate::stop::Stop;
 use crate::telling::Telling;
-use crate::viewing::put_end;
 use rh_core::laws::heaps_answer_as_plain_heaps;
 use rh_core::laws::runs::{
     a_new_heap_is_well_formed, an_event_answers_as_the_plain_heap,
@@ -28,76 +24,13 @@ use rh_core::laws::runs::{
 use rh_core::{Heap, HeapError};
 use rh_engine::Engine;
 use rh_layout::OutOfMemory;
-use rh_layout::limits::{MAX_HISTORY_CALLS, MAX_INPUT_BYTES};
-use rh_replay::{Recorder, RecorderError, write_history_logged};
-use rh_syntax::{Header, ParseError, Request, parse};
-use rh_text::{InputFault, IoLog, LineText, read_all, send};
+use rh_layout::limits::MAX_INPUT_BYTES;
+use rh_syntax::{ParseError, parse};
+use rh_text::{InputFault, IoLog, read_all};
 use rh_trace::laws::dumps::a_heap_has_the_dump_of_its_plain_heap;
 use rh_trace::{Summary, config_of};
 use std::alloc::Allocator;
 use std::io;
-
-/// A recorder with room for so many calls, of the sizes of a first line without fault.
-fn recorder_for<A: Allocator + Copy>(
-    alloc: A,
-    header: Header,
-    calls: usize,
-) -> Result<Recorder<A>, OutOfMemory>
-    requires sizes { fault_of (config_of_header header) ≡ None }
-    requires few_calls { calls ≤ MAX_HISTORY_CALLS }
-    ensures history { IfOk result (λ recorder.
-        recorder.history ≡ empty_history header.owners header.slots) }
-    ensures room { IfOk result (λ recorder. calls ≤ recorder.limit) }
-{
-    let limit = (calls as u32).max(1);
-    match Recorder::new(alloc, header.owners, header.slots, limit) {
-        Ok(recorder) => Ok(recorder),
-        Err(RecorderError::OutOfMemory) => Err(OutOfMemory),
-        Err(RecorderError::BadRoots) => unreachable!(),
-        Err(RecorderError::BadHistory) => unreachable!(),
-    }
-}
-
-/// Plays the lines of a trace, and writes what is told of them, the history, and what the run adds
-/// up to.
-fn run_lines<A: Allocator + Copy, W: io::Write, H: io::Write>(
-    alloc: A,
-    engine: &mut Engine<A>,
-    requests: &[Request],
-    telling: Telling,
-    recorder: &mut Recorder<A>,
-    out: &mut W,
-    history: &mut H,
-    writes: &mut IoLog,
-) -> Result<Summary, Stop>
-    requires none_failed { writes.old.failed ≡ false }
-    requires room { length recorder.old.history.calls + length requests.now
-        ≤ recorder.old.limit }
-    ensures done { IfOk result (λ summary.
-        (summary ≡ summary_of (answers_to engine.old requests.now))
-        × Appends (W.contents out.old) (W.contents out.new)
-        (view_to telling engine.old requests.now)
-        × Appends (H.contents history.old) (H.contents history.new)
-        (history_text_to recorder.old.history engine.old requests.now)) }
-    ensures write { IsErrOf result Stop.Write
-        → AppendsLess (W.contents out.old) (W.contents out.new)
-        (view_to telling engine.old requests.now)
-        × AppendsPrefix (H.contents history.old) (H.contents history.new)
-        (history_text_to recorder.old.history engine.old requests.now) }
-    ensures memory { IsErrOf result Stop.OutOfMemory
-        → AppendsPrefix (W.contents out.old) (W.contents out.new)
-        (views_text telling (lines_to engine.old requests.now))
-        × Keeps (H.contents history.old) (H.contents history.new) }
-    ensures failed { IsErrOf result Stop.Write → AreSpent writes.new }
-    ensures none_failed { ¬ IsErrOf result Stop.Write → writes.new.failed ≡ false }
-{
-    let counted = play(alloc, engine, requests, telling, recorder, out, writes)?;
-    write_history_logged(recorder.history(), history, writes)?;
-    let mut text = LineText::new();
-    put_end(&mut text, telling, &counted);
-    send(out, writes, text.as_bytes())?;
-    Ok(counted)
-}
 
 /// Runs the trace that the input spells.
 fn run_input<A: Allocator + Copy, W: io::Write, H: io::Write>(

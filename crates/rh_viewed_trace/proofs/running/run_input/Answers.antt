@@ -20,6 +20,9 @@ recorder_for-requires-clause-sizes g c =
     let config_is : c.config_of-config.result ≡ config_of script.header = c.config_of-config.ensures ∙ ap config_of c.header.ensures in
     ap (λ (h : Header). fault_of (config_of h)) c.header-2.ensures ∙ sym (ap fault_of config_is) ∙ sym c.fault.ensures ∙ c.in_default.is
 
+pub run_lines-requires-clause-plays : goal.run_lines-requires-clause-plays
+run_lines-requires-clause-plays g c = λ i request within. tt
+
 pub run_lines-requires-clause-room : goal.run_lines-requires-clause-room
 run_lines-requires-clause-room g c =
     let none = ap (λ (h : HistoryState). length h.calls) c.in-Ok-recorder_for.ensures.history in
@@ -44,7 +47,7 @@ returns-in-Ok-run_lines-clause-ends g c =
     let empty : c.in-Ok-recorder_for.recorder.history ≡ empty_history script.header.owners script.header.slots = c.in-Ok-recorder_for.ensures.history ∙ ap (λ (h : Header). empty_history h.owners h.slots) c.header-2.ensures in
     let run : IsRun c.args.input.now script = ((c.requires.few, c.in-Ok.ensures.exact), sizes) in
     let done = c.in-Ok-run_lines.ensures.done in
-    run_done c.args.telling c.args.input.now script c.new-engine.result c.requests.result.now c.in-Ok-recorder_for.recorder.history w run begins c.requests.ensures empty c.in-Ok-run_lines.summary done.0 done.1 done.2
+    run_done c.args.telling c.args.input.now script c.new-engine.result c.requests.result.now c.in-Ok-recorder_for.recorder.history w run begins c.requests.ensures empty c.run_lines.new.player c.in-Ok-run_lines.summary done.0 done.1 done.2 done.3 done.4
 
 pub returns-in-Err-Write-clause-ends : goal.returns-in-Err-Write-clause-ends
 returns-in-Err-Write-clause-ends g c =
@@ -56,7 +59,7 @@ returns-in-Err-Write-clause-ends g c =
     let empty : c.in-Ok-recorder_for.recorder.history ≡ empty_history script.header.owners script.header.slots = c.in-Ok-recorder_for.ensures.history ∙ ap (λ (h : Header). empty_history h.owners h.slots) c.header-2.ensures in
     let run : IsRun c.args.input.now script = ((c.requires.few, c.in-Ok.ensures.exact), sizes) in
     let cut = c.run_lines.ensures.write (c.in-Err-Write.is ∙ ap Err c.in-Err-Write.field-0-is) in
-    run_cut c.args.telling c.args.input.now script c.new-engine.result c.requests.result.now c.in-Ok-recorder_for.recorder.history w run begins c.requests.ensures empty cut.0 cut.1
+    run_cut c.args.telling c.args.input.now script c.new-engine.result c.requests.result.now c.in-Ok-recorder_for.recorder.history w run begins c.requests.ensures empty c.run_lines.new.player cut
 
 pub returns-clause-ends : goal.returns-clause-ends
 returns-clause-ends g c =
@@ -68,7 +71,7 @@ returns-clause-ends g c =
     let empty : c.in-Ok-recorder_for.recorder.history ≡ empty_history script.header.owners script.header.slots = c.in-Ok-recorder_for.ensures.history ∙ ap (λ (h : Header). empty_history h.owners h.slots) c.header-2.ensures in
     let run : IsRun c.args.input.now script = ((c.requires.few, c.in-Ok.ensures.exact), sizes) in
     let cut = c.run_lines.ensures.memory (c.in-Err-OutOfMemory-run_lines.is ∙ ap Err c.in-Err-OutOfMemory-run_lines.field-0-is) in
-    run_refused c.args.telling c.args.input.now script c.new-engine.result c.requests.result.now c.in-Ok-recorder_for.recorder.history w run begins c.requests.ensures empty cut.1 cut.0
+    run_refused c.args.telling c.args.input.now script c.new-engine.result c.requests.result.now c.in-Ok-recorder_for.recorder.history w run begins c.requests.ensures empty cut
 
 pub returns-in-Err-Write-clause-failed : goal.returns-in-Err-Write-clause-failed
 returns-in-Err-Write-clause-failed g c = λ failed. c.run_lines.ensures.failed (c.in-Err-Write.is ∙ ap Err c.in-Err-Write.field-0-is)

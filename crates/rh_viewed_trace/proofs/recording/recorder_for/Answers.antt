@@ -4,7 +4,7 @@ use Rattle.rh_mutator.specs.Config.{FaultHolds}
 use Rattle.rh_mutator.specs.lemmas.FirstFault.{fault_of-none}
 use Rattle.rh_syntax.specs.declared.line.Header.{Header}
 use Rattle.rh_trace.specs.Run.{config_of}
-use Rattle.rh_viewed_trace.proofs.running.recorder_for.Goals as goal
+use Rattle.rh_viewed_trace.proofs.recording.recorder_for.Goals as goal
 
 -- owners or slots that no recorder has are a fault of the sizes
 bad_roots : (header : Header) → (header.owners ≡ 0) ⊎ ((16 < header.owners) ⊎ ((header.slots ≡ 0) ⊎ (256 < header.slots))) → FaultHolds (config_of header) BadRoots

@@ -1,0 +1,182 @@
+//! A trace of commands, run on a new heap that collects by itself, and seen in other ways.
+
+ghost use Rattle.std.specs.Prelude.{◌≡◌, ◌≤◌, List, ℕ, length, false, IfSome, IsErrOf};
+ghost use Rattle.std.specs.Io.KnownBytes.{Consumes};
+ghost use Rattle.rh_text.specs.IoLog.{AreSpent};
+ghost use Rattle.rh_viewed_trace.specs.Ways.{EndsPaced};
+
+use crate::lines::run_lines;
+use crate::recording::recorder_for;
+use crate::stop::Stop;
+use crate::telling::Telling;
+use rh_core::HeapError;
+use rh_layout::OutOfMemory;
+use rh_layout::limits::MAX_INPUT_BYTES;
+use rh_pace::PacedHeap;
+use rh_paced_trace::laws::the_first_line_that_is_no_command_is_told;
+use rh_paced_trace::{PacedFault, other_fault, pace_of};
+use rh_syntax::{ParseError, parse};
+use rh_text::{InputFault, IoLog, read_all};
+use rh_trace::{Summary, config_of};
+use std::alloc::Allocator;
+use std::io;
+
+/// Runs the trace of commands that the input spells.
+fn run_input<A: Allocator + Copy, W: io::Write, H: io::Write>(
+    alloc: A,
+    input: &[u8],
+    mark: Option<u32>,
+    telling: Telling,
+    out: &mut W,
+    history: &mut H,
+    writes: &mut IoLog,
+) -> Result<Summary, PacedFault>
+    requires few { length input.now ≤ MAX_INPUT_BYTES }
+    requires none_failed { writes.old.failed ≡ false }
+    ensures ends { EndsPaced mark telling input.now result (record {
+      old = W.contents out.old;
+      new = W.contents out.new;
+      history_old = H.contents history.old;
+      history_new = H.contents history.new;
+    }) }
+    ensures never_read { ¬ IsErrOf result PacedFault.Read }
+    ensures failed { IsErrOf result PacedFault.Write → AreSpent writes.new }
+    ensures none_failed { ¬ IsErrOf result PacedFault.Write → writes.new.failed ≡ false }
+{
+    // The law from which it follows that all lines are commands.
+    the_first_line_that_is_no_command_is_told();
+    let trace = match parse(alloc, input) {
+        Ok(trace) => trace,
+        Err(ParseError::Fault(fault)) => return Err(PacedFault::Trace(fault)),
+        Err(ParseError::OutOfMemory) => return Err(PacedFault::OutOfMemory),
+    };
+    let lines = trace.len();
+    if let Some(fault) = other_fault(trace.requests()) {
+        return Err(PacedFault::Trace(fault));
+    }
+    let config = config_of(trace.header());
+    if let Some(fault) = config.fault() {
+        return Err(PacedFault::New(fault));
+    }
+    let pace = match pace_of(trace.header(), trace.requests(), mark) {
+        Ok(pace) => pace,
+        Err(why) => return Err(PacedFault::Pace(why)),
+    };
+    let mut heap = match PacedHeap::new(alloc, config, pace) {
+        Ok(heap) => heap,
+        Err(HeapError::Config(fault)) => return Err(PacedFault::New(fault)),
+        Err(HeapError::OutOfMemory) => return Err(PacedFault::OutOfMemory),
+    };
+    let mut recorder = match recorder_for(alloc, trace.header(), lines) {
+        Ok(recorder) => recorder,
+        Err(OutOfMemory) => return Err(PacedFault::OutOfMemory),
+    };
+    match run_lines(
+        alloc,
+        &mut heap,
+        trace.requests(),
+        telling,
+        &mut recorder,
+        out,
+        history,
+        writes,
+    ) {
+        Ok(summary) => Ok(summary),
+        Err(Stop::Write) => Err(PacedFault::Write),
+        Err(Stop::OutOfMemory) => Err(PacedFault::OutOfMemory),
+    }
+}
+
+/// Reads a trace of commands whole, runs its lines on a new heap that collects by itself, as
+/// `run_paced` does, and tells and notes them as `run_viewed` does.
+///
+/// # Errors
+///
+/// Of the faults of an input the first is answered: `Long`, then `Trace`, then `New`, then `Pace`,
+/// which never comes with a mark; nothing is written then. `Read`, `Write` and `OutOfMemory` come
+/// where `run_viewed` answers them, and leave what it leaves.
+pub fn run_viewed_paced<A: Allocator + Copy, R: io::Read, W: io::Write, H: io::Write>(
+    alloc: A,
+    reader: &mut R,
+    mark: Option<u32>,
+    telling: Telling,
+    out: &mut W,
+    history: &mut H,
+) -> Result<Summary, PacedFault>
+    // For a reader that tells its bytes: how a run of the bytes that it had ends.
+    ensures told { IfSome (R.remaining reader.old) (λ input. EndsPaced mark telling input result
+        (record {
+          old = W.contents out.old;
+          new = W.contents out.new;
+          history_old = H.contents history.old;
+          history_new = H.contents history.new;
+        })) }
+    // How a run of the bytes that were taken ends.
+    ensures read { (input : List ℕ)
+        × Consumes (R.remaining reader.old) (R.remaining reader.new) input
+        × EndsPaced mark telling input result (record {
+          old = W.contents out.old;
+          new = W.contents out.new;
+          history_old = H.contents history.old;
+          history_new = H.contents history.new;
+        }) }
+{
+    run_viewed_paced_logged(
+        alloc,
+        reader,
+        &mut IoLog::new(),
+        mark,
+        telling,
+        out,
+        history,
+        &mut IoLog::new(),
+    )
+}
+
+/// Runs a trace of commands as `run_viewed_paced` does, and tells in `reads` whether a read failed,
+/// and in `writes` whether a write of either writer did.
+///
+/// # Errors
+///
+/// As `run_viewed_paced`.
+pub fn run_viewed_paced_logged<A: Allocator + Copy, R: io::Read, W: io::Write, H: io::Write>(
+    alloc: A,
+    reader: &mut R,
+    reads: &mut IoLog,
+    mark: Option<u32>,
+    telling: Telling,
+    out: &mut W,
+    history: &mut H,
+    writes: &mut IoLog,
+) -> Result<Summary, PacedFault>
+    requires no_read_failed { reads.old.failed ≡ false }
+    requires no_write_failed { writes.old.failed ≡ false }
+    // As of `run_viewed_paced`.
+    ensures told { IfSome (R.remaining reader.old) (λ input. EndsPaced mark telling input result
+        (record {
+          old = W.contents out.old;
+          new = W.contents out.new;
+          history_old = H.contents history.old;
+          history_new = H.contents history.new;
+        })) }
+    ensures read { (input : List ℕ)
+        × Consumes (R.remaining reader.old) (R.remaining reader.new) input
+        × EndsPaced mark telling input result (record {
+          old = W.contents out.old;
+          new = W.contents out.new;
+          history_old = H.contents history.old;
+          history_new = H.contents history.new;
+        }) }
+    // Read is answered only where a read failed or none was left, and so with Write.
+    ensures read_failed { IsErrOf result PacedFault.Read → AreSpent reads.new }
+    ensures no_read_failed { ¬ IsErrOf result PacedFault.Read → reads.new.failed ≡ false }
+    ensures write_failed { IsErrOf result PacedFault.Write → AreSpent writes.new }
+    ensures no_write_failed { ¬ IsErrOf result PacedFault.Write → writes.new.failed ≡ false }
+{
+    match read_all(alloc, reader, reads) {
+        Ok(input) => run_input(alloc, &input, mark, telling, out, history, writes),
+        Err(InputFault::Read) => Err(PacedFault::Read),
+        Err(InputFault::Long) => Err(PacedFault::Long),
+        Err(InputFault::OutOfMemory) => Err(PacedFault::OutOfMemory),
+    }
+}
