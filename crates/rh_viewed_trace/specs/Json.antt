@@ -8,12 +8,17 @@ use Rattle.rh_replay.specs.declared.checking.Verdict.TheVariants.{Legal, Wrong}
 use Rattle.rh_replay.specs.History.{HistoryState}
 use Rattle.rh_replay.specs.Report.{count_of}
 
+-- a digit to base 16
+abbrev pub hex_digit : ℕ → ℕ
+hex_digit n = if nat_lt n 10 then n + 48 else n + 87
+
 -- a byte of a text within quotes: quotes and backslashes stand after a backslash, and line ends and
--- other bytes below 32 are blanks
+-- other bytes below 32 are \u and four digits to base 16
 abbrev pub json_byte : ℕ → List ℕ
 json_byte b =
     if b == 34 then codes "\\\"" else if b == 92 then codes "\\\\"
-    else if nat_lt b 32 then 32 ∷ [] else b ∷ []
+    else if nat_lt b 32 then codes "\\u00" ++ hex_digit (b / 16) ∷ hex_digit (b % 16) ∷ []
+    else b ∷ []
 
 abbrev pub json_string : List ℕ → List ℕ
 json_string text = flat_map json_byte text

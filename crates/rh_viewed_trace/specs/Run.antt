@@ -2,6 +2,9 @@
 use Rattle.std.specs.Prelude.{◌≡◌, ◌⊎◌, ℕ, ◌<◌, ◌≤◌, List, ◌++◌, length, Option, Some, None, Result, Ok, Err}
 use Rattle.std.specs.Io.KnownBytes.{Appends, Consumes, Keeps}
 use Rattle.rh_core.specs.Config.{fault_of}
+use Rattle.rh_core.specs.Stat.{stat_of}
+use Rattle.rh_cycles.specs.declared.cycle.Cycle.{Cycle}
+use Rattle.rh_cycles.specs.Cycles.{cycles_of, new_reader}
 use Rattle.rh_text.specs.Output.{AppendsLess, AppendsPrefix}
 use Rattle.rh_engine.specs.Engine.{EngineState}
 use Rattle.rh_syntax.specs.declared.request.Request.{Request}
@@ -15,6 +18,7 @@ use Rattle.rh_trace.specs.Run.{answers_of, answers_to, config_of, new_run, summa
 use Rattle.rh_viewed_trace.specs.declared.fault.ViewFault.{ViewFault}
 use Rattle.rh_viewed_trace.specs.declared.fault.ViewFault.TheVariants as faults
 use Rattle.rh_viewed_trace.specs.declared.telling.Telling.{Telling}
+use Rattle.rh_viewed_trace.specs.Cycles.{cycles_text, readings_to}
 use Rattle.rh_viewed_trace.specs.History.{calls_of, history_of, with_calls}
 use Rattle.rh_viewed_trace.specs.Views.{Viewed, numbered, total_text, views_text}
 
@@ -50,6 +54,12 @@ abbrev pub view_of_run : Telling → Script → List ℕ
 view_of_run telling script =
     told_of telling script.requests (answers_of script) (summary_of (answers_of script))
 
+-- the cycles that ended in it, of what is read of its heap after each line
+abbrev pub run_cycles : Script → List Cycle
+run_cycles script =
+    cycles_of (new_reader (stat_of (new_run script).heap))
+    (readings_to 2 (new_run script) script.requests)
+
 -- the input is this trace, and within the limit of bytes
 abbrev pub IsTrace : List ℕ → Script → Type 0
 IsTrace input script = (length input ≤ 16777216) × (trace_of input ≡ Ok script)
@@ -58,37 +68,43 @@ IsTrace input script = (length input ≤ 16777216) × (trace_of input ≡ Ok scr
 abbrev pub IsRun : List ℕ → Script → Type 0
 IsRun input script = IsTrace input script × (fault_of (config_of script.header) ≡ None)
 
--- where the two writers were before, and where they are now
+-- where the three writers were before, and where they are now
 pub record Written : Type 0 where
   pub old : Option (List ℕ)
   pub new : Option (List ℕ)
   pub history_old : Option (List ℕ)
   pub history_new : Option (List ℕ)
+  pub cycles_old : Option (List ℕ)
+  pub cycles_new : Option (List ℕ)
 
 -- nothing was written
-abbrev pub KeepsBoth : Written → Type 0
-KeepsBoth w = Keeps w.old w.new × Keeps w.history_old w.history_new
+abbrev pub KeepsAll : Written → Type 0
+KeepsAll w =
+    Keeps w.old w.new × Keeps w.history_old w.history_new × Keeps w.cycles_old w.cycles_new
 
--- How a viewed run of an input ends: with both texts written; with the first fault of the input and
--- nothing written; where a write failed with a prefix of both, and not all of the first; where
--- memory was refused with a prefix of what is told of the lines, or, if it was before the first of
--- them, with nothing; and where a read failed with nothing.
+-- How a viewed run of an input ends: with all texts written; with the first fault of the input and
+-- nothing written; where a write failed with a prefix of each, and not all of the first; where
+-- memory was refused with a prefix of what is told of the lines and of their cycles, or, if it was
+-- before the first of them, with nothing; and where a read failed with nothing.
 abbrev pub Ends : Telling → List ℕ → Result Summary ViewFault → Written → Type 0
 Ends telling input (Ok summary) w =
     (script : Script) × IsRun input script × (summary ≡ summary_of (answers_of script))
     × Appends w.old w.new (view_of_run telling script)
     × Appends w.history_old w.history_new (spelling (run_history script))
+    × Appends w.cycles_old w.cycles_new (cycles_text (run_cycles script))
 Ends telling input (Err faults.Write) w =
     (script : Script) × IsRun input script × AppendsLess w.old w.new (view_of_run telling script)
     × AppendsPrefix w.history_old w.history_new (spelling (run_history script))
+    × AppendsPrefix w.cycles_old w.cycles_new (cycles_text (run_cycles script))
 Ends telling input (Err faults.OutOfMemory) w =
-    Keeps w.history_old w.history_new
-    × (Keeps w.old w.new ⊎ ((script : Script) × IsRun input script
-    × AppendsPrefix w.old w.new (views_text telling (viewed_of script))))
-Ends telling input (Err faults.Long) w = (16777216 < length input) × KeepsBoth w
+    KeepsAll w ⊎ ((script : Script) × IsRun input script
+    × AppendsPrefix w.old w.new (views_text telling (viewed_of script))
+    × Keeps w.history_old w.history_new
+    × AppendsPrefix w.cycles_old w.cycles_new (cycles_text (run_cycles script)))
+Ends telling input (Err faults.Long) w = (16777216 < length input) × KeepsAll w
 Ends telling input (Err (faults.Trace fault)) w =
-    (length input ≤ 16777216) × (trace_of input ≡ Err fault) × KeepsBoth w
+    (length input ≤ 16777216) × (trace_of input ≡ Err fault) × KeepsAll w
 Ends telling input (Err (faults.New fault)) w =
     (script : Script) × IsTrace input script
-    × (fault_of (config_of script.header) ≡ Some fault) × KeepsBoth w
-Ends telling input (Err faults.Read) w = KeepsBoth w
+    × (fault_of (config_of script.header) ≡ Some fault) × KeepsAll w
+Ends telling input (Err faults.Read) w = KeepsAll w

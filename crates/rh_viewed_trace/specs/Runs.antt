@@ -1,9 +1,13 @@
 -- Requests run one after the other on what plays them.
-use Rattle.std.specs.Prelude.{◌≡◌, ℕ, List, [], ◌∷◌, take, Option, Result}
+use Rattle.std.specs.Prelude.{◌≡◌, ℕ, ◌+◌, List, [], ◌∷◌, map, take, Option, Result}
+use Rattle.std.specs.List.{flat_map}
 use Rattle.rh_layout.specs.declared.command.Command.{Command}
 use Rattle.rh_layout.specs.declared.command.Reply.{Reply}
 use Rattle.rh_layout.specs.declared.refusal.Refusal.{Refusal}
 use Rattle.rh_pace.specs.Paced.{PacedState}
+use Rattle.rh_cycles.specs.declared.cycle.Cycle.{Cycle}
+use Rattle.rh_cycles.specs.declared.cycle.EntryCounts.{EntryCounts}
+use Rattle.rh_cycles.specs.Cycles.{told_cycles}
 use Rattle.rh_text.specs.Output.{AppendsPrefix}
 use Rattle.rh_syntax.specs.declared.request.Request.{Request}
 use Rattle.rh_syntax.specs.declared.request.Request.TheVariants as requests
@@ -11,23 +15,47 @@ use Rattle.rh_trace.specs.declared.summary.Summary.{Summary}
 use Rattle.rh_trace.specs.Answers as answers
 use Rattle.rh_trace.specs.Answers.{Answered}
 use Rattle.rh_viewed_trace.specs.declared.telling.Telling.{Telling}
+use Rattle.rh_viewed_trace.specs.Cycles.{cycles_text, entries_of}
 use Rattle.rh_viewed_trace.specs.Views.{numbered, views_text}
 
-module _ {S : Type 0} (Steps : S → Request → S → Answered → Type 0) where
-  -- One request after the other takes one state to the other, and these are the answers.
-  abbrev pub Runs : S → List Request → S → List Answered → Type 0
-  Runs s [] t [] = s ≡ t
-  Runs s [] t (answered ∷ answers) = ⊥
-  Runs s (request ∷ others) t [] = ⊥
-  Runs s (request ∷ others) t (answered ∷ answers) =
-      (m : S) × Steps s request m answered × Runs m others t answers
+-- what is seen of a line: what it was answered, and the cycle that ended at it
+pub record Seen : Type 0 where
+  pub answered : Answered
+  pub ended : Option Cycle
 
-  -- The first requests were played, so many of them, and a prefix was written of what is told of
-  -- them.
-  abbrev pub IsStoppedIn : Telling → S → List Request → Option (List ℕ) → Option (List ℕ) → Type 0
-  IsStoppedIn telling s requests old new =
-      (k : ℕ) × (last : S) × (answers : List Answered) × Runs s (take k requests) last answers
-      × AppendsPrefix old new (views_text telling (numbered 2 (take k requests) answers))
+-- what lines were answered
+abbrev pub answers_in : List Seen → List Answered
+answers_in seen = map (λ s. s.answered) seen
+
+-- the cycles that ended at them
+abbrev pub cycles_in : List Seen → List Cycle
+cycles_in seen = flat_map (λ s. told_cycles s.ended) seen
+
+module _ {S R : Type 0} (Steps : S → Request → S → Answered → Type 0)
+    (read : S → R → ℕ → EntryCounts → R × Option Cycle) where
+  -- One line takes a player and its reader to others: the player plays it, and then the reader reads
+  -- the player.
+  abbrev pub LineSteps : ℕ → S × R → Request → S × R → Seen → Type 0
+  LineSteps line s request t seen =
+      Steps s.0 request t.0 seen.answered
+      × ((t.1, seen.ended) ≡ read t.0 s.1 line (entries_of seen.answered))
+
+  -- One line after the other does, from this line on, and this is seen of them.
+  abbrev pub Runs : ℕ → S × R → List Request → S × R → List Seen → Type 0
+  Runs line s [] t [] = s ≡ t
+  Runs line s [] t (one ∷ seen) = ⊥
+  Runs line s (request ∷ others) t [] = ⊥
+  Runs line s (request ∷ others) t (one ∷ seen) =
+      (m : S × R) × LineSteps line s request m one × Runs (line + 1) m others t seen
+
+  -- The first requests were played, so many of them. A prefix was written of what is told of them,
+  -- and one of the text of their cycles.
+  abbrev pub IsStoppedIn : Telling → S × R → List Request → Option (List ℕ) → Option (List ℕ)
+      → Option (List ℕ) → Option (List ℕ) → Type 0
+  IsStoppedIn telling s requests old new cycles_old cycles_new =
+      (k : ℕ) × (last : S × R) × (seen : List Seen) × Runs 2 s (take k requests) last seen
+      × AppendsPrefix old new (views_text telling (numbered 2 (take k requests) (answers_in seen)))
+      × AppendsPrefix cycles_old cycles_new (cycles_text (cycles_in seen))
 
 module _ {X S : Type 0} (step : X → S → ℕ → Command → S × Result Reply Refusal) where
   -- A heap that collects by itself plays commands alone. Each is one step of it, in which something

@@ -5,10 +5,13 @@ use Rattle.rh_mutator.specs.Config.{fault_of}
 use Rattle.rh_core.specs.runs.Programs.{CommandAnswers}
 use Rattle.rh_text.specs.Output.{AppendsLess, AppendsPrefix}
 use Rattle.rh_pace.specs.InTime.{paced_replies}
+use Rattle.rh_pace.specs.Paced.{paced_step}
 use Rattle.rh_pace.specs.declared.pace.Pace.{Pace}
 use Rattle.rh_syntax.specs.Reading.{trace_of}
 use Rattle.rh_syntax.specs.Spelling.{Script}
 use Rattle.rh_replay.specs.Spelling.{spelling}
+use Rattle.rh_cycles.specs.declared.cycle.Cycle.{Cycle}
+use Rattle.rh_growing.specs.Growing.{growing_step}
 use Rattle.rh_growing.specs.Growth.{fault_of_growth}
 use Rattle.rh_growing.specs.declared.errors.GrowingError.TheVariants as growing_errors
 use Rattle.rh_trace.specs.declared.summary.Summary.{Summary}
@@ -17,12 +20,13 @@ use Rattle.rh_trace.specs.Answers.{Answered}
 use Rattle.rh_trace.specs.Run.{config_of}
 use Rattle.rh_paced_trace.specs.declared.fault.PacedFault.{PacedFault}
 use Rattle.rh_paced_trace.specs.declared.fault.PacedFault.TheVariants as faults
-use Rattle.rh_paced_trace.specs.Growing.{IsGrowingRun, growing_answers_of, growing_sum_of, growth_of}
+use Rattle.rh_paced_trace.specs.Growing.{IsGrowingRun, growing_answers_of, growing_sum_of, growth_of, new_growing_run}
 use Rattle.rh_paced_trace.specs.Lines.{commands_in, fault_in}
 use Rattle.rh_paced_trace.specs.Pacing.{IsPaceOf}
 use Rattle.rh_paced_trace.specs.Run.{IsCommandTrace, IsRun, new_run, sum_of}
 use Rattle.rh_viewed_trace.specs.declared.telling.Telling.{Telling}
-use Rattle.rh_viewed_trace.specs.Run.{KeepsBoth, Written, history_with, told_of}
+use Rattle.rh_viewed_trace.specs.Cycles.{cycles_by, cycles_text, first_read}
+use Rattle.rh_viewed_trace.specs.Run.{KeepsAll, Written, history_with, told_of}
 use Rattle.rh_viewed_trace.specs.Views.{numbered, views_text}
 
 -- answers to commands, as those of the lines of a trace
@@ -38,22 +42,40 @@ paced_answered script pace =
 abbrev pub growing_answered : Script → ℕ → (ℕ → Bool) → List Answered
 growing_answered script at_most given = answered_by (growing_answers_of script at_most given)
 
--- Both texts of a run that was answered so were written; or of the first a prefix, and not all; or
--- a prefix of what is told of the lines, and nothing of the history.
-abbrev pub IsTold : Telling → Script → List Answered → Summary → Written → Type 0
-IsTold telling script answered summary w =
+-- the cycles that end in a paced run, in whose steps nothing is given
+abbrev pub paced_cycles : Script → Pace → List Cycle
+paced_cycles script pace =
+    cycles_by {X = Unit {0}} (λ s. s) (λ nothing s owner command. paced_step s owner command)
+    (λ i. tt) (first_read (new_run script pace)) (new_run script pace)
+    (commands_in script.requests)
+
+-- those of a growing run, where this is given
+abbrev pub growing_cycles : Script → ℕ → (ℕ → Bool) → List Cycle
+growing_cycles script at_most given =
+    cycles_by (λ s. s.paced) growing_step given
+    (first_read (new_growing_run script at_most).paced) (new_growing_run script at_most)
+    (commands_in script.requests)
+
+-- All texts of a run that was answered so, and in which these cycles ended, were written; or a
+-- prefix of each, and not all of the first; or a prefix of what is told of the lines and of their
+-- cycles, and nothing of the history.
+abbrev pub IsTold : Telling → Script → List Answered → Summary → List Cycle → Written → Type 0
+IsTold telling script answered summary cycles w =
     Appends w.old w.new (told_of telling script.requests answered summary)
     × Appends w.history_old w.history_new (spelling (history_with script answered))
+    × Appends w.cycles_old w.cycles_new (cycles_text cycles)
 
-abbrev pub IsCut : Telling → Script → List Answered → Summary → Written → Type 0
-IsCut telling script answered summary w =
+abbrev pub IsCut : Telling → Script → List Answered → Summary → List Cycle → Written → Type 0
+IsCut telling script answered summary cycles w =
     AppendsLess w.old w.new (told_of telling script.requests answered summary)
     × AppendsPrefix w.history_old w.history_new (spelling (history_with script answered))
+    × AppendsPrefix w.cycles_old w.cycles_new (cycles_text cycles)
 
-abbrev pub IsStopped : Telling → Script → List Answered → Written → Type 0
-IsStopped telling script answered w =
-    Keeps w.history_old w.history_new
-    × AppendsPrefix w.old w.new (views_text telling (numbered 2 script.requests answered))
+abbrev pub IsStopped : Telling → Script → List Answered → List Cycle → Written → Type 0
+IsStopped telling script answered cycles w =
+    AppendsPrefix w.old w.new (views_text telling (numbered 2 script.requests answered))
+    × Keeps w.history_old w.history_new
+    × AppendsPrefix w.cycles_old w.cycles_new (cycles_text cycles)
 
 -- How a viewed run at a mark, or at the pace of its sizes, ends, as a viewed run does: of the faults
 -- of the input the first is answered, and nothing was written.
@@ -61,24 +83,25 @@ abbrev pub EndsPaced : Option ℕ → Telling → List ℕ → Result Summary Pa
 EndsPaced mark telling input (Ok summary) w =
     (script : Script) × (pace : Pace) × IsRun mark input script pace
     × (summary ≡ sum_of script pace)
-    × IsTold telling script (paced_answered script pace) summary w
+    × IsTold telling script (paced_answered script pace) summary (paced_cycles script pace) w
 EndsPaced mark telling input (Err faults.Write) w =
     (script : Script) × (pace : Pace) × IsRun mark input script pace
-    × IsCut telling script (paced_answered script pace) (sum_of script pace) w
+    × IsCut telling script (paced_answered script pace) (sum_of script pace)
+    (paced_cycles script pace) w
 EndsPaced mark telling input (Err faults.OutOfMemory) w =
-    KeepsBoth w ⊎ ((script : Script) × (pace : Pace) × IsRun mark input script pace
-    × IsStopped telling script (paced_answered script pace) w)
-EndsPaced mark telling input (Err faults.Long) w = (16777216 < length input) × KeepsBoth w
+    KeepsAll w ⊎ ((script : Script) × (pace : Pace) × IsRun mark input script pace
+    × IsStopped telling script (paced_answered script pace) (paced_cycles script pace) w)
+EndsPaced mark telling input (Err faults.Long) w = (16777216 < length input) × KeepsAll w
 EndsPaced mark telling input (Err (faults.Trace fault)) w =
-    (length input ≤ 16777216) × (fault_in (trace_of input) ≡ Some fault) × KeepsBoth w
+    (length input ≤ 16777216) × (fault_in (trace_of input) ≡ Some fault) × KeepsAll w
 EndsPaced mark telling input (Err (faults.New fault)) w =
     (script : Script) × IsCommandTrace input script
-    × (fault_of (config_of script.header) ≡ Some fault) × KeepsBoth w
+    × (fault_of (config_of script.header) ≡ Some fault) × KeepsAll w
 EndsPaced mark telling input (Err (faults.Pace why)) w =
     (script : Script) × IsCommandTrace input script
-    × (fault_of (config_of script.header) ≡ None) × IsPaceOf mark script (Err why) × KeepsBoth w
+    × (fault_of (config_of script.header) ≡ None) × IsPaceOf mark script (Err why) × KeepsAll w
 EndsPaced mark telling input (Err faults.Limits) w = ⊥
-EndsPaced mark telling input (Err faults.Read) w = KeepsBoth w
+EndsPaced mark telling input (Err faults.Read) w = KeepsAll w
 
 -- The same of a growing run. Where something of its texts was written, the allocator gave what it
 -- gave.
@@ -86,26 +109,28 @@ abbrev pub EndsGrowing : ℕ → Telling → List ℕ → Result Summary PacedFa
 EndsGrowing at_most telling input (Ok summary) w =
     (script : Script) × (given : ℕ → Bool) × IsGrowingRun at_most input script
     × (summary ≡ growing_sum_of script at_most given)
-    × IsTold telling script (growing_answered script at_most given) summary w
+    × IsTold telling script (growing_answered script at_most given) summary
+    (growing_cycles script at_most given) w
 EndsGrowing at_most telling input (Err faults.Write) w =
     (script : Script) × (given : ℕ → Bool) × IsGrowingRun at_most input script
     × IsCut telling script (growing_answered script at_most given)
-    (growing_sum_of script at_most given) w
+    (growing_sum_of script at_most given) (growing_cycles script at_most given) w
 EndsGrowing at_most telling input (Err faults.OutOfMemory) w =
-    KeepsBoth w ⊎ ((script : Script) × (given : ℕ → Bool) × IsGrowingRun at_most input script
-    × IsStopped telling script (growing_answered script at_most given) w)
-EndsGrowing at_most telling input (Err faults.Long) w = (16777216 < length input) × KeepsBoth w
+    KeepsAll w ⊎ ((script : Script) × (given : ℕ → Bool) × IsGrowingRun at_most input script
+    × IsStopped telling script (growing_answered script at_most given)
+    (growing_cycles script at_most given) w)
+EndsGrowing at_most telling input (Err faults.Long) w = (16777216 < length input) × KeepsAll w
 EndsGrowing at_most telling input (Err (faults.Trace fault)) w =
-    (length input ≤ 16777216) × (fault_in (trace_of input) ≡ Some fault) × KeepsBoth w
+    (length input ≤ 16777216) × (fault_in (trace_of input) ≡ Some fault) × KeepsAll w
 EndsGrowing at_most telling input (Err (faults.New fault)) w =
     (script : Script) × IsCommandTrace input script
-    × (fault_of (config_of script.header) ≡ Some fault) × KeepsBoth w
+    × (fault_of (config_of script.header) ≡ Some fault) × KeepsAll w
 EndsGrowing at_most telling input (Err faults.Limits) w =
     (script : Script) × IsCommandTrace input script
     × (fault_of (config_of script.header) ≡ None)
-    × (fault_of_growth (growth_of script at_most) ≡ Some growing_errors.BadLimits) × KeepsBoth w
+    × (fault_of_growth (growth_of script at_most) ≡ Some growing_errors.BadLimits) × KeepsAll w
 EndsGrowing at_most telling input (Err (faults.Pace why)) w =
     (script : Script) × IsCommandTrace input script
     × (fault_of (config_of script.header) ≡ None)
-    × (fault_of_growth (growth_of script at_most) ≡ Some (growing_errors.Pace why)) × KeepsBoth w
-EndsGrowing at_most telling input (Err faults.Read) w = KeepsBoth w
+    × (fault_of_growth (growth_of script at_most) ≡ Some (growing_errors.Pace why)) × KeepsAll w
+EndsGrowing at_most telling input (Err faults.Read) w = KeepsAll w

@@ -1,19 +1,31 @@
 //! The lines of a trace of commands, played on heaps that collect by themselves.
 
 ghost use Rattle.std.specs.Prelude.{◌≡◌, true};
+ghost use Rattle.rh_cycles.specs.Heaps.{after_step};
 ghost use Rattle.rh_growing.specs.Growing.{growing_step};
 ghost use Rattle.rh_pace.specs.Paced.{paced_step};
 ghost use Rattle.rh_trace.specs.Events.{is_command};
+ghost use Rattle.rh_viewed_trace.specs.Cycles.{first_read};
 ghost use Rattle.rh_viewed_trace.specs.Runs.{CommandSteps, total_at};
 
 use crate::player::Player;
 use rh_core::Stat;
+use rh_cycles::{Cycle, Cycles, EntryCounts};
 use rh_growing::GrowingHeap;
 use rh_layout::{Command, OutOfMemory, Refusal, Reply};
 use rh_pace::PacedHeap;
 use rh_syntax::Request;
 use rh_trace::Summary;
 use std::alloc::Allocator;
+
+/// What reads the cycles of a new heap, once it read line 1, which made the heap. So a call is a line.
+pub(crate) fn first_read<A: Allocator + Copy>(heap: &PacedHeap<A>) -> Cycles
+    ensures { result ≡ first_read heap.now }
+{
+    let mut cycles = Cycles::new(heap);
+    let _ = cycles.after(heap);
+    cycles
+}
 
 /// The commands that were counted, and the flips that the heap did.
 fn with_flips(counted: Summary, stat: &Stat) -> Summary
@@ -29,10 +41,12 @@ fn with_flips(counted: Summary, stat: &Stat) -> Summary
     }
 }
 
-impl<A: Allocator + Copy> Player<A> for PacedHeap<A> {
+impl<A: Allocator + Copy> Player<A, Cycles> for PacedHeap<A> {
     ghost Steps = { CommandSteps (λ (given : Unit {0}) s owner command. paced_step s owner command) };
 
     ghost Plays = { λ request. is_command request ≡ true };
+
+    ghost read = { λ s reader line entries. after_step reader s };
 
     ghost total = { λ s counted. total_at s counted };
 
@@ -46,10 +60,15 @@ impl<A: Allocator + Copy> Player<A> for PacedHeap<A> {
         _request: &Request,
         _structured: bool,
         _summary: &mut Summary,
+        _entries: &mut EntryCounts,
         _told: &mut Vec<u8, A>,
     ) -> Result<(), OutOfMemory> {
         // All requests that are played are commands.
         unreachable!()
+    }
+
+    fn ended(&self, reader: &mut Cycles, _line: u64, _entries: EntryCounts) -> Option<Cycle> {
+        reader.after(self)
     }
 
     fn total(&self, counted: Summary) -> Summary {
@@ -57,10 +76,12 @@ impl<A: Allocator + Copy> Player<A> for PacedHeap<A> {
     }
 }
 
-impl<A: Allocator + Copy> Player<A> for GrowingHeap<A> {
+impl<A: Allocator + Copy> Player<A, Cycles> for GrowingHeap<A> {
     ghost Steps = { CommandSteps growing_step };
 
     ghost Plays = { λ request. is_command request ≡ true };
+
+    ghost read = { λ s reader line entries. after_step reader s.paced };
 
     ghost total = { λ s counted. total_at s.paced counted };
 
@@ -74,10 +95,15 @@ impl<A: Allocator + Copy> Player<A> for GrowingHeap<A> {
         _request: &Request,
         _structured: bool,
         _summary: &mut Summary,
+        _entries: &mut EntryCounts,
         _told: &mut Vec<u8, A>,
     ) -> Result<(), OutOfMemory> {
         // All requests that are played are commands.
         unreachable!()
+    }
+
+    fn ended(&self, reader: &mut Cycles, _line: u64, _entries: EntryCounts) -> Option<Cycle> {
+        reader.after(self.paced())
     }
 
     fn total(&self, counted: Summary) -> Summary {

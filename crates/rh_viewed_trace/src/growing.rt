@@ -5,6 +5,7 @@ ghost use Rattle.std.specs.Io.KnownBytes.{Consumes};
 ghost use Rattle.rh_text.specs.IoLog.{AreSpent};
 ghost use Rattle.rh_viewed_trace.specs.Ways.{EndsGrowing};
 
+use crate::collecting::first_read;
 use crate::lines::run_lines;
 use crate::recording::recorder_for;
 use crate::stop::Stop;
@@ -20,13 +21,14 @@ use std::alloc::Allocator;
 use std::io;
 
 /// Runs the trace of commands that the input spells.
-fn run_input<A: Allocator + Copy, W: io::Write, H: io::Write>(
+fn run_input<A: Allocator + Copy, W: io::Write, H: io::Write, C: io::Write>(
     alloc: A,
     input: &[u8],
     at_most: u32,
     telling: Telling,
     out: &mut W,
     history: &mut H,
+    cycles: &mut C,
     writes: &mut IoLog,
 ) -> Result<Summary, PacedFault>
     requires few { length input.now ≤ MAX_INPUT_BYTES }
@@ -36,6 +38,8 @@ fn run_input<A: Allocator + Copy, W: io::Write, H: io::Write>(
       new = W.contents out.new;
       history_old = H.contents history.old;
       history_new = H.contents history.new;
+      cycles_old = C.contents cycles.old;
+      cycles_new = C.contents cycles.new;
     }) }
     ensures never_read { ¬ IsErrOf result PacedFault.Read }
     ensures failed { IsErrOf result PacedFault.Write → AreSpent writes.new }
@@ -64,14 +68,17 @@ fn run_input<A: Allocator + Copy, W: io::Write, H: io::Write>(
         Ok(recorder) => recorder,
         Err(OutOfMemory) => return Err(PacedFault::OutOfMemory),
     };
+    let mut reader = first_read(heap.paced());
     match run_lines(
         alloc,
         &mut heap,
+        &mut reader,
         trace.requests(),
         telling,
         &mut recorder,
         out,
         history,
+        cycles,
         writes,
     ) {
         Ok(summary) => Ok(summary),
@@ -88,13 +95,20 @@ fn run_input<A: Allocator + Copy, W: io::Write, H: io::Write>(
 /// Of the faults of an input the first is answered: `Long`, then `Trace`, then `New`, then `Limits`,
 /// then `Pace`; nothing is written then. `Read`, `Write` and `OutOfMemory` come where `run_viewed`
 /// answers them, and leave what it leaves.
-pub fn run_viewed_growing<A: Allocator + Copy, R: io::Read, W: io::Write, H: io::Write>(
+pub fn run_viewed_growing<
+    A: Allocator + Copy,
+    R: io::Read,
+    W: io::Write,
+    H: io::Write,
+    C: io::Write,
+>(
     alloc: A,
     reader: &mut R,
     at_most: u32,
     telling: Telling,
     out: &mut W,
     history: &mut H,
+    cycles: &mut C,
 ) -> Result<Summary, PacedFault>
     // For a reader that tells its bytes: how a run of the bytes that it had ends.
     ensures told { IfSome (R.remaining reader.old) (λ input. EndsGrowing at_most telling input result
@@ -103,6 +117,8 @@ pub fn run_viewed_growing<A: Allocator + Copy, R: io::Read, W: io::Write, H: io:
           new = W.contents out.new;
           history_old = H.contents history.old;
           history_new = H.contents history.new;
+          cycles_old = C.contents cycles.old;
+          cycles_new = C.contents cycles.new;
         })) }
     // How a run of the bytes that were taken ends.
     ensures read { (input : List ℕ)
@@ -112,6 +128,8 @@ pub fn run_viewed_growing<A: Allocator + Copy, R: io::Read, W: io::Write, H: io:
           new = W.contents out.new;
           history_old = H.contents history.old;
           history_new = H.contents history.new;
+          cycles_old = C.contents cycles.old;
+          cycles_new = C.contents cycles.new;
         }) }
 {
     run_viewed_growing_logged(
@@ -122,6 +140,7 @@ pub fn run_viewed_growing<A: Allocator + Copy, R: io::Read, W: io::Write, H: io:
         telling,
         out,
         history,
+        cycles,
         &mut IoLog::new(),
     )
 }
@@ -132,7 +151,13 @@ pub fn run_viewed_growing<A: Allocator + Copy, R: io::Read, W: io::Write, H: io:
 /// # Errors
 ///
 /// As `run_viewed_growing`.
-pub fn run_viewed_growing_logged<A: Allocator + Copy, R: io::Read, W: io::Write, H: io::Write>(
+pub fn run_viewed_growing_logged<
+    A: Allocator + Copy,
+    R: io::Read,
+    W: io::Write,
+    H: io::Write,
+    C: io::Write,
+>(
     alloc: A,
     reader: &mut R,
     reads: &mut IoLog,
@@ -140,6 +165,7 @@ pub fn run_viewed_growing_logged<A: Allocator + Copy, R: io::Read, W: io::Write,
     telling: Telling,
     out: &mut W,
     history: &mut H,
+    cycles: &mut C,
     writes: &mut IoLog,
 ) -> Result<Summary, PacedFault>
     requires no_read_failed { reads.old.failed ≡ false }
@@ -151,6 +177,8 @@ pub fn run_viewed_growing_logged<A: Allocator + Copy, R: io::Read, W: io::Write,
           new = W.contents out.new;
           history_old = H.contents history.old;
           history_new = H.contents history.new;
+          cycles_old = C.contents cycles.old;
+          cycles_new = C.contents cycles.new;
         })) }
     ensures read { (input : List ℕ)
         × Consumes (R.remaining reader.old) (R.remaining reader.new) input
@@ -159,6 +187,8 @@ pub fn run_viewed_growing_logged<A: Allocator + Copy, R: io::Read, W: io::Write,
           new = W.contents out.new;
           history_old = H.contents history.old;
           history_new = H.contents history.new;
+          cycles_old = C.contents cycles.old;
+          cycles_new = C.contents cycles.new;
         }) }
     // Read is answered only where a read failed or none was left, and so with Write.
     ensures read_failed { IsErrOf result PacedFault.Read → AreSpent reads.new }
@@ -167,7 +197,9 @@ pub fn run_viewed_growing_logged<A: Allocator + Copy, R: io::Read, W: io::Write,
     ensures no_write_failed { ¬ IsErrOf result PacedFault.Write → writes.new.failed ≡ false }
 {
     match read_all(alloc, reader, reads) {
-        Ok(input) => run_input(alloc, &input, at_most, telling, out, history, writes),
+        Ok(input) => run_input(
+            alloc, &input, at_most, telling, out, history, cycles, writes,
+        ),
         Err(InputFault::Read) => Err(PacedFault::Read),
         Err(InputFault::Long) => Err(PacedFault::Long),
         Err(InputFault::OutOfMemory) => Err(PacedFault::OutOfMemory),

@@ -5,6 +5,7 @@ ghost use Rattle.std.specs.Io.KnownBytes.{Consumes};
 ghost use Rattle.rh_text.specs.IoLog.{AreSpent};
 ghost use Rattle.rh_viewed_trace.specs.Ways.{EndsPaced};
 
+use crate::collecting::first_read;
 use crate::lines::run_lines;
 use crate::recording::recorder_for;
 use crate::stop::Stop;
@@ -22,13 +23,14 @@ use std::alloc::Allocator;
 use std::io;
 
 /// Runs the trace of commands that the input spells.
-fn run_input<A: Allocator + Copy, W: io::Write, H: io::Write>(
+fn run_input<A: Allocator + Copy, W: io::Write, H: io::Write, C: io::Write>(
     alloc: A,
     input: &[u8],
     mark: Option<u32>,
     telling: Telling,
     out: &mut W,
     history: &mut H,
+    cycles: &mut C,
     writes: &mut IoLog,
 ) -> Result<Summary, PacedFault>
     requires few { length input.now ≤ MAX_INPUT_BYTES }
@@ -38,6 +40,8 @@ fn run_input<A: Allocator + Copy, W: io::Write, H: io::Write>(
       new = W.contents out.new;
       history_old = H.contents history.old;
       history_new = H.contents history.new;
+      cycles_old = C.contents cycles.old;
+      cycles_new = C.contents cycles.new;
     }) }
     ensures never_read { ¬ IsErrOf result PacedFault.Read }
     ensures failed { IsErrOf result PacedFault.Write → AreSpent writes.new }
@@ -71,14 +75,17 @@ fn run_input<A: Allocator + Copy, W: io::Write, H: io::Write>(
         Ok(recorder) => recorder,
         Err(OutOfMemory) => return Err(PacedFault::OutOfMemory),
     };
+    let mut reader = first_read(&heap);
     match run_lines(
         alloc,
         &mut heap,
+        &mut reader,
         trace.requests(),
         telling,
         &mut recorder,
         out,
         history,
+        cycles,
         writes,
     ) {
         Ok(summary) => Ok(summary),
@@ -95,13 +102,14 @@ fn run_input<A: Allocator + Copy, W: io::Write, H: io::Write>(
 /// Of the faults of an input the first is answered: `Long`, then `Trace`, then `New`, then `Pace`,
 /// which never comes with a mark; nothing is written then. `Read`, `Write` and `OutOfMemory` come
 /// where `run_viewed` answers them, and leave what it leaves.
-pub fn run_viewed_paced<A: Allocator + Copy, R: io::Read, W: io::Write, H: io::Write>(
+pub fn run_viewed_paced<A: Allocator + Copy, R: io::Read, W: io::Write, H: io::Write, C: io::Write>(
     alloc: A,
     reader: &mut R,
     mark: Option<u32>,
     telling: Telling,
     out: &mut W,
     history: &mut H,
+    cycles: &mut C,
 ) -> Result<Summary, PacedFault>
     // For a reader that tells its bytes: how a run of the bytes that it had ends.
     ensures told { IfSome (R.remaining reader.old) (λ input. EndsPaced mark telling input result
@@ -110,6 +118,8 @@ pub fn run_viewed_paced<A: Allocator + Copy, R: io::Read, W: io::Write, H: io::W
           new = W.contents out.new;
           history_old = H.contents history.old;
           history_new = H.contents history.new;
+          cycles_old = C.contents cycles.old;
+          cycles_new = C.contents cycles.new;
         })) }
     // How a run of the bytes that were taken ends.
     ensures read { (input : List ℕ)
@@ -119,6 +129,8 @@ pub fn run_viewed_paced<A: Allocator + Copy, R: io::Read, W: io::Write, H: io::W
           new = W.contents out.new;
           history_old = H.contents history.old;
           history_new = H.contents history.new;
+          cycles_old = C.contents cycles.old;
+          cycles_new = C.contents cycles.new;
         }) }
 {
     run_viewed_paced_logged(
@@ -129,6 +141,7 @@ pub fn run_viewed_paced<A: Allocator + Copy, R: io::Read, W: io::Write, H: io::W
         telling,
         out,
         history,
+        cycles,
         &mut IoLog::new(),
     )
 }
@@ -139,7 +152,13 @@ pub fn run_viewed_paced<A: Allocator + Copy, R: io::Read, W: io::Write, H: io::W
 /// # Errors
 ///
 /// As `run_viewed_paced`.
-pub fn run_viewed_paced_logged<A: Allocator + Copy, R: io::Read, W: io::Write, H: io::Write>(
+pub fn run_viewed_paced_logged<
+    A: Allocator + Copy,
+    R: io::Read,
+    W: io::Write,
+    H: io::Write,
+    C: io::Write,
+>(
     alloc: A,
     reader: &mut R,
     reads: &mut IoLog,
@@ -147,6 +166,7 @@ pub fn run_viewed_paced_logged<A: Allocator + Copy, R: io::Read, W: io::Write, H
     telling: Telling,
     out: &mut W,
     history: &mut H,
+    cycles: &mut C,
     writes: &mut IoLog,
 ) -> Result<Summary, PacedFault>
     requires no_read_failed { reads.old.failed ≡ false }
@@ -158,6 +178,8 @@ pub fn run_viewed_paced_logged<A: Allocator + Copy, R: io::Read, W: io::Write, H
           new = W.contents out.new;
           history_old = H.contents history.old;
           history_new = H.contents history.new;
+          cycles_old = C.contents cycles.old;
+          cycles_new = C.contents cycles.new;
         })) }
     ensures read { (input : List ℕ)
         × Consumes (R.remaining reader.old) (R.remaining reader.new) input
@@ -166,6 +188,8 @@ pub fn run_viewed_paced_logged<A: Allocator + Copy, R: io::Read, W: io::Write, H
           new = W.contents out.new;
           history_old = H.contents history.old;
           history_new = H.contents history.new;
+          cycles_old = C.contents cycles.old;
+          cycles_new = C.contents cycles.new;
         }) }
     // Read is answered only where a read failed or none was left, and so with Write.
     ensures read_failed { IsErrOf result PacedFault.Read → AreSpent reads.new }
@@ -174,7 +198,7 @@ pub fn run_viewed_paced_logged<A: Allocator + Copy, R: io::Read, W: io::Write, H
     ensures no_write_failed { ¬ IsErrOf result PacedFault.Write → writes.new.failed ≡ false }
 {
     match read_all(alloc, reader, reads) {
-        Ok(input) => run_input(alloc, &input, mark, telling, out, history, writes),
+        Ok(input) => run_input(alloc, &input, mark, telling, out, history, cycles, writes),
         Err(InputFault::Read) => Err(PacedFault::Read),
         Err(InputFault::Long) => Err(PacedFault::Long),
         Err(InputFault::OutOfMemory) => Err(PacedFault::OutOfMemory),

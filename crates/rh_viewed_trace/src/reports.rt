@@ -1,9 +1,9 @@
 //! Faults, reports on histories, and dumps as JSON.
 
-ghost use Rattle.std.specs.Prelude.{◌≡◌, ◌++◌, IfOk, OnOk};
+ghost use Rattle.std.specs.Prelude.{◌≡◌, ◌<◌, ◌++◌, IfOk, OnOk};
 ghost use Rattle.std.specs.Option.{option_map};
 ghost use Rattle.rh_replay.specs.Report.{count_of};
-ghost use Rattle.rh_viewed_trace.specs.Json.{json_byte, json_dump, json_fault, json_owner, json_owners, json_place, json_report, json_string, json_verdict};
+ghost use Rattle.rh_viewed_trace.specs.Json.{hex_digit, json_byte, json_dump, json_fault, json_owner, json_owners, json_place, json_report, json_string, json_verdict};
 
 use crate::buffer::{put, put_part};
 use rh_layout::{OutOfMemory, Refusal, Reply};
@@ -11,6 +11,18 @@ use rh_replay::{Call, History, Verdict};
 use rh_syntax::put_answer_text;
 use rh_text::LineText;
 use std::alloc::Allocator;
+
+/// A digit to base 16.
+fn hex_digit(number: u8) -> u8
+    requires { number < 16 }
+    ensures { result ≡ hex_digit number }
+{
+    if number < 10 {
+        number + b'0'
+    } else {
+        number - 10 + b'a'
+    }
+}
 
 /// Puts a byte of a text within quotes.
 fn put_json_byte<A: Allocator>(text: &mut Vec<u8, A>, byte: u8) -> Result<(), OutOfMemory>
@@ -25,26 +37,24 @@ fn put_json_byte<A: Allocator>(text: &mut Vec<u8, A>, byte: u8) -> Result<(), Ou
         return Ok(());
     }
     if byte < b' ' {
-        put(text, b" ")?;
+        put(text, b"\\u00")?;
+        put(text, &[hex_digit(byte / 16), hex_digit(byte % 16)])?;
         return Ok(());
     }
     put(text, &[byte])?;
     Ok(())
 }
 
-/// Puts a text as it stands within quotes: with a backslash before quotes and backslashes, and a
-/// blank for each byte below 32.
+/// Puts a text as it stands within quotes: with a backslash before quotes and backslashes, and `\u`
+/// and four digits to base 16 for each byte below 32. All others stand as they are, in UTF-8.
 ///
 /// # Errors
 ///
 /// `OutOfMemory` where memory for it was refused.
-pub fn put_json_string<A: Allocator>(
-    text: &mut Vec<u8, A>,
-    string: &[u8],
-) -> Result<(), OutOfMemory>
+pub fn put_json_string<A: Allocator>(text: &mut Vec<u8, A>, string: &str) -> Result<(), OutOfMemory>
     ensures { OnOk result (text.new.items ≡ text.old.items ++ json_string string.now) }
 {
-    for byte in string {
+    for byte in string.as_bytes() {
         put_json_byte(text, *byte)?;
     }
     Ok(())
@@ -53,7 +63,7 @@ pub fn put_json_string<A: Allocator>(
 /// Puts the members of a place, where there is one.
 fn put_place<A: Allocator>(
     text: &mut Vec<u8, A>,
-    at: Option<(u32, &[u8])>,
+    at: Option<(u32, &str)>,
 ) -> Result<(), OutOfMemory>
     ensures { OnOk result (text.new.items
         ≡ text.old.items ++ json_place (option_map (λ x. (x.0, x.1.now)) at.entry)) }
@@ -78,8 +88,8 @@ fn put_place<A: Allocator>(
 /// `OutOfMemory` where memory for it was refused.
 pub fn fault_json<A: Allocator + Copy>(
     alloc: A,
-    fault: &[u8],
-    at: Option<(u32, &[u8])>,
+    fault: &str,
+    at: Option<(u32, &str)>,
 ) -> Result<Vec<u8, A>, OutOfMemory>
     ensures { IfOk result (λ text. text.items
         ≡ json_fault fault.now (option_map (λ x. (x.0, x.1.now)) at.entry)) }

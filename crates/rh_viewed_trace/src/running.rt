@@ -22,6 +22,7 @@ use rh_core::laws::runs::{
     every_event_keeps_a_heap_well_formed,
 };
 use rh_core::{Heap, HeapError};
+use rh_cycles::CycleReader;
 use rh_engine::Engine;
 use rh_layout::OutOfMemory;
 use rh_layout::limits::MAX_INPUT_BYTES;
@@ -33,12 +34,13 @@ use std::alloc::Allocator;
 use std::io;
 
 /// Runs the trace that the input spells.
-fn run_input<A: Allocator + Copy, W: io::Write, H: io::Write>(
+fn run_input<A: Allocator + Copy, W: io::Write, H: io::Write, C: io::Write>(
     alloc: A,
     input: &[u8],
     telling: Telling,
     out: &mut W,
     history: &mut H,
+    cycles: &mut C,
     writes: &mut IoLog,
 ) -> Result<Summary, ViewFault>
     requires few { length input.now ≤ MAX_INPUT_BYTES }
@@ -48,6 +50,8 @@ fn run_input<A: Allocator + Copy, W: io::Write, H: io::Write>(
       new = W.contents out.new;
       history_old = H.contents history.old;
       history_new = H.contents history.new;
+      cycles_old = C.contents cycles.old;
+      cycles_new = C.contents cycles.new;
     }) }
     ensures never_read { ¬ IsErrOf result ViewFault.Read }
     ensures failed { IsErrOf result ViewFault.Write → AreSpent writes.new }
@@ -71,15 +75,18 @@ fn run_input<A: Allocator + Copy, W: io::Write, H: io::Write>(
         Ok(recorder) => recorder,
         Err(OutOfMemory) => return Err(ViewFault::OutOfMemory),
     };
+    let mut reader = CycleReader::new(&heap.stat());
     let mut engine = Engine::new(alloc, heap);
     match run_lines(
         alloc,
         &mut engine,
+        &mut reader,
         trace.requests(),
         telling,
         &mut recorder,
         out,
         history,
+        cycles,
         writes,
     ) {
         Ok(summary) => Ok(summary),
@@ -101,12 +108,13 @@ fn run_input<A: Allocator + Copy, W: io::Write, H: io::Write>(
 /// where a read failed or was one too many, `Write` where a write of either writer failed or
 /// 33,554,432 writes of one line didn't come to its end, `OutOfMemory` where the allocator refused
 /// memory; what may be written then, `ViewFault` says.
-pub fn run_viewed<A: Allocator + Copy, R: io::Read, W: io::Write, H: io::Write>(
+pub fn run_viewed<A: Allocator + Copy, R: io::Read, W: io::Write, H: io::Write, C: io::Write>(
     alloc: A,
     reader: &mut R,
     telling: Telling,
     out: &mut W,
     history: &mut H,
+    cycles: &mut C,
 ) -> Result<Summary, ViewFault>
     // For a reader that tells its bytes: how a run of the bytes that it had ends.
     ensures told { IfSome (R.remaining reader.old) (λ input. Ends telling input result (record {
@@ -114,6 +122,8 @@ pub fn run_viewed<A: Allocator + Copy, R: io::Read, W: io::Write, H: io::Write>(
       new = W.contents out.new;
       history_old = H.contents history.old;
       history_new = H.contents history.new;
+      cycles_old = C.contents cycles.old;
+      cycles_new = C.contents cycles.new;
     })) }
     // How a run of the bytes that were taken ends.
     ensures read { (input : List ℕ)
@@ -123,6 +133,8 @@ pub fn run_viewed<A: Allocator + Copy, R: io::Read, W: io::Write, H: io::Write>(
           new = W.contents out.new;
           history_old = H.contents history.old;
           history_new = H.contents history.new;
+          cycles_old = C.contents cycles.old;
+          cycles_new = C.contents cycles.new;
         }) }
     // Said of the plain heap alone, where the run succeeded: which trace was read, which answers
     // were told and noted, and that the history is legal.
@@ -143,6 +155,7 @@ pub fn run_viewed<A: Allocator + Copy, R: io::Read, W: io::Write, H: io::Write>(
         telling,
         out,
         history,
+        cycles,
         &mut IoLog::new(),
     )
 }
@@ -153,13 +166,20 @@ pub fn run_viewed<A: Allocator + Copy, R: io::Read, W: io::Write, H: io::Write>(
 /// # Errors
 ///
 /// As `run_viewed`.
-pub fn run_viewed_logged<A: Allocator + Copy, R: io::Read, W: io::Write, H: io::Write>(
+pub fn run_viewed_logged<
+    A: Allocator + Copy,
+    R: io::Read,
+    W: io::Write,
+    H: io::Write,
+    C: io::Write,
+>(
     alloc: A,
     reader: &mut R,
     reads: &mut IoLog,
     telling: Telling,
     out: &mut W,
     history: &mut H,
+    cycles: &mut C,
     writes: &mut IoLog,
 ) -> Result<Summary, ViewFault>
     requires no_read_failed { reads.old.failed ≡ false }
@@ -170,6 +190,8 @@ pub fn run_viewed_logged<A: Allocator + Copy, R: io::Read, W: io::Write, H: io::
       new = W.contents out.new;
       history_old = H.contents history.old;
       history_new = H.contents history.new;
+      cycles_old = C.contents cycles.old;
+      cycles_new = C.contents cycles.new;
     })) }
     ensures read { (input : List ℕ)
         × Consumes (R.remaining reader.old) (R.remaining reader.new) input
@@ -178,6 +200,8 @@ pub fn run_viewed_logged<A: Allocator + Copy, R: io::Read, W: io::Write, H: io::
           new = W.contents out.new;
           history_old = H.contents history.old;
           history_new = H.contents history.new;
+          cycles_old = C.contents cycles.old;
+          cycles_new = C.contents cycles.new;
         }) }
     ensures plain { IfOk result (λ summary. (script : Script)
         × (answers : List Answered)
@@ -202,7 +226,7 @@ pub fn run_viewed_logged<A: Allocator + Copy, R: io::Read, W: io::Write, H: io::
     a_heap_has_the_dump_of_its_plain_heap();
     the_history_of_plain_answers_is_legal();
     match read_all(alloc, reader, reads) {
-        Ok(input) => run_input(alloc, &input, telling, out, history, writes),
+        Ok(input) => run_input(alloc, &input, telling, out, history, cycles, writes),
         Err(InputFault::Read) => Err(ViewFault::Read),
         Err(InputFault::Long) => Err(ViewFault::Long),
         Err(InputFault::OutOfMemory) => Err(ViewFault::OutOfMemory),
