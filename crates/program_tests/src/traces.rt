@@ -6,3 +6,4 @@ mod reading;
 mod recalling;
 mod running;
 mod trays;
+mod viewing;

@@ -1,51 +1,94 @@
--- Lines played on the engine of traces: the answers are those of the requests, in order.
+-- Lines played on the engine of traces: the answers are those of the requests, in order, and the cycles those of what was read.
 use Rattle.std.proofs.Common.{◌≡◌, ℕ, zero, suc, ◌+◌, ◌<◌, List, [], ◌∷◌, ◌++◌, length, take, Option, refl, sym, ap, subst, ◌∙◌, append_assoc, arith}
 use Rattle.std.proofs.lemmas.List.{length-append}
-use Rattle.std.specs.Prelude.{codes}
 use Rattle.rh_text.specs.Output.{AppendsLess, AppendsPrefix}
 use Rattle.rh_engine.specs.Engine.{EngineState}
+use Rattle.rh_cycles.specs.declared.cycle.Cycle.{Cycle}
+use Rattle.rh_cycles.specs.declared.cycle.EntryCounts.{EntryCounts}
+use Rattle.rh_cycles.specs.Cycles.{Reading, ReaderState, cycles_of, read_step, told_cycles}
 use Rattle.rh_syntax.specs.declared.request.Request.{Request}
 use Rattle.rh_trace.specs.declared.summary.Summary.{Summary}
 use Rattle.rh_trace.specs.Answers.{Answered}
 use Rattle.rh_trace.specs.Run.{answers_to, request_step}
 use Rattle.rh_viewed_trace.specs.declared.telling.Telling.{Telling}
 use Rattle.rh_viewed_trace.specs.declared.telling.Telling.TheVariants as tellings
-use Rattle.rh_viewed_trace.specs.Runs.{Runs}
+use Rattle.rh_viewed_trace.specs.Cycles.{cycles_text, entries_of, reading_after, readings_to}
+use Rattle.rh_viewed_trace.specs.Runs.{IsStoppedIn, Runs, Seen, answers_in, cycles_in}
 use Rattle.rh_viewed_trace.specs.Views.{numbered, total_text, view_text, views_text}
+use Rattle.rh_viewed_trace.proofs.InTurn.{prefix_more, prefix_of_cycles}
 
--- a step of the engine
+-- a step of the engine, and what its reader reads
 abbrev pub EngineSteps : EngineState → Request → EngineState → Answered → Type 0
 EngineSteps s request t answered = (t ≡ (request_step s request).0) × (answered ≡ (request_step s request).1)
 
-pub answers_to-runs : (s : EngineState) (requests : List Request) (t : EngineState) (answers : List Answered) → Runs EngineSteps s requests t answers → answers ≡ answers_to s requests
-answers_to-runs s [] t [] runs = refl
-answers_to-runs s [] t (a ∷ answers) runs = absurd runs
-answers_to-runs s (r ∷ requests) t [] runs = absurd runs
-answers_to-runs s (r ∷ requests) t (a ∷ answers) runs =
-    let later = answers_to-runs runs.0 requests t answers runs.2 in
-    ap (λ (x : Answered). x ∷ answers) runs.1.1
-    ∙ ap (λ (xs : List Answered). (request_step s r).1 ∷ xs) (later ∙ ap (λ (m : EngineState). answers_to m requests) runs.1.0)
+abbrev pub engine_read : EngineState → ReaderState → ℕ → EntryCounts → ReaderState × Option Cycle
+engine_read s reader line entries = read_step reader (reading_after s line entries)
+
+pub answers_to-runs : (line : ℕ) (s : EngineState × ReaderState) (requests : List Request) (t : EngineState × ReaderState) (seen : List Seen) → Runs EngineSteps engine_read line s requests t seen → answers_in seen ≡ answers_to s.0 requests
+answers_to-runs line s [] t [] runs = refl
+answers_to-runs line s [] t (one ∷ seen) runs = absurd runs
+answers_to-runs line s (r ∷ requests) t [] runs = absurd runs
+answers_to-runs line s (r ∷ requests) t (one ∷ seen) runs =
+    let step = runs.1.0 in
+    ap (λ (x : Answered). x ∷ answers_in seen) step.1
+    ∙ ap (λ (xs : List Answered). (request_step s.0 r).1 ∷ xs) (answers_to-runs (line + 1) runs.0 requests t seen runs.2 ∙ ap (λ (m : EngineState). answers_to m requests) step.0)
+
+-- what was read after the first line, by what was answered to it
+abbrev first_reading : ℕ → EngineState → Request → Reading
+first_reading line e r = reading_after (request_step e r).0 line (entries_of (request_step e r).1)
+
+pub cycles_of-runs : (line : ℕ) (s : EngineState × ReaderState) (requests : List Request) (t : EngineState × ReaderState) (seen : List Seen) → Runs EngineSteps engine_read line s requests t seen → cycles_in seen ≡ cycles_of s.1 (readings_to line s.0 requests)
+cycles_of-runs line s [] t [] runs = refl
+cycles_of-runs line s [] t (one ∷ seen) runs = absurd runs
+cycles_of-runs line s (r ∷ requests) t [] runs = absurd runs
+cycles_of-runs line s (r ∷ requests) t (one ∷ seen) runs =
+    let m = runs.0 in
+    let step = runs.1.0 in
+    let x = first_reading line s.0 r in
+    let read : engine_read m.0 s.1 line (entries_of one.answered) ≡ read_step s.1 x =
+    ap (λ (e : EngineState). engine_read e s.1 line (entries_of one.answered)) step.0 ∙ ap (λ (a : Answered). engine_read (request_step s.0 r).0 s.1 line (entries_of a)) step.1 in
+    let both = runs.1.1 ∙ read in
+    let reader = ap (λ (p : ReaderState × Option Cycle). p.0) both in
+    let told = ap (λ (p : ReaderState × Option Cycle). told_cycles p.1) both in
+    ap (λ (cs : List Cycle). cs ++ cycles_in seen) told
+    ∙ ap (λ (cs : List Cycle). told_cycles (read_step s.1 x).1 ++ cs) (cycles_of-runs (line + 1) m requests t seen runs.2 ∙ ap (λ (q : ReaderState). cycles_of q (readings_to (line + 1) m.0 requests)) reader
+    ∙ ap (λ (e : EngineState). cycles_of (read_step s.1 x).0 (readings_to (line + 1) e requests)) step.0)
 
 -- what is told of the first lines, so many of them, comes first of what is told of all
-pub first_views : (telling : Telling) (line : ℕ) (s : EngineState) (k : ℕ) (requests : List Request)
-    → (rest : List ℕ) × (views_text telling (numbered line requests (answers_to s requests)) ≡ views_text telling (numbered line (take k requests) (answers_to s (take k requests))) ++ rest)
+first_views : (telling : Telling) (line : ℕ) (s : EngineState) (k : ℕ) (requests : List Request)
+    → (rest : List ℕ) × (views_text telling (numbered line (take k requests) (answers_to s (take k requests))) ++ rest ≡ views_text telling (numbered line requests (answers_to s requests)))
 first_views telling line s zero requests = (views_text telling (numbered line requests (answers_to s requests)), refl)
 first_views telling line s (suc k) [] = ([], refl)
 first_views telling line s (suc k) (r ∷ requests) =
     let m = (request_step s r).0 in
     let one = view_text telling (record { line = line; request = r; answered = (request_step s r).1 }) in
     let later = first_views telling (line + 1) m k requests in
-    (later.0, ap (λ (t : List ℕ). one ++ t) later.1 ∙ sym (append_assoc one (views_text telling (numbered (line + 1) (take k requests) (answers_to m (take k requests)))) later.0))
+    (later.0, append_assoc one (views_text telling (numbered (line + 1) (take k requests) (answers_to m (take k requests)))) later.0 ∙ ap (λ (t : List ℕ). one ++ t) later.1)
+
+-- and their cycles first of all cycles
+first_cycles : (line : ℕ) (s : EngineState) (q : ReaderState) (k : ℕ) (requests : List Request)
+    → (rest : List Cycle) × (cycles_of q (readings_to line s (take k requests)) ++ rest ≡ cycles_of q (readings_to line s requests))
+first_cycles line s q zero requests = (cycles_of q (readings_to line s requests), refl)
+first_cycles line s q (suc k) [] = ([], refl)
+first_cycles line s q (suc k) (r ∷ requests) =
+    let m = (request_step s r).0 in
+    let told = read_step q (first_reading line s r) in
+    let later = first_cycles (line + 1) m told.0 k requests in
+    (later.0, append_assoc (told_cycles told.1) (cycles_of told.0 (readings_to (line + 1) m (take k requests))) later.0 ∙ ap (λ (cs : List Cycle). told_cycles told.1 ++ cs) later.1)
 
 -- where a prefix was written of what is told of the first lines, one was of what is told of all
-pub prefix_of_all : (telling : Telling) (s last : EngineState) (requests : List Request) (k : ℕ) (answers : List Answered) (a b : Option (List ℕ)) → Runs EngineSteps s (take k requests) last answers
-    → AppendsPrefix a b (views_text telling (numbered 2 (take k requests) answers)) → AppendsPrefix a b (views_text telling (numbered 2 requests (answers_to s requests)))
-prefix_of_all telling s last requests k answers a b runs cut =
-    let some = answers_to-runs s (take k requests) last answers runs in
-    let all = first_views telling 2 s k requests in
-    let here : views_text telling (numbered 2 requests (answers_to s requests)) ≡ (cut.0 ++ cut.1) ++ all.0 =
-    all.1 ∙ ap (λ (t : List ℕ). t ++ all.0) (ap (λ (xs : List Answered). views_text telling (numbered 2 (take k requests) xs)) (sym some) ∙ cut.2) in
-    (cut.0, cut.1 ++ all.0, here ∙ append_assoc cut.0 cut.1 all.0, cut.3)
+pub prefix_of_all : (telling : Telling) (s : EngineState × ReaderState) (requests : List Request) (a b ca cb : Option (List ℕ)) → IsStoppedIn EngineSteps engine_read telling s requests a b ca cb
+    → AppendsPrefix a b (views_text telling (numbered 2 requests (answers_to s.0 requests))) × AppendsPrefix ca cb (cycles_text (cycles_of s.1 (readings_to 2 s.0 requests)))
+prefix_of_all telling s requests a b ca cb cut =
+    let first = take cut.0 requests in
+    let some = answers_to-runs 2 s first cut.1 cut.2 cut.3 in
+    let ended = cycles_of-runs 2 s first cut.1 cut.2 cut.3 in
+    let lines = first_views telling 2 s.0 cut.0 requests in
+    let cycles = first_cycles 2 s.0 s.1 cut.0 requests in (
+      prefix_more a b (views_text telling (numbered 2 first (answers_in cut.2))) lines.0 (views_text telling (numbered 2 requests (answers_to s.0 requests)))
+          (ap (λ (xs : List Answered). views_text telling (numbered 2 first xs) ++ lines.0) some ∙ lines.1) cut.4,
+      prefix_of_cycles ca cb (cycles_in cut.2) cycles.0 (cycles_of s.1 (readings_to 2 s.0 requests)) (ap (λ (cs : List Cycle). cs ++ cycles.0) ended ∙ cycles.1) cut.5,
+    )
 
 -- the text at the end has a byte
 pub total_filled : (telling : Telling) (summary : Summary) → 0 < length (total_text telling summary)

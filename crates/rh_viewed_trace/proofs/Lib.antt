@@ -6,3 +6,6 @@ pub mod ScriptRuns
 pub mod PlainRuns
 pub mod CommandRuns
 pub mod WayRuns
+pub mod LegalReplies
+pub mod WayPlain
+pub mod AsAnswers

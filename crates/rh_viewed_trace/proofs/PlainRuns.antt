@@ -1,5 +1,5 @@
 -- What a viewed run tells and notes are the answers of a plain heap.
-use Rattle.std.proofs.Common.{◌≡◌, ℕ, List, Option, None, Result, Ok, Err}
+use Rattle.std.proofs.Common.{◌≡◌, ℕ, List, Option, None, Result, Ok, Err, sym, subst}
 use Rattle.std.specs.Prelude.{IfOk}
 use Rattle.std.specs.Io.KnownBytes.{Appends, Consumes}
 use Rattle.rh_model.specs.Plain.{empty_plain}
@@ -31,9 +31,10 @@ HistoriesAreLegal = (owners slots : ℕ) (requests : List Request) (answers : Li
 module _ {A : Type 0} (keeps : StaysWellFormed A) (steps : Steps A) (begins : Begins) (dumps : Dumps) (fine : BeginsWellFormed) (legal : HistoriesAreLegal) where
   pub viewed_plain : (telling : Telling) (input : List ℕ) (from to : Option (List ℕ)) (w : Written) → Consumes from to input → (result : Result Summary ViewFault) → Ends telling input result w
       → IfOk result (λ summary. (script : Script) × (answers : List Answered) × IsPlainRun script answers from to × (summary ≡ summary_of answers)
-      × Appends w.old w.new (told_of telling script.requests answers) × Appends w.history_old w.history_new (spelling (history_with script answers)) × IsLegal (history_with script answers))
+      × Appends w.old w.new (told_of telling script.requests answers summary) × Appends w.history_old w.history_new (spelling (history_with script answers)) × IsLegal (history_with script answers))
   viewed_plain telling input from to w consumed (Err fault) ends = tt
   viewed_plain telling input from to w consumed (Ok summary) ends =
       let script = ends.0 in
       let run = plain_run keeps steps begins dumps input script from to consumed ends.1.0.1 (fine (config_of script.header) ends.1.1) in
-      (script, answers_of script, run, ends.2, ends.3, ends.4, legal script.header.owners script.header.slots script.requests (answers_of script) run.answered)
+      let told = subst (λ (sum : Summary). Appends w.old w.new (told_of telling script.requests (answers_of script) sum)) (sym ends.2) ends.3 in
+      (script, answers_of script, run, ends.2, told, ends.4, legal script.header.owners script.header.slots script.requests (answers_of script) run.answered)

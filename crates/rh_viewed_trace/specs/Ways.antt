@@ -9,6 +9,7 @@ use Rattle.rh_pace.specs.Paced.{paced_step}
 use Rattle.rh_pace.specs.declared.pace.Pace.{Pace}
 use Rattle.rh_syntax.specs.Reading.{trace_of}
 use Rattle.rh_syntax.specs.Spelling.{Script}
+use Rattle.rh_replay.specs.Legal.{IsLegal}
 use Rattle.rh_replay.specs.Spelling.{spelling}
 use Rattle.rh_cycles.specs.declared.cycle.Cycle.{Cycle}
 use Rattle.rh_growing.specs.Growing.{growing_step}
@@ -23,7 +24,7 @@ use Rattle.rh_paced_trace.specs.declared.fault.PacedFault.TheVariants as faults
 use Rattle.rh_paced_trace.specs.Growing.{IsGrowingRun, growing_answers_of, growing_sum_of, growth_of, new_growing_run}
 use Rattle.rh_paced_trace.specs.Lines.{commands_in, fault_in}
 use Rattle.rh_paced_trace.specs.Pacing.{IsPaceOf}
-use Rattle.rh_paced_trace.specs.Run.{IsCommandTrace, IsRun, new_run, sum_of}
+use Rattle.rh_paced_trace.specs.Run.{AreSumsOf, IsCommandTrace, IsPlainRun, IsRun, new_run, sum_of}
 use Rattle.rh_viewed_trace.specs.declared.telling.Telling.{Telling}
 use Rattle.rh_viewed_trace.specs.Cycles.{cycles_by, cycles_text, first_read}
 use Rattle.rh_viewed_trace.specs.Run.{KeepsAll, Written, history_with, told_of}
@@ -31,7 +32,7 @@ use Rattle.rh_viewed_trace.specs.Views.{numbered, views_text}
 
 -- answers to commands, as those of the lines of a trace
 abbrev pub answered_by : CommandAnswers → List Answered
-answered_by answers = map answers.Answer answers
+answered_by replies = map answers.Answer replies
 
 -- what the lines of a paced run are answered
 abbrev pub paced_answered : Script → Pace → List Answered
@@ -134,3 +135,16 @@ EndsGrowing at_most telling input (Err (faults.Pace why)) w =
     × (fault_of (config_of script.header) ≡ None)
     × (fault_of_growth (growth_of script at_most) ≡ Some (growing_errors.Pace why)) × KeepsAll w
 EndsGrowing at_most telling input (Err faults.Read) w = KeepsAll w
+
+-- Said of the plain heap alone: the bytes that a reader gave spell a trace of commands, these are
+-- its answers but for limits, what was told and noted is theirs, and that history is legal.
+pub record IsToldPlainly (telling : Telling) (from to : Option (List ℕ)) (w : Written)
+    (summary : Summary) : Type 0 where
+  pub script : Script
+  pub answers : CommandAnswers
+  pub run : IsPlainRun script answers from to
+  pub sums : AreSumsOf answers summary
+  pub told : Appends w.old w.new (told_of telling script.requests (answered_by answers) summary)
+  pub noted :
+      Appends w.history_old w.history_new (spelling (history_with script (answered_by answers)))
+  pub legal : IsLegal (history_with script (answered_by answers))

@@ -7,7 +7,7 @@ use thiserror::Error;
 /// Why a viewed run ended early. `Long`, `Trace` and `New` are faults of the input, in this order;
 /// nothing was written then, and nothing after `Read`. After `Write` a prefix of each text may be
 /// written, and not all of what is told. After `OutOfMemory` a prefix of what is told of the lines
-/// may be written, and nothing of the history.
+/// and one of the text of cycles may be written, and nothing of the history.
 #[derive(Clone, Copy, Debug, PartialEq, Eq, Error)]
 pub enum ViewFault {
     /// A read failed, or 33,554,432 reads didn't come to the end.

@@ -1,17 +1,19 @@
 //! A trace of commands, run on a new heap that grows by itself, and seen in other ways.
 
-ghost use Rattle.std.specs.Prelude.{◌≡◌, ◌≤◌, List, ℕ, length, false, IfSome, IsErrOf};
+ghost use Rattle.std.specs.Prelude.{◌≡◌, ◌≤◌, List, ℕ, length, false, IfOk, IfSome, IsErrOf};
 ghost use Rattle.std.specs.Io.KnownBytes.{Consumes};
 ghost use Rattle.rh_text.specs.IoLog.{AreSpent};
-ghost use Rattle.rh_viewed_trace.specs.Ways.{EndsGrowing};
+ghost use Rattle.rh_viewed_trace.specs.Ways.{EndsGrowing, IsToldPlainly};
 
 use crate::collecting::first_read;
+use crate::laws::the_history_of_plain_replies_is_legal;
 use crate::lines::run_lines;
 use crate::recording::recorder_for;
 use crate::stop::Stop;
 use crate::telling::Telling;
 use rh_layout::OutOfMemory;
 use rh_layout::limits::MAX_INPUT_BYTES;
+use rh_paced_trace::laws::growing::growing_heaps_answer_traces_as_plain_heaps;
 use rh_paced_trace::laws::the_first_line_that_is_no_command_is_told;
 use rh_paced_trace::{PacedFault, growth_of, new_heap, other_fault};
 use rh_syntax::{ParseError, parse};
@@ -88,7 +90,8 @@ fn run_input<A: Allocator + Copy, W: io::Write, H: io::Write, C: io::Write>(
 }
 
 /// Reads a trace of commands whole, runs its lines on a new heap that collects and grows by itself, as
-/// `run_growing` does, and tells and notes them as `run_viewed` does.
+/// `run_growing` does, and tells and notes them, and writes their cycles, as
+/// `run_viewed` does. A line of a cycle has the lines of the trace: line 1 makes the heap.
 ///
 /// # Errors
 ///
@@ -131,6 +134,17 @@ pub fn run_viewed_growing<
           cycles_old = C.contents cycles.old;
           cycles_new = C.contents cycles.new;
         }) }
+    // Said of the plain heap alone, where the run succeeded: which trace was read, which answers
+    // were told and noted, and that the history is legal.
+    ensures plain { IfOk result (IsToldPlainly telling (R.remaining reader.old)
+        (R.remaining reader.new) (record {
+          old = W.contents out.old;
+          new = W.contents out.new;
+          history_old = H.contents history.old;
+          history_new = H.contents history.new;
+          cycles_old = C.contents cycles.old;
+          cycles_new = C.contents cycles.new;
+        })) }
 {
     run_viewed_growing_logged(
         alloc,
@@ -146,7 +160,7 @@ pub fn run_viewed_growing<
 }
 
 /// Runs a trace of commands as `run_viewed_growing` does, and tells in `reads` whether a read failed,
-/// and in `writes` whether a write of either writer did.
+/// and in `writes` whether a write did.
 ///
 /// # Errors
 ///
@@ -190,12 +204,24 @@ pub fn run_viewed_growing_logged<
           cycles_old = C.contents cycles.old;
           cycles_new = C.contents cycles.new;
         }) }
+    ensures plain { IfOk result (IsToldPlainly telling (R.remaining reader.old)
+        (R.remaining reader.new) (record {
+          old = W.contents out.old;
+          new = W.contents out.new;
+          history_old = H.contents history.old;
+          history_new = H.contents history.new;
+          cycles_old = C.contents cycles.old;
+          cycles_new = C.contents cycles.new;
+        })) }
     // Read is answered only where a read failed or none was left, and so with Write.
     ensures read_failed { IsErrOf result PacedFault.Read → AreSpent reads.new }
     ensures no_read_failed { ¬ IsErrOf result PacedFault.Read → reads.new.failed ≡ false }
     ensures write_failed { IsErrOf result PacedFault.Write → AreSpent writes.new }
     ensures no_write_failed { ¬ IsErrOf result PacedFault.Write → writes.new.failed ≡ false }
 {
+    // The laws from which the clause on the plain heap follows.
+    growing_heaps_answer_traces_as_plain_heaps::<A>();
+    the_history_of_plain_replies_is_legal();
     match read_all(alloc, reader, reads) {
         Ok(input) => run_input(
             alloc, &input, at_most, telling, out, history, cycles, writes,

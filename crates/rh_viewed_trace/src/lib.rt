@@ -1,5 +1,6 @@
-//! Runs of traces, seen in other ways: each line with its answer, as objects of JSON, and as the
-//! history of the run's commands. And reports on histories and dumps as JSON.
+//! Runs of traces, seen in other ways: each line with its answer, as objects of JSON, as the history
+//! of the run's commands, and a line for each cycle as it ends. And reports on histories and dumps as
+//! JSON.
 #![tactic(auto)]
 
 mod answering;
@@ -27,7 +28,6 @@ pub use echo::report_echo;
 pub use fault::ViewFault;
 pub use growing::{run_viewed_growing, run_viewed_growing_logged};
 pub use paced::{run_viewed_paced, run_viewed_paced_logged};
-pub use player::Player;
 pub use reports::{fault_json, put_json_dump, put_json_string, report_json};
 pub use request_text::put_request_text;
 pub use rh_paced_trace::PacedFault;

@@ -1,16 +1,23 @@
 //! A trace of commands, run on a new heap that collects by itself, and seen in other ways.
 
-ghost use Rattle.std.specs.Prelude.{◌≡◌, ◌≤◌, List, ℕ, length, false, IfSome, IsErrOf};
+ghost use Rattle.std.specs.Prelude.{◌≡◌, ◌≤◌, List, ℕ, length, false, IfOk, IfSome, IsErrOf};
 ghost use Rattle.std.specs.Io.KnownBytes.{Consumes};
 ghost use Rattle.rh_text.specs.IoLog.{AreSpent};
-ghost use Rattle.rh_viewed_trace.specs.Ways.{EndsPaced};
+ghost use Rattle.rh_viewed_trace.specs.Ways.{EndsPaced, IsToldPlainly};
 
 use crate::collecting::first_read;
+use crate::laws::the_history_of_plain_replies_is_legal;
 use crate::lines::run_lines;
 use crate::recording::recorder_for;
 use crate::stop::Stop;
 use crate::telling::Telling;
 use rh_core::HeapError;
+use rh_core::laws::heaps_answer_as_plain_heaps;
+use rh_core::laws::holds::what_collectors_do_adds_up;
+use rh_core::laws::runs::{
+    a_new_heap_is_well_formed, an_event_answers_as_the_plain_heap,
+    every_event_keeps_a_heap_well_formed,
+};
 use rh_layout::OutOfMemory;
 use rh_layout::limits::MAX_INPUT_BYTES;
 use rh_pace::PacedHeap;
@@ -95,7 +102,8 @@ fn run_input<A: Allocator + Copy, W: io::Write, H: io::Write, C: io::Write>(
 }
 
 /// Reads a trace of commands whole, runs its lines on a new heap that collects by itself, as
-/// `run_paced` does, and tells and notes them as `run_viewed` does.
+/// `run_paced` does, and tells and notes them, and writes their cycles, as
+/// `run_viewed` does. A line of a cycle has the lines of the trace: line 1 makes the heap.
 ///
 /// # Errors
 ///
@@ -132,6 +140,17 @@ pub fn run_viewed_paced<A: Allocator + Copy, R: io::Read, W: io::Write, H: io::W
           cycles_old = C.contents cycles.old;
           cycles_new = C.contents cycles.new;
         }) }
+    // Said of the plain heap alone, where the run succeeded: which trace was read, which answers
+    // were told and noted, and that the history is legal.
+    ensures plain { IfOk result (IsToldPlainly telling (R.remaining reader.old)
+        (R.remaining reader.new) (record {
+          old = W.contents out.old;
+          new = W.contents out.new;
+          history_old = H.contents history.old;
+          history_new = H.contents history.new;
+          cycles_old = C.contents cycles.old;
+          cycles_new = C.contents cycles.new;
+        })) }
 {
     run_viewed_paced_logged(
         alloc,
@@ -147,7 +166,7 @@ pub fn run_viewed_paced<A: Allocator + Copy, R: io::Read, W: io::Write, H: io::W
 }
 
 /// Runs a trace of commands as `run_viewed_paced` does, and tells in `reads` whether a read failed,
-/// and in `writes` whether a write of either writer did.
+/// and in `writes` whether a write did.
 ///
 /// # Errors
 ///
@@ -191,12 +210,28 @@ pub fn run_viewed_paced_logged<
           cycles_old = C.contents cycles.old;
           cycles_new = C.contents cycles.new;
         }) }
+    ensures plain { IfOk result (IsToldPlainly telling (R.remaining reader.old)
+        (R.remaining reader.new) (record {
+          old = W.contents out.old;
+          new = W.contents out.new;
+          history_old = H.contents history.old;
+          history_new = H.contents history.new;
+          cycles_old = C.contents cycles.old;
+          cycles_new = C.contents cycles.new;
+        })) }
     // Read is answered only where a read failed or none was left, and so with Write.
     ensures read_failed { IsErrOf result PacedFault.Read → AreSpent reads.new }
     ensures no_read_failed { ¬ IsErrOf result PacedFault.Read → reads.new.failed ≡ false }
     ensures write_failed { IsErrOf result PacedFault.Write → AreSpent writes.new }
     ensures no_write_failed { ¬ IsErrOf result PacedFault.Write → writes.new.failed ≡ false }
 {
+    // The laws from which the clause on the plain heap follows.
+    heaps_answer_as_plain_heaps();
+    a_new_heap_is_well_formed();
+    an_event_answers_as_the_plain_heap::<A>();
+    every_event_keeps_a_heap_well_formed::<A>();
+    what_collectors_do_adds_up::<A>();
+    the_history_of_plain_replies_is_legal();
     match read_all(alloc, reader, reads) {
         Ok(input) => run_input(alloc, &input, mark, telling, out, history, cycles, writes),
         Err(InputFault::Read) => Err(PacedFault::Read),

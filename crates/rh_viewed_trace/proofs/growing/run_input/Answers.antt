@@ -11,6 +11,7 @@ use Rattle.rh_paced_trace.specs.Lines.{AreCommands, other_fault}
 use Rattle.rh_paced_trace.specs.Growing.{IsGrowingRun, IsGrowthFault, growth_of, new_growing_run}
 use Rattle.rh_paced_trace.specs.Run.{IsCommandTrace}
 use Rattle.rh_paced_trace.proofs.GrownFaults.{sizes-grown, ungrown-unread}
+use Rattle.rh_viewed_trace.specs.Cycles.{first_read}
 use Rattle.rh_viewed_trace.specs.Run.{Written}
 use Rattle.rh_viewed_trace.proofs.WayRuns.{ends_ungrown, growing_cut, growing_done, growing_refused}
 use Rattle.rh_viewed_trace.proofs.growing.run_input.Goals as goal
@@ -33,7 +34,7 @@ returns-in-Err-clause-ends g c =
     let none : other_fault 2 script.requests ≡ None = sym (ap (other_fault 2) c.requests.ensures) ∙ sym c.other_fault.ensures ∙ c.in_default.is in
     let whole : IsCommandTrace c.args.input.now script = record { few = c.requires.few; read = c.in-Ok.ensures.exact; commands = none } in
     let sizes : fault_of (config_of script.header) ≡ None = sym (ap fault_of (c.config_of.ensures ∙ ap config_of c.header.ensures)) ∙ sym c.fault.ensures ∙ c.in_default-fault.is in
-    ends_ungrown c.args.at_most c.args.telling c.args.input.now script c.in-Err.fault (g.W.Write.contents c.args.out.now) (g.H.Write.contents c.args.history.now) whole sizes
+    ends_ungrown c.args.at_most c.args.telling c.args.input.now script c.in-Err.fault (g.W.Write.contents c.args.out.now) (g.H.Write.contents c.args.history.now) (g.C.Write.contents c.args.cycles.now) whole sizes
     (subst (λ (h : Growth). IsGrowthFault h c.in-Err.fault) growth_is c.in-Err.ensures.fault)
 
 pub returns-in-Err-clause-never_read : goal.returns-in-Err-clause-never_read
@@ -61,7 +62,7 @@ run_lines-requires-clause-room g c =
 pub returns-in-Ok-run_lines-clause-ends : goal.returns-in-Ok-run_lines-clause-ends
 returns-in-Ok-run_lines-clause-ends g c =
     let script = c.in-Ok.trace in
-    let w : Written = record { old = g.W.Write.contents c.args.out.now; new = g.W.Write.contents c.run_lines.new.out; history_old = g.H.Write.contents c.args.history.now; history_new = g.H.Write.contents c.run_lines.new.history } in
+    let w : Written = record { old = g.W.Write.contents c.args.out.now; new = g.W.Write.contents c.run_lines.new.out; history_old = g.H.Write.contents c.args.history.now; history_new = g.H.Write.contents c.run_lines.new.history; cycles_old = g.C.Write.contents c.args.cycles.now; cycles_new = g.C.Write.contents c.run_lines.new.cycles } in
     let growth_is : c.growth_of-growth.result ≡ growth_of script c.args.at_most =
     c.growth_of-growth.ensures ∙ ap (λ (h : Header). growth_of (record { header = h; requests = c.requests-2.result.now }) c.args.at_most) c.header-2.ensures
     ∙ ap (λ (r : List Request). growth_of (record { header = script.header; requests = r }) c.args.at_most) c.requests-2.ensures in
@@ -70,14 +71,15 @@ returns-in-Ok-run_lines-clause-ends g c =
     let grows : IsGrowth (growth_of script c.args.at_most) = subst IsGrowth growth_is c.in-Ok-new_heap.ensures.grows in
     let run : IsGrowingRun c.args.at_most c.args.input.now script = record { trace = record { few = c.requires.few; read = c.in-Ok.ensures.exact; commands = none }; sizes = sizes; grows = grows } in
     let begins : c.in-Ok-new_heap.heap ≡ new_growing_run script c.args.at_most = c.in-Ok-new_heap.ensures.made ∙ ap growing_heap growth_is in
+    let reads : c.first_read-reader.result ≡ first_read c.in-Ok-new_heap.heap.paced = c.first_read-reader.ensures ∙ ap first_read c.paced.ensures in
     let empty : c.in-Ok-recorder_for.recorder.history ≡ empty_history script.header.owners script.header.slots = c.in-Ok-recorder_for.ensures.history ∙ ap (λ (h : Header). empty_history h.owners h.slots) c.header-3.ensures in
     let done = c.in-Ok-run_lines.ensures.done in
-    growing_done c.args.at_most c.args.telling c.args.input.now script c.in-Ok-new_heap.heap c.requests-3.result.now c.in-Ok-recorder_for.recorder.history w run begins c.requests-3.ensures empty c.run_lines.new.player c.in-Ok-run_lines.summary done.0 done.1 done.2 done.3 done.4
+    growing_done c.args.at_most c.args.telling c.args.input.now script (c.in-Ok-new_heap.heap, c.first_read-reader.result) c.requests-3.result.now c.in-Ok-recorder_for.recorder.history w run begins reads c.requests-3.ensures empty (c.run_lines.new.player, c.run_lines.new.reader) c.in-Ok-run_lines.summary done.0 done.1 done.2 done.3 done.4 done.5
 
 pub returns-in-Err-Write-clause-ends : goal.returns-in-Err-Write-clause-ends
 returns-in-Err-Write-clause-ends g c =
     let script = c.in-Ok.trace in
-    let w : Written = record { old = g.W.Write.contents c.args.out.now; new = g.W.Write.contents c.run_lines.new.out; history_old = g.H.Write.contents c.args.history.now; history_new = g.H.Write.contents c.run_lines.new.history } in
+    let w : Written = record { old = g.W.Write.contents c.args.out.now; new = g.W.Write.contents c.run_lines.new.out; history_old = g.H.Write.contents c.args.history.now; history_new = g.H.Write.contents c.run_lines.new.history; cycles_old = g.C.Write.contents c.args.cycles.now; cycles_new = g.C.Write.contents c.run_lines.new.cycles } in
     let growth_is : c.growth_of-growth.result ≡ growth_of script c.args.at_most =
     c.growth_of-growth.ensures ∙ ap (λ (h : Header). growth_of (record { header = h; requests = c.requests-2.result.now }) c.args.at_most) c.header-2.ensures
     ∙ ap (λ (r : List Request). growth_of (record { header = script.header; requests = r }) c.args.at_most) c.requests-2.ensures in
@@ -86,8 +88,9 @@ returns-in-Err-Write-clause-ends g c =
     let grows : IsGrowth (growth_of script c.args.at_most) = subst IsGrowth growth_is c.in-Ok-new_heap.ensures.grows in
     let run : IsGrowingRun c.args.at_most c.args.input.now script = record { trace = record { few = c.requires.few; read = c.in-Ok.ensures.exact; commands = none }; sizes = sizes; grows = grows } in
     let begins : c.in-Ok-new_heap.heap ≡ new_growing_run script c.args.at_most = c.in-Ok-new_heap.ensures.made ∙ ap growing_heap growth_is in
+    let reads : c.first_read-reader.result ≡ first_read c.in-Ok-new_heap.heap.paced = c.first_read-reader.ensures ∙ ap first_read c.paced.ensures in
     let empty : c.in-Ok-recorder_for.recorder.history ≡ empty_history script.header.owners script.header.slots = c.in-Ok-recorder_for.ensures.history ∙ ap (λ (h : Header). empty_history h.owners h.slots) c.header-3.ensures in
-    growing_cut c.args.at_most c.args.telling c.args.input.now script c.in-Ok-new_heap.heap c.requests-3.result.now c.in-Ok-recorder_for.recorder.history w run begins c.requests-3.ensures empty c.run_lines.new.player (c.run_lines.ensures.write (c.in-Err-Write.is ∙ ap Err c.in-Err-Write.field-0-is))
+    growing_cut c.args.at_most c.args.telling c.args.input.now script (c.in-Ok-new_heap.heap, c.first_read-reader.result) c.requests-3.result.now c.in-Ok-recorder_for.recorder.history w run begins reads c.requests-3.ensures empty (c.run_lines.new.player, c.run_lines.new.reader) (c.run_lines.ensures.write (c.in-Err-Write.is ∙ ap Err c.in-Err-Write.field-0-is))
 
 pub returns-in-Err-Write-clause-failed : goal.returns-in-Err-Write-clause-failed
 returns-in-Err-Write-clause-failed g c =
@@ -96,7 +99,7 @@ returns-in-Err-Write-clause-failed g c =
 pub returns-clause-ends : goal.returns-clause-ends
 returns-clause-ends g c =
     let script = c.in-Ok.trace in
-    let w : Written = record { old = g.W.Write.contents c.args.out.now; new = g.W.Write.contents c.run_lines.new.out; history_old = g.H.Write.contents c.args.history.now; history_new = g.H.Write.contents c.run_lines.new.history } in
+    let w : Written = record { old = g.W.Write.contents c.args.out.now; new = g.W.Write.contents c.run_lines.new.out; history_old = g.H.Write.contents c.args.history.now; history_new = g.H.Write.contents c.run_lines.new.history; cycles_old = g.C.Write.contents c.args.cycles.now; cycles_new = g.C.Write.contents c.run_lines.new.cycles } in
     let growth_is : c.growth_of-growth.result ≡ growth_of script c.args.at_most =
     c.growth_of-growth.ensures ∙ ap (λ (h : Header). growth_of (record { header = h; requests = c.requests-2.result.now }) c.args.at_most) c.header-2.ensures
     ∙ ap (λ (r : List Request). growth_of (record { header = script.header; requests = r }) c.args.at_most) c.requests-2.ensures in
@@ -105,5 +108,6 @@ returns-clause-ends g c =
     let grows : IsGrowth (growth_of script c.args.at_most) = subst IsGrowth growth_is c.in-Ok-new_heap.ensures.grows in
     let run : IsGrowingRun c.args.at_most c.args.input.now script = record { trace = record { few = c.requires.few; read = c.in-Ok.ensures.exact; commands = none }; sizes = sizes; grows = grows } in
     let begins : c.in-Ok-new_heap.heap ≡ new_growing_run script c.args.at_most = c.in-Ok-new_heap.ensures.made ∙ ap growing_heap growth_is in
+    let reads : c.first_read-reader.result ≡ first_read c.in-Ok-new_heap.heap.paced = c.first_read-reader.ensures ∙ ap first_read c.paced.ensures in
     let empty : c.in-Ok-recorder_for.recorder.history ≡ empty_history script.header.owners script.header.slots = c.in-Ok-recorder_for.ensures.history ∙ ap (λ (h : Header). empty_history h.owners h.slots) c.header-3.ensures in
-    growing_refused c.args.at_most c.args.telling c.args.input.now script c.in-Ok-new_heap.heap c.requests-3.result.now c.in-Ok-recorder_for.recorder.history w run begins c.requests-3.ensures empty (c.run_lines.ensures.memory (c.in-Err-OutOfMemory-run_lines.is ∙ ap Err c.in-Err-OutOfMemory-run_lines.field-0-is))
+    growing_refused c.args.at_most c.args.telling c.args.input.now script (c.in-Ok-new_heap.heap, c.first_read-reader.result) c.requests-3.result.now c.in-Ok-recorder_for.recorder.history w run begins reads c.requests-3.ensures empty (c.run_lines.ensures.memory (c.in-Err-OutOfMemory-run_lines.is ∙ ap Err c.in-Err-OutOfMemory-run_lines.field-0-is))

@@ -2,7 +2,6 @@ use Rattle.std.proofs.Common.{◌≡◌, List, [], None, Ok, Err, length, ap, su
 use Rattle.rh_mutator.specs.declared.config.Config.{Config}
 use Rattle.rh_mutator.specs.Config.{fault_of}
 use Rattle.rh_core.specs.Heap.{new_heap}
-use Rattle.rh_text.specs.lemmas.Appends.{Keeps-same}
 use Rattle.rh_syntax.specs.declared.line.Header.{Header}
 use Rattle.rh_syntax.specs.declared.request.Request.{Request}
 use Rattle.rh_replay.specs.History.{HistoryState, empty_history}
@@ -12,6 +11,7 @@ use Rattle.rh_paced_trace.specs.Lines.{AreCommands, other_fault}
 use Rattle.rh_paced_trace.specs.Pacing.{IsPaceOf}
 use Rattle.rh_paced_trace.specs.Run.{IsCommandTrace, IsRun, new_run}
 use Rattle.rh_viewed_trace.specs.Run.{Written}
+use Rattle.rh_viewed_trace.proofs.ScriptRuns.{keeps_all}
 use Rattle.rh_viewed_trace.proofs.WayRuns.{paced_cut, paced_done, paced_refused}
 use Rattle.rh_viewed_trace.proofs.paced.run_input.Goals as goal
 
@@ -41,13 +41,13 @@ returns-in-Err-Config-clause-ends g c =
     let none : other_fault 2 script.requests ≡ None = sym (ap (other_fault 2) c.requests.ensures) ∙ sym c.other_fault.ensures ∙ c.in_default.is in
     let whole : IsCommandTrace c.args.input.now script = record { few = c.requires.few; read = c.in-Ok.ensures.exact; commands = none } in
     let refused = c.in-Err-Config.is ∙ ap Err c.in-Err-Config.field-0-is in
-    (script, whole, ap fault_of (sym config_is) ∙ (c.new.ensures.fault fault).0 refused, (Keeps-same (g.W.Write.contents c.args.out.now), Keeps-same (g.H.Write.contents c.args.history.now)))
+    (script, whole, ap fault_of (sym config_is) ∙ (c.new.ensures.fault fault).0 refused, keeps_all (g.W.Write.contents c.args.out.now) (g.H.Write.contents c.args.history.now) (g.C.Write.contents c.args.cycles.now))
 
 pub returns-in-Ok-run_lines-clause-ends : goal.returns-in-Ok-run_lines-clause-ends
 returns-in-Ok-run_lines-clause-ends g c =
     let script = c.in-Ok.trace in
     let pace = c.in-Ok-pace_of.pace in
-    let w : Written = record { old = g.W.Write.contents c.args.out.now; new = g.W.Write.contents c.run_lines.new.out; history_old = g.H.Write.contents c.args.history.now; history_new = g.H.Write.contents c.run_lines.new.history } in
+    let w : Written = record { old = g.W.Write.contents c.args.out.now; new = g.W.Write.contents c.run_lines.new.out; history_old = g.H.Write.contents c.args.history.now; history_new = g.H.Write.contents c.run_lines.new.history; cycles_old = g.C.Write.contents c.args.cycles.now; cycles_new = g.C.Write.contents c.run_lines.new.cycles } in
     let config_is : c.config_of-config.result ≡ config_of script.header = c.config_of-config.ensures ∙ ap config_of c.header.ensures in
     let none : other_fault 2 script.requests ≡ None = sym (ap (other_fault 2) c.requests.ensures) ∙ sym c.other_fault.ensures ∙ c.in_default.is in
     let sizes : fault_of (config_of script.header) ≡ None = sym (ap fault_of config_is) ∙ sym c.fault.ensures ∙ c.in_default-fault.is in
@@ -58,13 +58,13 @@ returns-in-Ok-run_lines-clause-ends g c =
     let begins : c.in-Ok-new.heap ≡ new_run script pace = c.in-Ok-new.ensures.made ∙ ap (λ (conf : Config). paced_heap (new_heap conf) pace) config_is in
     let empty : c.in-Ok-recorder_for.recorder.history ≡ empty_history script.header.owners script.header.slots = c.in-Ok-recorder_for.ensures.history ∙ ap (λ (h : Header). empty_history h.owners h.slots) c.header-3.ensures in
     let done = c.in-Ok-run_lines.ensures.done in
-    paced_done c.args.mark c.args.telling c.args.input.now script pace c.in-Ok-new.heap c.requests-3.result.now c.in-Ok-recorder_for.recorder.history w run begins c.requests-3.ensures empty c.run_lines.new.player c.in-Ok-run_lines.summary done.0 done.1 done.2 done.3 done.4
+    paced_done c.args.mark c.args.telling c.args.input.now script pace (c.in-Ok-new.heap, c.first_read-reader.result) c.requests-3.result.now c.in-Ok-recorder_for.recorder.history w run begins c.first_read-reader.ensures c.requests-3.ensures empty (c.run_lines.new.player, c.run_lines.new.reader) c.in-Ok-run_lines.summary done.0 done.1 done.2 done.3 done.4 done.5
 
 pub returns-in-Err-Write-clause-ends : goal.returns-in-Err-Write-clause-ends
 returns-in-Err-Write-clause-ends g c =
     let script = c.in-Ok.trace in
     let pace = c.in-Ok-pace_of.pace in
-    let w : Written = record { old = g.W.Write.contents c.args.out.now; new = g.W.Write.contents c.run_lines.new.out; history_old = g.H.Write.contents c.args.history.now; history_new = g.H.Write.contents c.run_lines.new.history } in
+    let w : Written = record { old = g.W.Write.contents c.args.out.now; new = g.W.Write.contents c.run_lines.new.out; history_old = g.H.Write.contents c.args.history.now; history_new = g.H.Write.contents c.run_lines.new.history; cycles_old = g.C.Write.contents c.args.cycles.now; cycles_new = g.C.Write.contents c.run_lines.new.cycles } in
     let config_is : c.config_of-config.result ≡ config_of script.header = c.config_of-config.ensures ∙ ap config_of c.header.ensures in
     let none : other_fault 2 script.requests ≡ None = sym (ap (other_fault 2) c.requests.ensures) ∙ sym c.other_fault.ensures ∙ c.in_default.is in
     let sizes : fault_of (config_of script.header) ≡ None = sym (ap fault_of config_is) ∙ sym c.fault.ensures ∙ c.in_default-fault.is in
@@ -74,7 +74,7 @@ returns-in-Err-Write-clause-ends g c =
     let run : IsRun c.args.mark c.args.input.now script pace = record { trace = record { few = c.requires.few; read = c.in-Ok.ensures.exact; commands = none }; sizes = sizes; paced = paced } in
     let begins : c.in-Ok-new.heap ≡ new_run script pace = c.in-Ok-new.ensures.made ∙ ap (λ (conf : Config). paced_heap (new_heap conf) pace) config_is in
     let empty : c.in-Ok-recorder_for.recorder.history ≡ empty_history script.header.owners script.header.slots = c.in-Ok-recorder_for.ensures.history ∙ ap (λ (h : Header). empty_history h.owners h.slots) c.header-3.ensures in
-    paced_cut c.args.mark c.args.telling c.args.input.now script pace c.in-Ok-new.heap c.requests-3.result.now c.in-Ok-recorder_for.recorder.history w run begins c.requests-3.ensures empty c.run_lines.new.player (c.run_lines.ensures.write (c.in-Err-Write.is ∙ ap Err c.in-Err-Write.field-0-is))
+    paced_cut c.args.mark c.args.telling c.args.input.now script pace (c.in-Ok-new.heap, c.first_read-reader.result) c.requests-3.result.now c.in-Ok-recorder_for.recorder.history w run begins c.first_read-reader.ensures c.requests-3.ensures empty (c.run_lines.new.player, c.run_lines.new.reader) (c.run_lines.ensures.write (c.in-Err-Write.is ∙ ap Err c.in-Err-Write.field-0-is))
 
 pub returns-in-Err-Write-clause-failed : goal.returns-in-Err-Write-clause-failed
 returns-in-Err-Write-clause-failed g c =
@@ -84,7 +84,7 @@ pub returns-clause-ends : goal.returns-clause-ends
 returns-clause-ends g c =
     let script = c.in-Ok.trace in
     let pace = c.in-Ok-pace_of.pace in
-    let w : Written = record { old = g.W.Write.contents c.args.out.now; new = g.W.Write.contents c.run_lines.new.out; history_old = g.H.Write.contents c.args.history.now; history_new = g.H.Write.contents c.run_lines.new.history } in
+    let w : Written = record { old = g.W.Write.contents c.args.out.now; new = g.W.Write.contents c.run_lines.new.out; history_old = g.H.Write.contents c.args.history.now; history_new = g.H.Write.contents c.run_lines.new.history; cycles_old = g.C.Write.contents c.args.cycles.now; cycles_new = g.C.Write.contents c.run_lines.new.cycles } in
     let config_is : c.config_of-config.result ≡ config_of script.header = c.config_of-config.ensures ∙ ap config_of c.header.ensures in
     let none : other_fault 2 script.requests ≡ None = sym (ap (other_fault 2) c.requests.ensures) ∙ sym c.other_fault.ensures ∙ c.in_default.is in
     let sizes : fault_of (config_of script.header) ≡ None = sym (ap fault_of config_is) ∙ sym c.fault.ensures ∙ c.in_default-fault.is in
@@ -94,4 +94,4 @@ returns-clause-ends g c =
     let run : IsRun c.args.mark c.args.input.now script pace = record { trace = record { few = c.requires.few; read = c.in-Ok.ensures.exact; commands = none }; sizes = sizes; paced = paced } in
     let begins : c.in-Ok-new.heap ≡ new_run script pace = c.in-Ok-new.ensures.made ∙ ap (λ (conf : Config). paced_heap (new_heap conf) pace) config_is in
     let empty : c.in-Ok-recorder_for.recorder.history ≡ empty_history script.header.owners script.header.slots = c.in-Ok-recorder_for.ensures.history ∙ ap (λ (h : Header). empty_history h.owners h.slots) c.header-3.ensures in
-    paced_refused c.args.mark c.args.telling c.args.input.now script pace c.in-Ok-new.heap c.requests-3.result.now c.in-Ok-recorder_for.recorder.history w run begins c.requests-3.ensures empty (c.run_lines.ensures.memory (c.in-Err-OutOfMemory-run_lines.is ∙ ap Err c.in-Err-OutOfMemory-run_lines.field-0-is))
+    paced_refused c.args.mark c.args.telling c.args.input.now script pace (c.in-Ok-new.heap, c.first_read-reader.result) c.requests-3.result.now c.in-Ok-recorder_for.recorder.history w run begins c.first_read-reader.ensures c.requests-3.ensures empty (c.run_lines.ensures.memory (c.in-Err-OutOfMemory-run_lines.is ∙ ap Err c.in-Err-OutOfMemory-run_lines.field-0-is))

@@ -4,7 +4,7 @@ use Rattle.rh_viewed_trace.proofs.playing.play.Given as goal
 
 abbrev pub invariant-loop-request : goal.invariant-loop-request
 invariant-loop-request g l = record {
-  played : Played g.P.Player.Steps l.telling l.fn.player l.fn.recorder.history (g.W.Write.contents l.fn.out) (take l.request-index l.requests) l.player l.recorder.history (g.W.Write.contents l.out) l.counted;
+  played : Played g.P.Player.Steps g.P.Player.read l.telling (l.fn.player, l.fn.reader) l.fn.recorder.history (g.W.Write.contents l.fn.out) (g.C.Write.contents l.fn.cycles) (take l.request-index l.requests) (l.player, l.reader) l.recorder.history (g.W.Write.contents l.out) (g.C.Write.contents l.cycles) l.counted;
   line : l.line ≡ l.request-index + 2;
   room : length l.recorder.history.calls ≤ length l.fn.recorder.history.calls + l.request-index;
   limit : l.recorder.limit ≡ l.fn.recorder.limit;

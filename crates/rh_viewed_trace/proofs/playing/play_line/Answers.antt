@@ -28,4 +28,4 @@ returns-clause-stepped g c =
     let told = c.in_ok-other.ensures.stepped in
     let h = c.args.recorder.now.history in
     let none = call_of-other c.args.request.now told.0 (λ owner command is. c.in_default.not-Command owner command is) in
-    (told.0, told.1, told.2, told.3, no_calls_more h ∙ ap (with_calls h) none)
+    (told.0, told.1, told.2, told.4, no_calls_more h ∙ ap (with_calls h) none, told.3)

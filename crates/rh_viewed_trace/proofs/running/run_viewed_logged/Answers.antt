@@ -6,17 +6,17 @@ use Rattle.rh_viewed_trace.proofs.ScriptRuns.{refused_first, refused_first_of}
 use Rattle.rh_viewed_trace.proofs.running.run_viewed_logged.Goals as goal
 
 pub returns-in-Err-OutOfMemory-clause-told : goal.returns-in-Err-OutOfMemory-clause-told
-returns-in-Err-OutOfMemory-clause-told g c = refused_first_of c.args.telling (g.R.Read.remaining c.args.reader.now) (g.W.Write.contents c.args.out.now) (g.H.Write.contents c.args.history.now)
+returns-in-Err-OutOfMemory-clause-told g c = refused_first_of c.args.telling (g.R.Read.remaining c.args.reader.now) (g.W.Write.contents c.args.out.now) (g.H.Write.contents c.args.history.now) (g.C.Write.contents c.args.cycles.now)
 
 pub returns-in-Err-OutOfMemory-clause-read : goal.returns-in-Err-OutOfMemory-clause-read
 returns-in-Err-OutOfMemory-clause-read g c =
     let given = c.read_all.ensures.bytes in
-    (given.0, given.1, refused_first c.args.telling given.0 (g.W.Write.contents c.args.out.now) (g.H.Write.contents c.args.history.now))
+    (given.0, given.1, refused_first c.args.telling given.0 (g.W.Write.contents c.args.out.now) (g.H.Write.contents c.args.history.now) (g.C.Write.contents c.args.cycles.now))
 
 pub returns-in-Ok-clause-plain : goal.returns-in-Ok-clause-plain
 returns-in-Ok-clause-plain g c =
     let known = g.R.Read.remaining in
-    let w : Written = record { old = g.W.Write.contents c.args.out.now; new = g.W.Write.contents c.run_input.new.out; history_old = g.H.Write.contents c.args.history.now; history_new = g.H.Write.contents c.run_input.new.history } in
+    let w : Written = record { old = g.W.Write.contents c.args.out.now; new = g.W.Write.contents c.run_input.new.out; history_old = g.H.Write.contents c.args.history.now; history_new = g.H.Write.contents c.run_input.new.history; cycles_old = g.C.Write.contents c.args.cycles.now; cycles_new = g.C.Write.contents c.run_input.new.cycles } in
     let begins = c.heaps_answer_as_plain_heaps.ensures.new in
     let steps = c.an_event_answers_as_the_plain_heap.ensures in
     let keeps = c.every_event_keeps_a_heap_well_formed.ensures.event in

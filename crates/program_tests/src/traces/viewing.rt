@@ -1,0 +1,258 @@
+//! Runs seen in other ways: echoed, as JSON, with their history and their cycles.
+
+use crate::devices::SlowWriter;
+use crate::expectations::{Row, expect_bytes, expect_equal, expect_prefix, expect_refusals};
+use crate::texts::{TWO_FLIPS, WHOLE_CYCLE};
+use refusing::refused_in_turn;
+use rh_viewed_trace::{
+    PacedFault, Telling, ViewFault, run_viewed, run_viewed_growing, run_viewed_paced,
+};
+use std::alloc::Allocator;
+use std::io;
+use std::process::Abort;
+
+/// On which heap a trace is run.
+#[derive(Clone, Copy)]
+enum Way {
+    Plain,
+    Paced,
+    Growing,
+}
+
+/// A trace, how it is run and told, and the three texts that it gives: what is told, the history,
+/// and the lines of its cycles.
+struct View {
+    way: Way,
+    telling: Telling,
+    trace: &'static [u8],
+    texts: [&'static [u8]; 3],
+}
+
+/// How a run ended that isn't done.
+#[derive(Clone, Copy, Debug, PartialEq)]
+enum Fault {
+    Write,
+    OutOfMemory,
+    Other,
+}
+
+impl From<ViewFault> for Fault {
+    fn from(fault: ViewFault) -> Fault {
+        match fault {
+            ViewFault::Write => Fault::Write,
+            ViewFault::OutOfMemory => Fault::OutOfMemory,
+            _ => Fault::Other,
+        }
+    }
+}
+
+impl From<PacedFault> for Fault {
+    fn from(fault: PacedFault) -> Fault {
+        match fault {
+            PacedFault::Write => Fault::Write,
+            PacedFault::OutOfMemory => Fault::OutOfMemory,
+            _ => Fault::Other,
+        }
+    }
+}
+
+/// Runs a view on the writers of its three texts.
+fn run<A: Allocator + Copy, W: io::Write, H: io::Write, C: io::Write>(
+    alloc: A,
+    view: &View,
+    out: &mut W,
+    history: &mut H,
+    cycles: &mut C,
+) -> Result<(), Fault> {
+    let (mut trace, telling) = (view.trace, view.telling);
+    let reader = &mut trace;
+    match view.way {
+        Way::Plain => run_viewed(alloc, reader, telling, out, history, cycles)?,
+        Way::Paced => run_viewed_paced(alloc, reader, None, telling, out, history, cycles)?,
+        Way::Growing => run_viewed_growing(alloc, reader, 64, telling, out, history, cycles)?,
+    };
+    Ok(())
+}
+
+/// The first line of a text of cycles.
+const COLUMNS: &[u8] = b"number\tend\tepoch\tbegan\tended\tused\tlive\tfreed\tobjects\tgranted\t\
+    idle\tspent\tmost\tlogged\tjoined\trepeated\tstale\tpassed\twords\n";
+
+/// The history of `TWO_FLIPS`, on each heap.
+const TWO_FLIPS_HISTORY: &[u8] = b"history 2 2\n\
+                1 alloc 1.0 2 = object 2\n1 alloc 1.0 2 = object 2\n1 alloc 1.0 2 = object 2\n\
+                1 alloc 1.0 2 = object 2\n1 alloc 1.0 2 = object 2\n1 alloc 1.0 2 = object 2\n\
+                1 alloc 1.0 2 = object 2\n1 alloc 1.0 2 = object 2\n1 alloc 1.0 2 = object 2\n\
+                1 alloc 1.0 2 = object 2\n1 alloc 1.0 2 = object 2\nend 11\n";
+
+const VIEWS: &[View] = &[
+    View {
+        way: Way::Plain,
+        telling: Telling::Echo,
+        trace: WHOLE_CYCLE,
+        texts: [
+            b"2\t1 alloc 1.0 2\tobject 2\n3\tbegin\tcycle 1\n4\t1 alloc 1.1 1\tobject 1\n\
+                5\t1 store 1.0 0 1.1\tdone\n6\tshade 1.0\tplaced\n7\tshade 1.1\tplaced\n\
+                8\tdeal copies 9 t\tdealt 3 passed 0\n\
+                9\tgive t\tgiven joined 3 repeated 0 stale 0 placed 0\n\
+                10\tflip\tflipped roots 2 live 7\n\
+                11\tstat\tstat used 7 free 9 cycle off epoch 2 number 1 log 0 granted 24 spent 15 placed 0 missing 0 idle 0\n\
+                total commands 3 refused 0 flips 1 rootwords 2\n",
+            b"history 2 2\n1 alloc 1.0 2 = object 2\n1 alloc 1.1 1 = object 1\n\
+                1 store 1.0 0 1.1 = done\nend 3\n",
+            b"1\tflipped\t1\t3\t10\t4\t7\t0\t2\t24\t0\t15\t6\t1\t3\t0\t0\t0\t16\n",
+        ],
+    },
+    // A refusal by a limit stands in no history. What was abandoned has a line too.
+    View {
+        way: Way::Plain,
+        telling: Telling::Json,
+        trace: b"heap 16 8 4 2 2\n1 alloc 1.0 1\n1 alloc 1.1 60\n1 drop 2.0\nbegin\n\
+            idle 20\nshade 1.0\ndeal copies 1 t\ntrays\nstat\nabandon\ntrays\ndump\n",
+        texts: [
+            b"{\"line\":2,\"text\":\"1 alloc 1.0 1\",\"answer\":\"object 1\"}\n\
+                {\"line\":3,\"text\":\"1 alloc 1.1 60\",\"answer\":\"refused SpaceFull need 62 free 13\"}\n\
+                {\"line\":4,\"text\":\"1 drop 2.0\",\"answer\":\"refused NoRoot\"}\n\
+                {\"line\":5,\"text\":\"begin\",\"answer\":\"cycle 1\"}\n\
+                {\"line\":6,\"text\":\"idle 20\",\"answer\":\"idle 20\"}\n\
+                {\"line\":7,\"text\":\"shade 1.0\",\"answer\":\"placed\"}\n\
+                {\"line\":8,\"text\":\"deal copies 1 t\",\"answer\":\"dealt 1 passed 0\"}\n\
+                {\"line\":9,\"text\":\"trays\",\"trays\":[{\"name\":\"t\",\"epoch\":1,\"entries\":1}]}\n\
+                {\"line\":10,\"text\":\"stat\",\"stat\":{\"used\":3,\"free\":13,\"cycle\":true,\"epoch\":1,\"number\":0,\"log\":0,\"granted\":0,\"spent\":4,\"placed\":1,\"missing\":1,\"idle\":20}}\n\
+                {\"line\":11,\"text\":\"abandon\",\"answer\":\"abandoned 1\"}\n\
+                {\"line\":12,\"text\":\"trays\",\"trays\":[{\"name\":\"t\",\"epoch\":1,\"entries\":1}]}\n\
+                {\"line\":13,\"dump\":\"rheap 2\"}\n{\"line\":13,\"dump\":\"roots 1\"}\n\
+                {\"line\":13,\"dump\":\"1.0 @0\"}\n{\"line\":13,\"dump\":\"objects 1\"}\n\
+                {\"line\":13,\"dump\":\"@0 1 nil\"}\n{\"line\":13,\"dump\":\"end\"}\n\
+                {\"total\":{\"commands\":3,\"refused\":2,\"flips\":0,\"rootwords\":0}}\n",
+            b"history 2 2\n1 alloc 1.0 1 = object 1\n1 drop 2.0 = refused NoRoot\nend 2\n",
+            b"1\tabandoned\t1\t5\t11\t3\t3\t0\t1\t0\t20\t4\t3\t0\t0\t0\t0\t0\t16\n",
+        ],
+    },
+    View {
+        way: Way::Paced,
+        telling: Telling::Json,
+        trace: TWO_FLIPS,
+        texts: [
+            b"{\"line\":2,\"text\":\"1 alloc 1.0 2\",\"answer\":\"object 2\"}\n\
+                {\"line\":3,\"text\":\"1 alloc 1.0 2\",\"answer\":\"object 2\"}\n\
+                {\"line\":4,\"text\":\"1 alloc 1.0 2\",\"answer\":\"object 2\"}\n\
+                {\"line\":5,\"text\":\"1 alloc 1.0 2\",\"answer\":\"object 2\"}\n\
+                {\"line\":6,\"text\":\"1 alloc 1.0 2\",\"answer\":\"object 2\"}\n\
+                {\"line\":7,\"text\":\"1 alloc 1.0 2\",\"answer\":\"object 2\"}\n\
+                {\"line\":8,\"text\":\"1 alloc 1.0 2\",\"answer\":\"object 2\"}\n\
+                {\"line\":9,\"text\":\"1 alloc 1.0 2\",\"answer\":\"object 2\"}\n\
+                {\"line\":10,\"text\":\"1 alloc 1.0 2\",\"answer\":\"object 2\"}\n\
+                {\"line\":11,\"text\":\"1 alloc 1.0 2\",\"answer\":\"object 2\"}\n\
+                {\"line\":12,\"text\":\"1 alloc 1.0 2\",\"answer\":\"object 2\"}\n\
+                {\"total\":{\"commands\":11,\"refused\":0,\"flips\":2,\"rootwords\":2}}\n",
+            TWO_FLIPS_HISTORY,
+            b"1\tflipped\t1\t6\t7\t20\t4\t20\t1\t32\t0\t9\t9\t0\t-\t-\t-\t-\t29\n\
+                2\tflipped\t2\t11\t12\t20\t4\t20\t1\t32\t0\t9\t9\t0\t-\t-\t-\t-\t29\n",
+        ],
+    },
+    View {
+        way: Way::Growing,
+        telling: Telling::Answers,
+        trace: TWO_FLIPS,
+        texts: [
+            b"object 2\nobject 2\nobject 2\nobject 2\nobject 2\nobject 2\nobject 2\nobject 2\n\
+                object 2\nobject 2\nobject 2\ntotal commands 11 refused 0 flips 3 rootwords 3\n",
+            TWO_FLIPS_HISTORY,
+            b"1\tflipped\t1\t4\t5\t12\t4\t12\t1\t32\t0\t9\t9\t0\t-\t-\t-\t-\t29\n\
+                2\tflipped\t2\t7\t8\t12\t4\t12\t1\t32\t0\t9\t9\t0\t-\t-\t-\t-\t29\n\
+                3\tflipped\t3\t10\t11\t12\t4\t12\t1\t32\t0\t9\t9\t0\t-\t-\t-\t-\t29\n",
+        ],
+    },
+];
+
+/// Which of the three writers fails.
+#[derive(Clone, Copy)]
+enum Failing {
+    Out,
+    History,
+    Cycles,
+}
+
+/// A writer that fails at its nth write if it is the one that fails.
+fn writer(rt: &impl AllocGlobal, fails: bool, nth: u32) -> SlowWriter {
+    SlowWriter::new(rt, 1000, if fails { nth } else { 0 })
+}
+
+/// Runs a view on writers of which one fails at its nth write, and expects prefixes of its texts; of
+/// what is told a whole one only if the run is done. Answers whether it is.
+fn is_done(rt: &(impl AllocGlobal + Abort), view: &View, failing: Failing, nth: u32) -> bool {
+    let [told, history, lines] = view.texts;
+    let mut out = writer(rt, matches!(failing, Failing::Out), nth);
+    let mut noted = writer(rt, matches!(failing, Failing::History), nth);
+    let mut cycles = writer(rt, matches!(failing, Failing::Cycles), nth);
+    let done = run(rt.alloc(), view, &mut out, &mut noted, &mut cycles);
+    expect_prefix(rt, told, &out.text);
+    expect_prefix(rt, history, &noted.text);
+    match cycles.text.strip_prefix(COLUMNS) {
+        Some(rest) => expect_prefix(rt, lines, rest),
+        None => expect_prefix(rt, COLUMNS, &cycles.text),
+    }
+    if done.is_ok() {
+        return true;
+    }
+    expect_equal(rt, done, Err(Fault::Write));
+    assert!(rt; out.text.len() < told.len());
+    false
+}
+
+/// How many writes of a writer failed in turn before the run was done.
+fn failed_writes(rt: &(impl AllocGlobal + Abort), view: &View, failing: Failing) -> u32 {
+    for nth in 1..100u32 {
+        if is_done(rt, view, failing, nth) {
+            return nth - 1;
+        }
+    }
+    0
+}
+
+#[test]
+fn each_way_gives_its_three_texts(rt: HostRuntime) {
+    for (row, view) in VIEWS.iter().enumerate() {
+        let rt = Row { rt: &rt, row };
+        let [told, history, lines] = view.texts;
+        let (mut out, mut noted) = (Vec::new(rt.alloc()), Vec::new(rt.alloc()));
+        let mut cycles = Vec::new(rt.alloc());
+        let done = run(rt.alloc(), view, &mut out, &mut noted, &mut cycles);
+        expect_equal(&rt, done, Ok(()));
+        expect_bytes(&rt, &out, told);
+        expect_bytes(&rt, &noted, history);
+        expect_prefix(&rt, &cycles, COLUMNS);
+        expect_bytes(&rt, cycles.strip_prefix(COLUMNS).unwrap_or(b""), lines);
+    }
+}
+
+#[test]
+fn each_write_fails_in_turn(rt: HostRuntime) {
+    let view = &VIEWS[0];
+    // Ten lines and the total; of the text of cycles two lines.
+    expect_equal(&rt, failed_writes(&rt, view, Failing::Out), 11);
+    assert!(rt; 0 < failed_writes(&rt, view, Failing::History));
+    expect_equal(&rt, failed_writes(&rt, view, Failing::Cycles), 2);
+}
+
+/// Whether memory was refused. Then nothing of the history was written.
+fn is_refused<A: Allocator + Copy>(rt: &(impl AllocGlobal + Abort), memory: A) -> bool {
+    let view = &VIEWS[1];
+    let (mut out, mut noted) = (Vec::new(rt.alloc()), Vec::new(rt.alloc()));
+    let mut cycles = Vec::new(rt.alloc());
+    let done = run(memory, view, &mut out, &mut noted, &mut cycles);
+    expect_prefix(rt, view.texts[0], &out);
+    if done.is_ok() {
+        return false;
+    }
+    expect_equal(rt, done, Err(Fault::OutOfMemory));
+    expect_equal(rt, noted.len(), 0);
+    true
+}
+
+#[test]
+fn each_allocation_is_refused_in_turn(rt: HostRuntime) {
+    let refused = refused_in_turn(rt.alloc(), |memory| is_refused(&rt, memory));
+    expect_refusals(&rt, refused, 20);
+}

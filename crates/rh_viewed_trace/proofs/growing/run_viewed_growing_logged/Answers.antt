@@ -1,0 +1,12 @@
+use Rattle.std.proofs.Common.{sym, subst, ◌∙◌}
+use Rattle.std.specs.Io.KnownBytes.{Consumes}
+use Rattle.rh_viewed_trace.specs.Run.{Written}
+use Rattle.rh_viewed_trace.proofs.WayPlain.{told-growing}
+use Rattle.rh_viewed_trace.proofs.growing.run_viewed_growing_logged.Goals as goal
+
+pub returns-in-Ok-clause-plain : goal.returns-in-Ok-clause-plain
+returns-in-Ok-clause-plain g c =
+    let known = g.R.Read.remaining in
+    let w : Written = record { old = g.W.Write.contents c.args.out.now; new = g.W.Write.contents c.run_input.new.out; history_old = g.H.Write.contents c.args.history.now; history_new = g.H.Write.contents c.run_input.new.history; cycles_old = g.C.Write.contents c.args.cycles.now; cycles_new = g.C.Write.contents c.run_input.new.cycles } in
+    let read = subst (Consumes (known c.args.reader.now) (known c.read_all.new.reader)) (sym (c.deref.ensures.value ∙ c.in-Ok.ensures.bytes.2.0)) c.in-Ok.ensures.bytes.1 in
+    told-growing c.the_history_of_plain_replies_is_legal.ensures c.args.telling c.deref.result.now (known c.args.reader.now) (known c.read_all.new.reader) w read c.growing_heaps_answer_traces_as_plain_heaps.ensures c.args.at_most c.run_input.result c.run_input.ensures.ends
