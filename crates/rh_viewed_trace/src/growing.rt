@@ -90,8 +90,8 @@ fn run_input<A: Allocator + Copy, W: io::Write, H: io::Write, C: io::Write>(
 }
 
 /// Reads a trace of commands whole, runs its lines on a new heap that collects and grows by itself, as
-/// `run_growing` does, and tells and notes them, and writes their cycles, as
-/// `run_viewed` does. A line of a cycle has the lines of the trace: line 1 makes the heap.
+/// `run_growing` does. Tells and notes them, and writes their cycles, as `run_viewed` does. In a line
+/// of a cycle `began` and `ended` are line numbers of the trace; line 1 makes the heap.
 ///
 /// # Errors
 ///

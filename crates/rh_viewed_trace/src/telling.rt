@@ -8,6 +8,6 @@ pub enum Telling {
     /// Each line's number in the trace, its text and its answer, with tabs between. Before the lines
     /// of a listing stands a line whose answer is empty.
     Echo,
-    /// An object of JSON for each line, and for each line of a dump.
+    /// An object of JSON for each line but a `dump`, for each line of a dump, and for the total.
     Json,
 }
