@@ -6,4 +6,5 @@ mod reading;
 mod recalling;
 mod running;
 mod trays;
+mod view_texts;
 mod viewing;

@@ -2,7 +2,7 @@
 
 use crate::devices::SlowWriter;
 use crate::expectations::{Row, expect_bytes, expect_equal, expect_prefix, expect_refusals};
-use crate::texts::{TWO_FLIPS, WHOLE_CYCLE};
+use crate::texts::{TOO_MANY, TWO_FLIPS, WHOLE_CYCLE};
 use refusing::refused_in_turn;
 use rh_viewed_trace::{
     PacedFault, Telling, ViewFault, run_viewed, run_viewed_growing, run_viewed_paced,
@@ -127,6 +127,79 @@ const VIEWS: &[View] = &[
                 {\"total\":{\"commands\":3,\"refused\":2,\"flips\":0,\"rootwords\":0}}\n",
             b"history 2 2\n1 alloc 1.0 1 = object 1\n1 drop 2.0 = refused NoRoot\nend 2\n",
             b"1\tabandoned\t1\t5\t11\t3\t3\t0\t1\t0\t20\t4\t3\t0\t0\t0\t0\t0\t16\n",
+        ],
+    },
+    // No tray, one, and two; numbers of a heap with no cycle and in one.
+    View {
+        way: Way::Plain,
+        telling: Telling::Json,
+        trace: b"heap 64 8 8 2 2\n1 alloc 1.0 2\n1 alloc 1.1 1\n1 store 1.0 0 5\n\
+            1 store 1.0 1 1.1\n1 drop 1.1\ntrays\nstat\nbegin\n1 alloc 1.1 3\n1 drop 1.1\n\
+            shade 1.0\ndeal copies 1 early\n1 store 1.0 0 6\ndeal copies 9 rest\ntrays\n\
+            give rest\ngive early\nstat\n",
+        texts: [
+            b"{\"line\":2,\"text\":\"1 alloc 1.0 2\",\"answer\":\"object 2\"}\n\
+                {\"line\":3,\"text\":\"1 alloc 1.1 1\",\"answer\":\"object 1\"}\n\
+                {\"line\":4,\"text\":\"1 store 1.0 0 5\",\"answer\":\"done\"}\n\
+                {\"line\":5,\"text\":\"1 store 1.0 1 1.1\",\"answer\":\"done\"}\n\
+                {\"line\":6,\"text\":\"1 drop 1.1\",\"answer\":\"done\"}\n\
+                {\"line\":7,\"text\":\"trays\",\"trays\":[]}\n\
+                {\"line\":8,\"text\":\"stat\",\"stat\":{\"used\":7,\"free\":57,\"cycle\":false,\"epoch\":1,\"number\":2,\"log\":0,\"granted\":0,\"spent\":0,\"placed\":0,\"missing\":0,\"idle\":0}}\n\
+                {\"line\":9,\"text\":\"begin\",\"answer\":\"cycle 1\"}\n\
+                {\"line\":10,\"text\":\"1 alloc 1.1 3\",\"answer\":\"object 3\"}\n\
+                {\"line\":11,\"text\":\"1 drop 1.1\",\"answer\":\"done\"}\n\
+                {\"line\":12,\"text\":\"shade 1.0\",\"answer\":\"placed\"}\n\
+                {\"line\":13,\"text\":\"deal copies 1 early\",\"answer\":\"dealt 1 passed 0\"}\n\
+                {\"line\":14,\"text\":\"1 store 1.0 0 6\",\"answer\":\"done\"}\n\
+                {\"line\":15,\"text\":\"deal copies 9 rest\",\"answer\":\"dealt 1 passed 0\"}\n\
+                {\"line\":16,\"text\":\"trays\",\"trays\":[{\"name\":\"early\",\"epoch\":1,\"entries\":1},{\"name\":\"rest\",\"epoch\":1,\"entries\":1}]}\n\
+                {\"line\":17,\"text\":\"give rest\",\"answer\":\"given joined 1 repeated 0 stale 0 placed 1\"}\n\
+                {\"line\":18,\"text\":\"give early\",\"answer\":\"given joined 0 repeated 0 stale 1 placed 0\"}\n\
+                {\"line\":19,\"text\":\"stat\",\"stat\":{\"used\":12,\"free\":52,\"cycle\":true,\"epoch\":1,\"number\":3,\"log\":1,\"granted\":40,\"spent\":11,\"placed\":2,\"missing\":2,\"idle\":0}}\n\
+                {\"total\":{\"commands\":8,\"refused\":0,\"flips\":0,\"rootwords\":0}}\n",
+            b"history 2 2\n1 alloc 1.0 2 = object 2\n1 alloc 1.1 1 = object 1\n\
+                1 store 1.0 0 5 = done\n1 store 1.0 1 1.1 = done\n1 drop 1.1 = done\n\
+                1 alloc 1.1 3 = object 3\n\
+                1 drop 1.1 = done\n1 store 1.0 0 6 = done\nend 8\n",
+            b"",
+        ],
+    },
+    // More is missing than placed.
+    View {
+        way: Way::Plain,
+        telling: Telling::Json,
+        trace: TOO_MANY,
+        texts: [
+            b"{\"line\":2,\"text\":\"1 alloc 1.0 65\",\"answer\":\"object 65\"}\n\
+                {\"line\":3,\"text\":\"begin\",\"answer\":\"cycle 1\"}\n\
+                {\"line\":4,\"text\":\"1 alloc 1.1 5\",\"answer\":\"object 5\"}\n\
+                {\"line\":5,\"text\":\"shade 1.0\",\"answer\":\"placed\"}\n\
+                {\"line\":6,\"text\":\"deal copies 64 a\",\"answer\":\"dealt 64 passed 0\"}\n\
+                {\"line\":7,\"text\":\"deal copies 9 a\",\"answer\":\"dealt 1 passed 0\"}\n\
+                {\"line\":8,\"text\":\"give a\",\"answer\":\"refused TooMany\"}\n\
+                {\"line\":9,\"text\":\"stat\",\"stat\":{\"used\":74,\"free\":950,\"cycle\":true,\"epoch\":1,\"number\":0,\"log\":0,\"granted\":392,\"spent\":68,\"placed\":1,\"missing\":65,\"idle\":0}}\n\
+                {\"total\":{\"commands\":2,\"refused\":0,\"flips\":0,\"rootwords\":0}}\n",
+            b"history 2 2\n1 alloc 1.0 65 = object 65\n1 alloc 1.1 5 = object 5\nend 2\n",
+            b"",
+        ],
+    },
+    // Commands of each sort, and listings below lines of their own.
+    View {
+        way: Way::Plain,
+        telling: Telling::Echo,
+        trace: b"heap 64 8 8 2 2\n1 alloc 1.0 1\n1 load 1.1 1.0 0\n1 copy 1.1 1.0\n1 same 1.0 1.1\n\
+            begin\n1 alloc 1.1 3\n1 drop 1.1\nshade 1.0\ndeal copies 1 t\ntrays\ndump\n",
+        texts: [
+            b"2\t1 alloc 1.0 1\tobject 1\n3\t1 load 1.1 1.0 0\tnil\n4\t1 copy 1.1 1.0\tobject 1\n\
+                5\t1 same 1.0 1.1\tsame yes\n6\tbegin\tcycle 1\n7\t1 alloc 1.1 3\tobject 3\n\
+                8\t1 drop 1.1\tdone\n9\tshade 1.0\tplaced\n10\tdeal copies 1 t\tdealt 1 passed 0\n\
+                11\ttrays\t\ntray t epoch 1 entries 1\n\
+                12\tdump\t\nrheap 2\nroots 1\n1.0 @0\nobjects 1\n@0 1 nil\nend\n\
+                total commands 6 refused 0 flips 0 rootwords 0\n",
+            b"history 2 2\n1 alloc 1.0 1 = object 1\n1 load 1.1 1.0 0 = nil\n\
+                1 copy 1.1 1.0 = object 1\n1 same 1.0 1.1 = same yes\n1 alloc 1.1 3 = object 3\n\
+                1 drop 1.1 = done\nend 6\n",
+            b"",
         ],
     },
     View {

@@ -1,0 +1,94 @@
+//! Requests, reports, faults and dumps, as texts of views.
+
+use crate::expectations::{Row, expect_bytes, expect_equal};
+use crate::texts::{RIGHT, WRONG};
+use rh_layout::Refusal;
+use rh_replay::{Verdict, check, read_history};
+use rh_text::LineText;
+use rh_trace::parse;
+use rh_viewed_trace::{
+    fault_json, put_json_dump, put_json_string, put_request_text, report_echo, report_json,
+};
+
+/// A line of each sort, below the first line of a trace.
+const LINES: &[u8] = b"heap 16 8 4 2 2\n1 alloc 1.0 2\n1 raw 1.1 2\n1 load 1.1 1.0 0\n\
+    1 store 1.0 0 -5\n1 store 1.0 0 1.1\n1 copy 1.1 1.0\n1 same 1.0 1.1\n1 drop 1.1\nbegin\n\
+    shade 1.0\ndeal copies 9 t\ndeal entries 1 u\ngive t\njoin v t\nflip\nrecall\nabandon\n\
+    idle 20\nresize 8\ntickets 3\n1 watch 1.0\nunwatch 2\ngone\ntrays\nstat\ndump\n";
+
+#[test]
+fn a_request_has_the_text_of_its_line(rt: HostRuntime) -> Result<(), &'static str> {
+    let trace = parse(rt.alloc(), LINES).ok().ok_or("a trace")?;
+    let mut lines = LINES.split(|byte| *byte == b'\n');
+    lines.next();
+    let mut text = LineText::new();
+    for (row, request) in trace.requests().iter().enumerate() {
+        let rt = Row { rt: &rt, row };
+        put_request_text(&mut text, request);
+        expect_bytes(&rt, text.as_bytes(), lines.next().unwrap_or(b"no line"));
+    }
+    expect_equal(&rt, trace.requests().len(), 26);
+    Ok(())
+}
+
+/// Histories, each with its verdict, and the report on it as an echo and as JSON.
+const REPORTS: &[(&[u8], Verdict, &[u8], &[u8])] = &[
+    (
+        RIGHT,
+        Verdict::Legal(3),
+        b"owner 1 calls 3\nlegal 3\n",
+        b"{\"owner\":1,\"calls\":3}\n{\"legal\":3}\n",
+    ),
+    (
+        WRONG,
+        Verdict::Wrong {
+            at: 2,
+            expected: Err(Refusal::NoRoot),
+        },
+        b"owner 1 calls 2\nwrong 2 expected refused NoRoot\n3\t1 drop 2.0\tdone\n",
+        b"{\"owner\":1,\"calls\":2}\n{\"wrong\":2,\"expected\":\"refused NoRoot\"}\n",
+    ),
+];
+
+#[test]
+fn a_report_is_told_in_both_ways(rt: HostRuntime) -> Result<(), &'static str> {
+    for (row, &(text, verdict, echo, json)) in REPORTS.iter().enumerate() {
+        let rt = Row { rt: &rt, row };
+        let history = read_history(rt.alloc(), text).ok().ok_or("a history")?;
+        expect_equal(&rt, check(rt.alloc(), &history).ok(), Some(verdict));
+        let told = report_echo(rt.alloc(), &history, &verdict)
+            .ok()
+            .ok_or("an echo")?;
+        expect_bytes(&rt, &told, echo);
+        let told = report_json(rt.alloc(), &history, &verdict)
+            .ok()
+            .ok_or("JSON")?;
+        expect_bytes(&rt, &told, json);
+    }
+    Ok(())
+}
+
+#[test]
+fn a_fault_and_a_dump_are_objects(rt: HostRuntime) -> Result<(), &'static str> {
+    let mut string = Vec::new(rt.alloc());
+    put_json_string(&mut string, "\"\\\n\u{1f}é")
+        .ok()
+        .ok_or("a string")?;
+    expect_bytes(&rt, &string, b"\\\"\\\\\\u000a\\u001f\xc3\xa9");
+    let bare = fault_json(rt.alloc(), "read failed", None)
+        .ok()
+        .ok_or("a fault")?;
+    expect_bytes(&rt, &bare, b"{\"fault\":\"read failed\"}\n");
+    let placed = fault_json(rt.alloc(), "line 3: \"", Some((3, "Trailing")))
+        .ok()
+        .ok_or("a fault")?;
+    expect_bytes(
+        &rt,
+        &placed,
+        b"{\"fault\":\"line 3: \\\"\",\"line\":3,\"kind\":\"Trailing\"}\n",
+    );
+    let mut dump = LineText::new();
+    put_json_dump(&mut dump, 2, 5);
+    expect_bytes(&rt, dump.as_bytes(), b"{\"roots\":2,\"objects\":5}\n");
+    Ok(())
+}
