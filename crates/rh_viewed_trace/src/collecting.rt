@@ -18,7 +18,8 @@ use rh_syntax::Request;
 use rh_trace::Summary;
 use std::alloc::Allocator;
 
-/// What reads the cycles of a new heap, once it read line 1, which made the heap. So a call is a line.
+/// What reads the cycles of a new heap, once it read line 1, which made the heap. So a call is a
+/// line.
 pub(crate) fn first_read<A: Allocator + Copy>(heap: &PacedHeap<A>) -> Cycles
     ensures { result ≡ first_read heap.now }
 {

@@ -26,8 +26,8 @@ fn put_answer<A: Allocator>(
     Ok(())
 }
 
-/// Puts the line of a call: its number in the history's text, its command, and its answer, with tabs
-/// between.
+/// Puts the line of a call: its number in the history's text, its command, and its answer, with
+/// tabs between.
 fn put_call<A: Allocator>(text: &mut Vec<u8, A>, line: u64, call: &Call) -> Result<(), OutOfMemory>
     ensures { OnOk result (text.new.items ≡ text.old.items ++ call_echo line call.now) }
 {

@@ -22,8 +22,8 @@ pub enum ViewFault {
     /// The numbers of the first line make no heap.
     #[error("heap: {0}")]
     New(ConfigFault),
-    /// A write failed or took no byte, or 33,554,432 writes of one text didn't come to its end. What
-    /// is told of a line is one text, a dump too.
+    /// A write failed or took no byte, or 33,554,432 writes of one text didn't come to its end.
+    /// What is told of a line is one text, a dump too.
     #[error("write failed")]
     Write,
     /// The allocator refused memory.

@@ -89,15 +89,15 @@ fn run_input<A: Allocator + Copy, W: io::Write, H: io::Write, C: io::Write>(
     }
 }
 
-/// Reads a trace of commands whole, runs its lines on a new heap that collects and grows by itself, as
-/// `run_growing` does. Tells and notes them, and writes their cycles, as `run_viewed` does. In a line
-/// of a cycle `began` and `ended` are line numbers of the trace; line 1 makes the heap.
+/// Reads a trace of commands whole, runs its lines on a new heap that collects and grows by itself,
+/// as `run_growing` does. Tells and notes them, and writes their cycles, as `run_viewed` does. In a
+/// line of a cycle `began` and `ended` are line numbers of the trace; line 1 makes the heap.
 ///
 /// # Errors
 ///
-/// Of the faults of an input the first is answered: `Long`, then `Trace`, then `New`, then `Limits`,
-/// then `Pace`; nothing is written then. `Read`, `Write` and `OutOfMemory` come where `run_viewed`
-/// answers them, and leave what it leaves.
+/// Of the faults of an input the first is answered: `Long`, then `Trace`, then `New`, then
+/// `Limits`, then `Pace`; nothing is written then. `Read`, `Write` and `OutOfMemory` come where
+/// `run_viewed` answers them, and leave what it leaves.
 pub fn run_viewed_growing<
     A: Allocator + Copy,
     R: io::Read,
@@ -159,8 +159,8 @@ pub fn run_viewed_growing<
     )
 }
 
-/// Runs a trace of commands as `run_viewed_growing` does, and tells in `reads` whether a read failed,
-/// and in `writes` whether a write did.
+/// Runs a trace of commands as `run_viewed_growing` does, and tells in `reads` whether a read
+/// failed, and in `writes` whether a write did.
 ///
 /// # Errors
 ///

@@ -22,8 +22,8 @@ use rh_syntax::Request;
 use rh_trace::Summary;
 use std::alloc::Allocator;
 
-/// What the lines of a trace are played on: the engine of traces, or a heap that collects by itself.
-/// A reader of its cycles is beside it.
+/// What the lines of a trace are played on: the engine of traces, or a heap that collects by
+/// itself. A reader of its cycles is beside it.
 pub trait Player<A: Allocator + Copy, R> {
     /// A request takes one state to another, and this is answered.
     ghost Steps: { Self → RequestOf → Self → Answered → Type 0 };
@@ -31,8 +31,8 @@ pub trait Player<A: Allocator + Copy, R> {
     /// A request that is played.
     ghost Plays: { RequestOf → Type 0 };
 
-    /// The reader once it read the state after a line, with the entries of its deal or give, and the
-    /// cycle that ended at the line.
+    /// The reader once it read the state after a line, with the entries of its deal or give, and
+    /// the cycle that ended at the line.
     ghost read: { Self → R → ℕ → EntryCountsOf → R × Option CycleOf };
 
     /// What a run adds up to that ends so, where so much was counted.

@@ -95,10 +95,10 @@ fn run_input<A: Allocator + Copy, W: io::Write, H: io::Write, C: io::Write>(
     }
 }
 
-/// Reads a trace whole, runs its lines in order on a new heap and on trays, and tells each line, and
-/// at the end what the run adds up to, to `out`. Nothing is written before the whole trace was read
-/// and its heap made. What is told of a line is put together in memory, a dump too. A trace has at
-/// most 16,777,216 bytes, and must end within 33,554,432 reads.
+/// Reads a trace whole, runs its lines in order on a new heap and on trays, and tells each line,
+/// and at the end what the run adds up to, to `out`. Nothing is written before the whole trace was
+/// read and its heap made. What is told of a line is put together in memory, a dump too. A trace
+/// has at most 16,777,216 bytes, and must end within 33,554,432 reads.
 ///
 /// - To `cycles` it writes the names of the columns, and a line for each cycle, in order.
 /// - To `history` it writes the history of the commands that no limit refused.
@@ -108,9 +108,10 @@ fn run_input<A: Allocator + Copy, W: io::Write, H: io::Write, C: io::Write>(
 /// # Errors
 ///
 /// Of the faults of an input the first is answered: `Long`, then `Trace`, then `New`. `Read` comes
-/// where a read failed or was one too many. `Write` comes where a write of one of the writers failed,
-/// or 33,554,432 writes of one text didn't come to its end: what is told of a line is one, a dump too.
-/// `OutOfMemory` comes where the allocator refused memory. What may be written then, `ViewFault` says.
+/// where a read failed or was one too many. `Write` comes where a write of one of the writers
+/// failed, or 33,554,432 writes of one text didn't come to its end: what is told of a line is one,
+/// a dump too. `OutOfMemory` comes where the allocator refused memory. What may be written then,
+/// `ViewFault` says.
 pub fn run_viewed<A: Allocator + Copy, R: io::Read, W: io::Write, H: io::Write, C: io::Write>(
     alloc: A,
     reader: &mut R,
