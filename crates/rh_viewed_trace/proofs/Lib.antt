@@ -9,3 +9,4 @@ pub mod WayRuns
 pub mod LegalReplies
 pub mod WayPlain
 pub mod AsAnswers
+pub mod KeptLines

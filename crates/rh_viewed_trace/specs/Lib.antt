@@ -2,6 +2,7 @@ pub mod Lines
 pub mod Json
 pub mod Views
 pub mod History
+pub mod Kept
 pub mod Cycles
 pub mod Runs
 pub mod Run

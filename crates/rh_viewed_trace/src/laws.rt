@@ -1,6 +1,6 @@
 //! Laws of the definitions alone. Each function does nothing: its contract is the law.
 
-ghost use Rattle.std.specs.Prelude.{◌≡◌, ℕ, Bool, List, None};
+ghost use Rattle.std.specs.Prelude.{◌≡◌, ℕ, Bool, List, None, filter, map, zip};
 ghost use Rattle.rh_model.specs.Plain.{empty_plain};
 ghost use Rattle.rh_replay.specs.Legal.{IsLegal};
 ghost use Rattle.rh_syntax.specs.declared.request.Request.{Request as RequestOf};
@@ -14,7 +14,8 @@ ghost use Rattle.rh_paced_trace.specs.Growing.{growing_sum_of, growing_text_of};
 ghost use Rattle.rh_paced_trace.specs.Run.{AreTransparent as AreRepliesTransparent, sum_of, text_of};
 ghost use Rattle.rh_viewed_trace.specs.Run.{told_of, view_of_run};
 ghost use Rattle.rh_viewed_trace.specs.Ways.{answered_by, growing_answered, paced_answered};
-ghost use Rattle.rh_viewed_trace.specs.History.{history_of};
+ghost use Rattle.rh_viewed_trace.specs.History.{calls_of, history_of};
+ghost use Rattle.rh_viewed_trace.specs.Kept.{is_kept, line_of_call};
 ghost use Rattle.rh_viewed_trace.specs.Views.{numbered};
 
 use crate::telling::Telling;
@@ -36,6 +37,14 @@ pub fn the_history_of_plain_replies_is_legal()
 {
     the_history_of_plain_answers_is_legal();
 }
+
+/// The calls of a run's history are its commands with their answers, in order, without those that a
+/// limit refused.
+pub fn a_history_keeps_the_commands_that_no_limit_refused()
+    ensures { (line : ℕ) (requests : List RequestOf) (answers : List Answered)
+        → map line_of_call (calls_of (numbered line requests answers))
+        ≡ filter (λ (x : RequestOf × Answered). is_kept x.0 x.1) (zip requests answers) }
+{}
 
 /// Told as answers, a run has the text of the run that isn't viewed: on the heap of a trace, at a
 /// pace, and on a heap that grows, whatever it is given.
