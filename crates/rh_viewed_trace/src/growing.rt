@@ -2,7 +2,7 @@
 
 ghost use Rattle.std.specs.Prelude.{◌≡◌, ◌≤◌, List, ℕ, length, false, IfOk, IfSome, IsErrOf};
 ghost use Rattle.std.specs.Io.KnownBytes.{Consumes};
-ghost use Rattle.rh_text.specs.IoLog.{AreSpent};
+ghost use Rattle.rh_text.specs.IoLog.{AreSpent, CountsDown};
 ghost use Rattle.rh_viewed_trace.specs.Ways.{EndsGrowing, IsToldPlainly};
 
 use crate::collecting::first_read;
@@ -134,6 +134,10 @@ pub fn run_viewed_growing<
           cycles_old = C.contents cycles.old;
           cycles_new = C.contents cycles.new;
         }) }
+    // Where a read failed, no more was taken than an input may have.
+    ensures few_read { IsErrOf result PacedFault.Read → (input : List ℕ)
+        × Consumes (R.remaining reader.old) (R.remaining reader.new) input
+        × (length input ≤ MAX_INPUT_BYTES) }
     // Said of the plain heap alone, where the run succeeded: which trace was read, which answers
     // were told and noted, and that the history is legal.
     ensures plain { IfOk result (IsToldPlainly telling (R.remaining reader.old)
@@ -204,6 +208,9 @@ pub fn run_viewed_growing_logged<
           cycles_old = C.contents cycles.old;
           cycles_new = C.contents cycles.new;
         }) }
+    ensures few_read { IsErrOf result PacedFault.Read → (input : List ℕ)
+        × Consumes (R.remaining reader.old) (R.remaining reader.new) input
+        × (length input ≤ MAX_INPUT_BYTES) }
     ensures plain { IfOk result (IsToldPlainly telling (R.remaining reader.old)
         (R.remaining reader.new) (record {
           old = W.contents out.old;
@@ -213,9 +220,12 @@ pub fn run_viewed_growing_logged<
           cycles_old = C.contents cycles.old;
           cycles_new = C.contents cycles.new;
         })) }
-    // Read is answered only where a read failed or none was left, and so with Write.
+    // Read is answered only where a read failed or none was left.
     ensures read_failed { IsErrOf result PacedFault.Read → AreSpent reads.new }
     ensures no_read_failed { ¬ IsErrOf result PacedFault.Read → reads.new.failed ≡ false }
+    // Each read that was made took one of those that were left.
+    ensures reads_counted { CountsDown reads.old.left reads.old reads.new }
+    // Write is answered only where a write failed or none was left.
     ensures write_failed { IsErrOf result PacedFault.Write → AreSpent writes.new }
     ensures no_write_failed { ¬ IsErrOf result PacedFault.Write → writes.new.failed ≡ false }
 {

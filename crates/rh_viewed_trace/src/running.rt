@@ -2,7 +2,7 @@
 
 ghost use Rattle.std.specs.Prelude.{◌≡◌, ◌≤◌, List, ℕ, length, false, IfOk, IfSome, IsErrOf};
 ghost use Rattle.std.specs.Io.KnownBytes.{Appends, Consumes};
-ghost use Rattle.rh_text.specs.IoLog.{AreSpent};
+ghost use Rattle.rh_text.specs.IoLog.{AreSpent, CountsDown};
 ghost use Rattle.rh_syntax.specs.Spelling.{Script};
 ghost use Rattle.rh_replay.specs.Legal.{IsLegal};
 ghost use Rattle.rh_replay.specs.Spelling.{spelling};
@@ -140,6 +140,10 @@ pub fn run_viewed<A: Allocator + Copy, R: io::Read, W: io::Write, H: io::Write, 
           cycles_old = C.contents cycles.old;
           cycles_new = C.contents cycles.new;
         }) }
+    // Where a read failed, no more was taken than an input may have.
+    ensures few_read { IsErrOf result ViewFault.Read → (input : List ℕ)
+        × Consumes (R.remaining reader.old) (R.remaining reader.new) input
+        × (length input ≤ MAX_INPUT_BYTES) }
     // Said of the plain heap alone, where the run succeeded: which trace was read, which answers
     // were told and noted, and that the history is legal.
     ensures plain { IfOk result (λ summary. (script : Script)
@@ -207,6 +211,9 @@ pub fn run_viewed_logged<
           cycles_old = C.contents cycles.old;
           cycles_new = C.contents cycles.new;
         }) }
+    ensures few_read { IsErrOf result ViewFault.Read → (input : List ℕ)
+        × Consumes (R.remaining reader.old) (R.remaining reader.new) input
+        × (length input ≤ MAX_INPUT_BYTES) }
     ensures plain { IfOk result (λ summary. (script : Script)
         × (answers : List Answered)
         × IsPlainRun script answers (R.remaining reader.old) (R.remaining reader.new)
@@ -216,9 +223,12 @@ pub fn run_viewed_logged<
         × Appends (H.contents history.old) (H.contents history.new)
         (spelling (history_with script answers))
         × IsLegal (history_with script answers)) }
-    // Read is answered only where a read failed or none was left, and so with Write.
+    // Read is answered only where a read failed or none was left.
     ensures read_failed { IsErrOf result ViewFault.Read → AreSpent reads.new }
     ensures no_read_failed { ¬ IsErrOf result ViewFault.Read → reads.new.failed ≡ false }
+    // Each read that was made took one of those that were left.
+    ensures reads_counted { CountsDown reads.old.left reads.old reads.new }
+    // Write is answered only where a write failed or none was left.
     ensures write_failed { IsErrOf result ViewFault.Write → AreSpent writes.new }
     ensures no_write_failed { ¬ IsErrOf result ViewFault.Write → writes.new.failed ≡ false }
 {
