@@ -5,6 +5,11 @@ use Rattle.rh_cycles.specs.declared.cycle.CycleEnd.{CycleEnd}
 use Rattle.rh_cycles.specs.declared.cycle.CycleEnd.TheVariants.{Flipped, Abandoned}
 use Rattle.rh_cycles.specs.declared.cycle.EntryCounts.{EntryCounts}
 
+-- the names of the columns, with a line end
+abbrev pub cycles_header : List ℕ
+cycles_header =
+    codes "number\tend\tepoch\tbegan\tended\tused\tlive\tfreed\tobjects\tgranted\tidle\tspent\tmost\tlogged\tjoined\trepeated\tstale\tpassed\twords\n"
+
 -- the next column: a tab and a number
 abbrev pub column : ℕ → List ℕ
 column n = 9 ∷ decimal n

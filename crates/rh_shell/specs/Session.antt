@@ -10,7 +10,7 @@ use Rattle.rh_core.specs.Stat.{stat_of}
 use Rattle.rh_cycles.specs.declared.cycle.Cycle.{Cycle}
 use Rattle.rh_cycles.specs.Cycles.{ReaderState, new_reader, read_step}
 use Rattle.rh_cycles.specs.Heaps.{reading_of, without_entries}
-use Rattle.rh_cycles.specs.Line.{cycle_line}
+use Rattle.rh_cycles.specs.Line.{cycle_line, cycles_header}
 use Rattle.rh_text.specs.RawLine.{RawLine, lines_of}
 use Rattle.rh_text.specs.Output.{AppendsPrefix}
 use Rattle.rh_syntax.specs.declared.fault.Kind.{Kind}
@@ -122,11 +122,6 @@ own_of line =
     else if not (nat_lt 5 (length line.bytes)) then owns.Nothing
     else if bytes_eq (take 5 line.bytes) (codes "draw ") then owns.Draw
     else owns.Nothing
-
--- the names of the columns of a cycle's line
-abbrev pub cycles_header : List ℕ
-cycles_header =
-    codes "number\tend\tepoch\tbegan\tended\tused\tlive\tfreed\tobjects\tgranted\tidle\tspent\tmost\tlogged\tjoined\trepeated\tstale\tpassed\twords\n"
 
 -- a line for each cycle that ended, after one with the names of the columns; the fault Header where
 -- there is no heap

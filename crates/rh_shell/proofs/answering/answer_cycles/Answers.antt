@@ -1,5 +1,6 @@
 use Rattle.std.proofs.Common.{◌≡◌, List, ℕ, ◌++◌, Option, refl, sym, ap, subst, ◌∙◌}
-use Rattle.rh_shell.specs.Session.{PlayingState, IsCyclesAnswer, cycles_header}
+use Rattle.rh_shell.specs.Session.{PlayingState, IsCyclesAnswer}
+use Rattle.rh_cycles.specs.Line.{cycles_header}
 use Rattle.rh_shell.proofs.Shown.{prefix_more, some_then}
 use Rattle.rh_shell.proofs.answering.answer_cycles.Goals as goal
 
