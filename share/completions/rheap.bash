@@ -7,10 +7,10 @@ _rheap() {
         return
     fi
     case ${COMP_WORDS[1]} in
-    run) options='--explain --paced --mark --grow -h --help' valued='--mark --grow' ;;
+    run) options='--explain --paced --mark --grow --cycles --history --echo --json -h --help' valued='--mark --grow' ;;
     threads) options='--explain --replicators --idle -h --help' valued='--replicators --idle' ;;
-    replay) options='--explain -h --help' valued='' ;;
-    dump) options='--explain --dot -h --help' valued='' ;;
+    replay) options='--explain --echo --json -h --help' valued='' ;;
+    dump) options='--explain --dot --json -h --help' valued='' ;;
     draw) options='--explain --line -h --help' valued='--line' ;;
     shell) options='-h --help' valued='' ;;
     completions) options='-h --help' valued='' ;;

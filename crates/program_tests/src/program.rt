@@ -7,3 +7,4 @@ mod failing;
 mod faults;
 mod growing;
 mod terminal;
+mod viewing;

@@ -9,7 +9,7 @@ use Rattle.clap.specs.declared.parser.matches.ArgMatches.TheViews.{out-ArgMatche
 use Rattle.std.specs.Box.{box_value}
 use Rattle.clap.proofs.WalkLemmas.{first_value-rows}
 use Rattle.clap.proofs.OnLiterals.{clap_on_literals}
-use Rattle.rh_cli.specs.Ask.{command_and_file_in, command_and_file_of, command_named, error_kinds, explains_in, explains_of, is_set, options_in, with_file, rheap_app, is_taken, Options}
+use Rattle.rh_cli.specs.Ask.{command_and_file_in, command_and_file_of, command_asked, error_kinds, viewed_by, viewed_in, viewed_of, explains_in, explains_of, is_set, options_in, with_file, rheap_app, is_taken, Options}
 use Rattle.rh_cli.specs.Fault.{IsClapFault}
 use Rattle.rh_cli.specs.declared.fault.LineFault.{LineFault}
 use Rattle.rh_cli.specs.declared.fault.LineFault.TheVariants as faults
@@ -36,6 +36,11 @@ pub record AreHeld (rows : List Row) (given : Options) : Type 0 where
   pub explain : given.explain ≡ first_of (codes "explain") rows
   pub line : given.line ≡ first_of (codes "line") rows
   pub shell : given.shell ≡ first_of (codes "SHELL") rows
+  pub cycles : given.cycles ≡ first_of (codes "cycles") rows
+  pub history : given.history ≡ first_of (codes "history") rows
+  pub echo : given.echo ≡ first_of (codes "echo") rows
+  pub json : given.json ≡ first_of (codes "json") rows
+  pub file : given.file ≡ first_of (codes "FILE") rows
 
 -- the same, of matches
 pub record AreMatched (values : ArgMatches) (given : Options) : Type 0 where
@@ -48,6 +53,11 @@ pub record AreMatched (values : ArgMatches) (given : Options) : Type 0 where
   pub explain : given.explain ≡ first_value (found_of values) (codes "explain")
   pub line : given.line ≡ first_value (found_of values) (codes "line")
   pub shell : given.shell ≡ first_value (found_of values) (codes "SHELL")
+  pub cycles : given.cycles ≡ first_value (found_of values) (codes "cycles")
+  pub history : given.history ≡ first_value (found_of values) (codes "history")
+  pub echo : given.echo ≡ first_value (found_of values) (codes "echo")
+  pub json : given.json ≡ first_value (found_of values) (codes "json")
+  pub file : given.file ≡ first_value (found_of values) (codes "FILE")
 
 held_by_matches : (values : ArgMatches) (given : Options) → AreMatched values given → AreHeld (rows_of (found_of values)) given
 held_by_matches values given m =
@@ -61,27 +71,31 @@ held_by_matches values given m =
       explain = m.explain ∙ first_value-rows found (codes "explain");
       line = m.line ∙ first_value-rows found (codes "line");
       shell = m.shell ∙ first_value-rows found (codes "SHELL");
+      cycles = m.cycles ∙ first_value-rows found (codes "cycles");
+      history = m.history ∙ first_value-rows found (codes "history");
+      echo = m.echo ∙ first_value-rows found (codes "echo");
+      json = m.json ∙ first_value-rows found (codes "json");
+      file = m.file ∙ first_value-rows found (codes "FILE");
     }
 
 held_options : (rows : List Row) (given : Options) → AreHeld rows given → options_in rows ≡ given
 held_options rows given held =
-    sym (rw held.paced (rw held.mark (rw held.grow (rw held.replicators (rw held.idle (rw held.dot (rw held.explain (rw held.line (rw held.shell refl)))))))))
+    sym (rw held.paced (rw held.mark (rw held.grow (rw held.replicators (rw held.idle (rw held.dot (rw held.explain (rw held.line (rw held.shell (rw held.cycles (rw held.history (rw held.echo (rw held.json (rw held.file refl))))))))))))))
 
--- what a file and options of the same matches hold
-from_values : (rows : List Row) (n : Text) (file : Option Text) (given : Options) → file ≡ first_of (codes "FILE") rows → AreHeld rows given
-    → command_and_file_in (Some (labelled n rows)) ≡ with_file (command_named n given) file
-from_values rows n file given f held =
-    rw f (ap (λ o. with_file (command_named n o) (first_of (codes "FILE") rows)) (held_options rows given held))
+-- what options of the same matches hold
+from_values : (rows : List Row) (n : Text) (given : Options) → AreHeld rows given
+    → command_and_file_in (Some (labelled n rows)) ≡ with_file (command_asked n given) given.file
+from_values rows n given held = ap (λ (o : Options). with_file (command_asked n o) o.file) (held_options rows given held)
 
--- a subcommand with this name and these matches is held with the file and the options that they have
-pub command_and_file_in-matches : (m : ArgMatches) (n : Text) (values : ArgMatches) (file : Option Text) (given : Options) → Some n ≡ subcommand_name_of m
+-- a subcommand with this name and these matches is held with the options that they have
+pub command_and_file_in-matches : (m : ArgMatches) (n : Text) (values : ArgMatches) (given : Options) → Some n ≡ subcommand_name_of m
     → Some (rows_of (found_of values)) ≡ option_map (λ (p : Text × List Row). p.1) (subcommand_rows_of m)
-    → file ≡ first_value (found_of values) (codes "FILE") → AreMatched values given
-    → command_and_file_in (subcommand_rows_of m) ≡ with_file (command_named n given) file
-command_and_file_in-matches m n values file given name rows is matched =
+    → AreMatched values given
+    → command_and_file_in (subcommand_rows_of m) ≡ with_file (command_asked n given) given.file
+command_and_file_in-matches m n values given name rows matched =
     let found = found_of values in
     let entered = rows_are (λ b. (out-SubCommand (box_value b)).name.now) (λ b. rows_of (found_of (out-SubCommand (box_value b)).matches)) (out-ArgMatches m).subcommand n (rows_of found) name rows in
-    ap command_and_file_in entered ∙ from_values (rows_of found) n file given (is ∙ first_value-rows found (codes "FILE")) (held_by_matches values given matched)
+    ap command_and_file_in entered ∙ from_values (rows_of found) n given (held_by_matches values given matched)
 
 -- what a subcommand with these matches says of explanations
 pub explains_in-matches : (m : ArgMatches) (n : Text) (values : ArgMatches) (given : Options) → Some n ≡ subcommand_name_of m
@@ -92,6 +106,16 @@ explains_in-matches m n values given name rows matched =
     let found = found_of values in
     let entered = rows_are (λ b. (out-SubCommand (box_value b)).name.now) (λ b. rows_of (found_of (out-SubCommand (box_value b)).matches)) (out-ArgMatches m).subcommand n (rows_of found) name rows in
     ap explains_in entered ∙ ap (λ (o : Options). is_set o.explain) (held_options (rows_of found) given (held_by_matches values given matched))
+
+-- what a subcommand with these matches says of views
+pub viewed_in-matches : (m : ArgMatches) (n : Text) (values : ArgMatches) (given : Options) → Some n ≡ subcommand_name_of m
+    → Some (rows_of (found_of values)) ≡ option_map (λ (p : Text × List Row). p.1) (subcommand_rows_of m)
+    → AreMatched values given
+    → viewed_in (subcommand_rows_of m) ≡ viewed_by given
+viewed_in-matches m n values given name rows matched =
+    let found = found_of values in
+    let entered = rows_are (λ b. (out-SubCommand (box_value b)).name.now) (λ b. rows_of (found_of (out-SubCommand (box_value b)).matches)) (out-ArgMatches m).subcommand n (rows_of found) name rows in
+    ap viewed_in entered ∙ ap viewed_by (held_options (rows_of found) given (held_by_matches values given matched))
 
 is_simple_line : is_simple rheap_app ≡ true
 unfolding clap_on_literals
@@ -110,6 +134,13 @@ unfolding explains_of
 explains_of-matches a arguments m is h =
     let entered = (h (ap is_simple is ∙ is_simple_line)).1 in
     ap explains_in (sym (entered ∙ ap (λ (x : App). subcommand_of x arguments) is))
+
+-- and with views
+pub viewed_of-matches : (a : App) (arguments : List Text) (m : ArgMatches) → a ≡ rheap_app → HasMatchesOf a arguments m → viewed_of arguments ≡ viewed_in (subcommand_rows_of m)
+unfolding viewed_of
+viewed_of-matches a arguments m is h =
+    let entered = (h (ap is_simple is ∙ is_simple_line)).1 in
+    ap viewed_in (sym (entered ∙ ap (λ (x : App). subcommand_of x arguments) is))
 
 -- arguments that clap takes are taken by the same command line under another name
 pub taken-app : (a : App) (arguments : List Text) → a ≡ rheap_app → is_taken arguments ≡ true → takes a arguments ≡ true

@@ -3,9 +3,12 @@ pub mod Counted
 pub mod Drawn
 pub mod Flushed
 pub mod Inputs
+pub mod Reported
 pub mod Sessions
 pub mod SharedStatuses
 pub mod StatusLaws
 pub mod Statuses
 pub mod ThreadsHistory
+pub mod ViewStatuses
+pub mod ViewsFlushed
 pub mod WorkedCounts

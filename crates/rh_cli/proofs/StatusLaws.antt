@@ -89,6 +89,7 @@ memory_is_3 faults.Mark = (λ is. absurd (omega (arith, is)), λ is. cc)
 memory_is_3 faults.Grow = (λ is. absurd (omega (arith, is)), λ is. cc)
 memory_is_3 faults.Replicators = (λ is. absurd (omega (arith, is)), λ is. cc)
 memory_is_3 faults.Idle = (λ is. absurd (omega (arith, is)), λ is. cc)
+memory_is_3 faults.Views = (λ is. absurd (omega (arith, is)), λ is. cc)
 memory_is_3 faults.Shell = (λ is. absurd (omega (arith, is)), λ is. cc)
 memory_is_3 faults.Line = (λ is. absurd (omega (arith, is)), λ is. cc)
 memory_is_3 faults.NoLine = (λ is. absurd (omega (arith, is)), λ is. cc)
@@ -120,6 +121,7 @@ differs_is_4 faults.Mark = (λ is. absurd (omega (arith, is)), λ is. cc)
 differs_is_4 faults.Grow = (λ is. absurd (omega (arith, is)), λ is. cc)
 differs_is_4 faults.Replicators = (λ is. absurd (omega (arith, is)), λ is. cc)
 differs_is_4 faults.Idle = (λ is. absurd (omega (arith, is)), λ is. cc)
+differs_is_4 faults.Views = (λ is. absurd (omega (arith, is)), λ is. cc)
 differs_is_4 faults.Shell = (λ is. absurd (omega (arith, is)), λ is. cc)
 differs_is_4 faults.Line = (λ is. absurd (omega (arith, is)), λ is. cc)
 differs_is_4 faults.NoLine = (λ is. absurd (omega (arith, is)), λ is. cc)
@@ -140,8 +142,8 @@ differs_is_4 faults.HistoryDiffers = (λ is. refl, λ is. refl)
 -- a fault with 2 is one of the command line
 pub only_the_line_is_2 : (fault : LineFault) → status_of fault ≡ 2
     → (fault ≡ faults.NoText) ⊎ ((fault ≡ faults.Incomplete) ⊎ ((fault ≡ faults.Mark) ⊎ ((fault ≡ faults.Grow) ⊎ ((fault ≡ faults.Replicators)
-    ⊎ ((fault ≡ faults.Idle) ⊎ ((fault ≡ faults.Line) ⊎ ((fault ≡ faults.Shell) ⊎ ((error : ClapError) × (fault ≡ faults.Arguments error)))))))))
-only_the_line_is_2 (faults.Arguments error) is = inr (inr (inr (inr (inr (inr (inr (inr (error, refl))))))))
+    ⊎ ((fault ≡ faults.Idle) ⊎ ((fault ≡ faults.Line) ⊎ ((fault ≡ faults.Shell) ⊎ ((fault ≡ faults.Views) ⊎ ((error : ClapError) × (fault ≡ faults.Arguments error))))))))))
+only_the_line_is_2 (faults.Arguments error) is = inr (inr (inr (inr (inr (inr (inr (inr (inr (error, refl)))))))))
 only_the_line_is_2 faults.NoText is = inl refl
 only_the_line_is_2 faults.Incomplete is = inr (inl refl)
 only_the_line_is_2 faults.Mark is = inr (inr (inl refl))
@@ -150,6 +152,7 @@ only_the_line_is_2 faults.Replicators is = inr (inr (inr (inr (inl refl))))
 only_the_line_is_2 faults.Idle is = inr (inr (inr (inr (inr (inl refl)))))
 only_the_line_is_2 faults.Line is = inr (inr (inr (inr (inr (inr (inl refl))))))
 only_the_line_is_2 faults.Shell is = inr (inr (inr (inr (inr (inr (inr (inl refl)))))))
+only_the_line_is_2 faults.Views is = inr (inr (inr (inr (inr (inr (inr (inr (inl refl))))))))
 only_the_line_is_2 faults.NoLine is = absurd (omega (arith, is))
 only_the_line_is_2 (faults.Trace fault) is = absurd (omega (arith, is))
 only_the_line_is_2 (faults.History fault) is = absurd (omega (arith, is))
@@ -180,6 +183,7 @@ only_help_is_0 faults.Mark is = absurd (omega (arith, is))
 only_help_is_0 faults.Grow is = absurd (omega (arith, is))
 only_help_is_0 faults.Replicators is = absurd (omega (arith, is))
 only_help_is_0 faults.Idle is = absurd (omega (arith, is))
+only_help_is_0 faults.Views is = absurd (omega (arith, is))
 only_help_is_0 faults.Shell is = absurd (omega (arith, is))
 only_help_is_0 faults.Line is = absurd (omega (arith, is))
 only_help_is_0 faults.NoLine is = absurd (omega (arith, is))
@@ -250,7 +254,7 @@ paced_fault_is_1_or_3 paced_faults.Write = inl refl
 paced_fault_is_1_or_3 paced_faults.OutOfMemory = inr refl
 
 -- the status after a paced run is one of 0, 1 and 3
-paced_is_0_1_or_3 : (outcome : Result Summary PacedFault) (status : ℕ) → IsPacedStatus outcome status → (status ≡ 0) ⊎ ((status ≡ 1) ⊎ (status ≡ 3))
+pub paced_is_0_1_or_3 : (outcome : Result Summary PacedFault) (status : ℕ) → IsPacedStatus outcome status → (status ≡ 0) ⊎ ((status ≡ 1) ⊎ (status ≡ 3))
 paced_is_0_1_or_3 (Ok summary) status (inl is) = inl is
 paced_is_0_1_or_3 (Ok summary) status (inr is) = inr (inl is)
 paced_is_0_1_or_3 (Err fault) status is =
@@ -322,7 +326,7 @@ count_memory_keeps text input faults.Read old new ends is = ends
 count_memory_keeps text input faults.OutOfMemory old new ends is = ends
 count_memory_keeps text input fault old new ends is = absurd ends
 
-count_is_0 : (text : GraphState → List ℕ) (input : List ℕ) (outcome : Result (Unit {0}) LineFault) (old new : Option (List ℕ)) → DumpEnds text input outcome old new → IsCountStatus outcome 0
+pub count_is_0 : (text : GraphState → List ℕ) (input : List ℕ) (outcome : Result (Unit {0}) LineFault) (old new : Option (List ℕ)) → DumpEnds text input outcome old new → IsCountStatus outcome 0
     → (g : GraphState) × (graph_of_text input ≡ Ok g) × Appends old new (text g)
 count_is_0 text input (Ok done) old new ends is = ends
 count_is_0 text input (Err fault) old new ends is =
@@ -333,7 +337,7 @@ count_is_3 text input (Ok done) old new ends (inl is) = absurd (omega (arith, is
 count_is_3 text input (Ok done) old new ends (inr is) = absurd (omega (arith, is))
 count_is_3 text input (Err fault) old new ends is = count_memory_keeps text input fault old new ends (sym is)
 
-count_is_0_1_or_3 : (text : GraphState → List ℕ) (input : List ℕ) (outcome : Result (Unit {0}) LineFault) (status : ℕ) (old new : Option (List ℕ)) → DumpEnds text input outcome old new → IsCountStatus outcome status
+pub count_is_0_1_or_3 : (text : GraphState → List ℕ) (input : List ℕ) (outcome : Result (Unit {0}) LineFault) (status : ℕ) (old new : Option (List ℕ)) → DumpEnds text input outcome old new → IsCountStatus outcome status
     → (status ≡ 0) ⊎ ((status ≡ 1) ⊎ (status ≡ 3))
 count_is_0_1_or_3 text input (Ok done) status old new ends (inl is) = inl is
 count_is_0_1_or_3 text input (Ok done) status old new ends (inr is) = inr (inl is)
@@ -349,12 +353,12 @@ not_2_or_4 status n (inr four) (inl is) at = omega (arith, four, is, at)
 not_2_or_4 status n (inr four) (inr (inl is)) at = omega (arith, four, is, at)
 not_2_or_4 status n (inr four) (inr (inr is)) at = omega (arith, four, is, at)
 
-late_of_three : (status : ℕ) → (status ≡ 0) ⊎ ((status ≡ 1) ⊎ (status ≡ 3)) → IsLateStatus status
+pub late_of_three : (status : ℕ) → (status ≡ 0) ⊎ ((status ≡ 1) ⊎ (status ≡ 3)) → IsLateStatus status
 late_of_three status (inl is) = (omega (arith, is), λ two. omega (arith, is, two))
 late_of_three status (inr (inl is)) = (omega (arith, is), λ two. omega (arith, is, two))
 late_of_three status (inr (inr is)) = (omega (arith, is), λ two. omega (arith, is, two))
 
-late_of_four : (status : ℕ) → ((status ≡ 0) ⊎ (status ≡ 4)) ⊎ ((status ≡ 1) ⊎ (status ≡ 3)) → IsLateStatus status
+pub late_of_four : (status : ℕ) → ((status ≡ 0) ⊎ (status ≡ 4)) ⊎ ((status ≡ 1) ⊎ (status ≡ 3)) → IsLateStatus status
 late_of_four status (inl (inl is)) = (omega (arith, is), λ two. omega (arith, is, two))
 late_of_four status (inl (inr is)) = (omega (arith, is), λ two. omega (arith, is, two))
 late_of_four status (inr (inl is)) = (omega (arith, is), λ two. omega (arith, is, two))

@@ -70,6 +70,7 @@ fault_at_most_4 faults.Replicators = omega arith
 fault_at_most_4 faults.Idle = omega arith
 fault_at_most_4 faults.Line = omega arith
 fault_at_most_4 faults.Shell = omega arith
+fault_at_most_4 faults.Views = omega arith
 fault_at_most_4 faults.NoLine = omega arith
 fault_at_most_4 (faults.Trace fault) = omega arith
 fault_at_most_4 (faults.History fault) = omega arith

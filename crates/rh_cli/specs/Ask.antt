@@ -1,5 +1,5 @@
 -- The command line of the program, as clap knows it.
-use Rattle.std.specs.Prelude.{ℕ, nat_le, List, Bool, true, false, if◌then◌else◌, Option, Some, None, Result, Ok, Err, codes}
+use Rattle.std.specs.Prelude.{ℕ, ◌+◌, nat_le, nat_lt, List, Bool, true, false, if◌then◌else◌, Option, Some, None, Result, Ok, Err, codes}
 use Rattle.std.specs.Str.{bytes_eq}
 use Rattle.rh_text.specs.Number.{number_of}
 use Rattle.clap.specs.declared.builder.action.ArgAction.TheVariants.{SetTrue}
@@ -7,6 +7,8 @@ use Rattle.clap.specs.Words.{App, Kinds, Row, Rule, Text, new_app, new_rule, wit
 use Rattle.rh_cli.specs.declared.ask.Subcommand.{Subcommand}
 use Rattle.rh_cli.specs.declared.ask.Subcommand.TheVariants.{Run, RunPaced, RunGrowing, Threads, Replay, Dump, Dot, Draw, Session, Completions}
 use Rattle.rh_cli.specs.declared.ask.Shell.TheVariants.{Bash, Zsh, Fish}
+use Rattle.rh_viewed_trace.specs.declared.telling.Telling.{Telling}
+use Rattle.rh_viewed_trace.specs.declared.telling.Telling.TheVariants.{Answers, Echo, Json}
 use Rattle.rh_cli.specs.declared.ask.Ask.{Ask}
 use Rattle.rh_cli.specs.declared.fault.LineFault.{LineFault}
 use Rattle.rh_cli.specs.declared.fault.LineFault.TheVariants as faults
@@ -38,8 +40,34 @@ grow_rule = record (new_rule (codes "grow")) { long = Some (codes "grow"); value
 abbrev pub marked_app : App
 marked_app = with_rule (with_rule (file_app (codes "run")) paced_rule) mark_rule
 
+abbrev pub grown_app : App
+grown_app = with_rule marked_app grow_rule
+
+-- the options that view what is done: two files, and two flags
+abbrev pub cycles_rule : Rule
+cycles_rule = record (new_rule (codes "cycles")) { long = Some (codes "cycles"); value_names = 1 }
+
+abbrev pub history_rule : Rule
+history_rule =
+    record (new_rule (codes "history")) { long = Some (codes "history"); value_names = 1 }
+
+abbrev pub echo_rule : Rule
+echo_rule = record (new_rule (codes "echo")) { long = Some (codes "echo"); action = Some SetTrue }
+
+abbrev pub json_rule : Rule
+json_rule = record (new_rule (codes "json")) { long = Some (codes "json"); action = Some SetTrue }
+
+-- a command with both flags
+abbrev pub told_app : App → App
+told_app app = with_rule (with_rule app echo_rule) json_rule
+
+-- the command `run` with all its options
 abbrev pub run_app : App
-run_app = with_rule marked_app grow_rule
+run_app = told_app (with_rule (with_rule grown_app cycles_rule) history_rule)
+
+-- the command `replay`: a file, and the flags
+abbrev pub replay_app : App
+replay_app = told_app (file_app (codes "replay"))
 
 -- the options of `threads`, each with a value
 abbrev pub replicators_rule : Rule
@@ -57,9 +85,9 @@ threads_app = with_rule (with_rule (file_app (codes "threads")) replicators_rule
 abbrev pub dot_rule : Rule
 dot_rule = record (new_rule (codes "dot")) { long = Some (codes "dot"); action = Some SetTrue }
 
--- the command `dump`: a file, and this option
+-- the command `dump`: a file, this option, and one of the flags
 abbrev pub dump_app : App
-dump_app = with_rule (file_app (codes "dump")) dot_rule
+dump_app = with_rule (with_rule (file_app (codes "dump")) dot_rule) json_rule
 
 -- the option of `draw`, with a value
 abbrev pub line_rule : Rule
@@ -92,7 +120,7 @@ abbrev pub rheap_app : App
 rheap_app =
     let with_run = with_subcommand rheap_top run_app.top
     in let with_threads = with_subcommand with_run threads_app.top
-    in let with_replay = with_subcommand with_threads (file_app (codes "replay")).top
+    in let with_replay = with_subcommand with_threads replay_app.top
     in let with_dump = with_subcommand with_replay dump_app.top
     in let with_draw = with_subcommand with_dump draw_app.top
     in let with_shell = with_subcommand with_draw shell_app.top
@@ -186,6 +214,11 @@ pub record Options : Type 0 where
   pub explain : Option Text
   pub line : Option Text
   pub shell : Option Text
+  pub cycles : Option Text
+  pub history : Option Text
+  pub echo : Option Text
+  pub json : Option Text
+  pub file : Option Text
 
 -- what is written of a dump: its graph for Graphviz where that is asked, and else its counts
 abbrev pub dump_asked : Bool → Subcommand
@@ -204,6 +237,62 @@ command_named name given =
     else (if bytes_eq name (codes "shell") then Ok Session
     else (if bytes_eq name (codes "completions") then completions_asked given.shell
     else Err faults.Incomplete))))))
+
+-- 1 where this holds
+abbrev pub once : Bool → ℕ
+once is = if is then 1 else 0
+
+-- whether the name of a file that is given says standard output
+abbrev pub is_output : Option Text → Bool
+is_output None = false
+is_output (Some name) = bytes_eq name (codes "-")
+
+-- how many of the options would have standard output each for its own text
+abbrev pub output_texts : Options → ℕ
+output_texts given =
+    once (is_output given.cycles) + (once (is_output given.history) + (once (is_set given.echo)
+    + (once (is_set given.json) + once (is_set given.dot))))
+
+-- whether two files that are given are one, other than standard input and output
+abbrev pub is_same_file : Option Text → Option Text → Bool
+is_same_file None other = false
+is_same_file (Some name) None = false
+is_same_file (Some name) (Some other) =
+    if bytes_eq name (codes "-") then false else bytes_eq name other
+
+-- whether a text would go to the file that is read, or two texts to one file
+abbrev pub is_crossed : Options → Bool
+is_crossed given =
+    if is_same_file given.cycles given.history then true
+    else (if is_same_file given.cycles given.file then true
+    else is_same_file given.history given.file)
+
+-- the command of this name with its options, where at most one text is for standard output, and no
+-- text for a file that has another
+abbrev pub command_asked : Text → Options → Result Subcommand LineFault
+command_asked name given =
+    if nat_lt 1 (output_texts given) then Err faults.Views
+    else (if is_crossed given then Err faults.Views else command_named name given)
+
+-- how what is done is told, by the flags
+abbrev pub telling_of : Bool → Bool → Telling
+telling_of echo true = Json
+telling_of true false = Echo
+telling_of false false = Answers
+
+-- how what is done is viewed: how it is told, and the files of its cycles and of its history
+pub record Viewed : Type 0 where
+  pub telling : Telling
+  pub cycles : Option Text
+  pub history : Option Text
+
+-- how it is, by the options
+abbrev pub viewed_by : Options → Viewed
+viewed_by given = record {
+  telling = telling_of (is_set given.echo) (is_set given.json);
+  cycles = given.cycles;
+  history = given.history;
+}
 
 -- the file, or standard input of a command that takes none
 abbrev pub file_or_input : Option Text → Text
@@ -227,6 +316,11 @@ options_in rows = record {
   explain = first_of (codes "explain") rows;
   line = first_of (codes "line") rows;
   shell = first_of (codes "SHELL") rows;
+  cycles = first_of (codes "cycles") rows;
+  history = first_of (codes "history") rows;
+  echo = first_of (codes "echo") rows;
+  json = first_of (codes "json") rows;
+  file = first_of (codes "FILE") rows;
 }
 
 -- the command and the file that a parse holds: the command that it found, with its options, and the
@@ -234,7 +328,7 @@ options_in rows = record {
 abbrev pub command_and_file_in : Option (Text × List Row) → Result (Subcommand × Text) LineFault
 command_and_file_in None = Err faults.Incomplete
 command_and_file_in (Some found) =
-    with_file (command_named found.0 (options_in found.1)) (first_of (codes "FILE") found.1)
+    with_file (command_asked found.0 (options_in found.1)) (options_in found.1).file
 
 -- whether a parse holds that a fault is to be explained
 abbrev pub explains_in : Option (Text × List Row) → Bool
@@ -244,6 +338,15 @@ explains_in (Some found) = is_set (options_in found.1).explain
 -- whether clap's parse of the arguments does
 unfoldable pub explains_of : List Text → Bool
 explains_of arguments = explains_in (subcommand_of rheap_app arguments)
+
+-- how a parse says that what is done is viewed
+abbrev pub viewed_in : Option (Text × List Row) → Viewed
+viewed_in None = record { telling = Answers; cycles = None; history = None }
+viewed_in (Some found) = viewed_by (options_in found.1)
+
+-- how clap's parse of the arguments does
+unfoldable pub viewed_of : List Text → Viewed
+viewed_of arguments = viewed_in (subcommand_of rheap_app arguments)
 
 -- the command and the file that clap's parse of the arguments holds
 unfoldable pub command_and_file_of : List Text → Result (Subcommand × Text) LineFault

@@ -7,3 +7,4 @@ pub mod Paced
 pub mod Replay
 pub mod Session
 pub mod Shared
+pub mod Views

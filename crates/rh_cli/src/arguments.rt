@@ -3,11 +3,11 @@
 ghost use Rattle.std.specs.Prelude.{◌≡◌, ◌≢◌, ◌⊎◌, [], map, option_map, false, Ok, Err, IsTrue, IfOk, IfErr, codes};
 ghost use Rattle.clap.specs.declared.builder.command.Command.TheViews.{out-Command as fields_of};
 ghost use Rattle.clap.specs.Words.{kind_of, app_of, subcommand_rows_of};
-ghost use Rattle.rh_cli.specs.Ask.{command_and_file, command_and_file_in, command_and_file_of, command_named, completions_app, completions_asked, completions_for, error_kinds, explains_in, explains_of, file_or_input, draw_app, draw_asked, dump_app, dump_asked, file_app, growing_asked, marked_app, number_within, run_app, run_given, rheap_app, is_set, shell_app, is_taken, run_asked, threads_app, threads_asked};
+ghost use Rattle.rh_cli.specs.Ask.{Viewed, command_asked, grown_app, is_output, output_texts, replay_app, telling_of, told_app, viewed_by, viewed_in, viewed_of, command_and_file, command_and_file_in, command_and_file_of, command_named, completions_app, completions_asked, completions_for, error_kinds, explains_in, explains_of, file_or_input, draw_app, draw_asked, dump_app, dump_asked, file_app, growing_asked, marked_app, number_within, once, run_app, run_given, rheap_app, is_crossed, is_same_file, is_set, is_taken, run_asked, threads_app, threads_asked, shell_app};
 ghost use Rattle.rh_cli.specs.Fault.{IsArgumentsFault, IsClapFault};
 ghost use Rattle.rh_cli.specs.declared.ask.Ask.{Ask};
 
-use crate::ask::{Ask, Shell, Subcommand};
+use crate::ask::{Ask, Shell, Subcommand, Views};
 use crate::fault::LineFault;
 use crate::help;
 use crate::version::VERSION;
@@ -15,10 +15,14 @@ use clap::error::ErrorKind;
 use clap::{Arg, ArgAction, ArgMatches, Command};
 use rh_shared::MAX_REPLICATORS;
 use rh_text::read_number;
+use rh_viewed_trace::Telling;
 use std::alloc::{AllocError, Global};
 
 /// The replicators of `threads` where it isn't said how many.
 const USUAL_REPLICATORS: u32 = 2;
+
+/// What the flag does that asks for JSON.
+const JSON_HELP: &str = "Prints objects of JSON, one a line";
 
 /// The most idle words of an increment that can be asked for.
 const MAX_IDLE: u32 = 65_535;
@@ -35,6 +39,11 @@ struct Options<'a> {
     explain: Option<&'a str>,
     line: Option<&'a str>,
     shell: Option<&'a str>,
+    cycles: Option<&'a str>,
+    history: Option<&'a str>,
+    echo: Option<&'a str>,
+    json: Option<&'a str>,
+    file: Option<&'a str>,
 }
 
 /// The command line as clap knows it.
@@ -58,6 +67,39 @@ fn command_line<'a>(alloc: Global) -> Result<Command<'a>, AllocError>
 /// The command `run` as clap knows it.
 fn run_command<'a>(alloc: Global) -> Result<Command<'a>, AllocError>
     ensures app { IfOk result (λ command. app_of command ≡ run_app) }
+    ensures local { IfOk result (λ command. (fields_of command).has_globals ≡ false) }
+{
+    let cycles = Arg::new(alloc, "cycles")
+        .long("cycles")
+        .value_name("OUT")
+        .help("Writes a line for each cycle to the file OUT; - is standard output");
+    let history = Arg::new(alloc, "history")
+        .long("history")
+        .value_name("OUT")
+        .help("Writes the history of the commands to the file OUT; - is standard output");
+    told_command(alloc, grown_command(alloc)?.arg(cycles)?.arg(history)?)
+}
+
+/// A command with the flags that say how it is told on standard output, as clap knows it.
+fn told_command<'a>(alloc: Global, command: Command<'a>) -> Result<Command<'a>, AllocError>
+    ensures app { IfOk result (λ told. app_of told ≡ told_app (app_of command)) }
+    ensures local { (fields_of command).has_globals ≡ false
+        → IfOk result (λ told. (fields_of told).has_globals ≡ false) }
+{
+    let echo = Arg::new(alloc, "echo")
+        .long("echo")
+        .action(ArgAction::SetTrue)
+        .help("Prints each line's number, its text and its answer, with tabs between");
+    let json = Arg::new(alloc, "json")
+        .long("json")
+        .action(ArgAction::SetTrue)
+        .help(JSON_HELP);
+    command.arg(echo)?.arg(json)
+}
+
+/// The command `run` with its options but those that view a run, as clap knows it.
+fn grown_command<'a>(alloc: Global) -> Result<Command<'a>, AllocError>
+    ensures app { IfOk result (λ command. app_of command ≡ grown_app) }
     ensures local { IfOk result (λ command. (fields_of command).has_globals ≡ false) }
 {
     let grow = Arg::new(alloc, "grow").long("grow").value_name("N").help(
@@ -104,11 +146,11 @@ fn threads_command<'a>(alloc: Global) -> Result<Command<'a>, AllocError>
 
 /// The command `replay` as clap knows it.
 fn replay_command<'a>(alloc: Global) -> Result<Command<'a>, AllocError>
-    ensures app { IfOk result (λ command. app_of command ≡ file_app (codes "replay")) }
+    ensures app { IfOk result (λ command. app_of command ≡ replay_app) }
     ensures local { IfOk result (λ command. (fields_of command).has_globals ≡ false) }
 {
     let about = "Checks a history against a heap that never moves its objects, and reports on it";
-    file_command(alloc, "replay", about, help::REPLAY)
+    told_command(alloc, file_command(alloc, "replay", about, help::REPLAY)?)
 }
 
 /// The command `dump` as clap knows it.
@@ -121,7 +163,13 @@ fn dump_command<'a>(alloc: Global) -> Result<Command<'a>, AllocError>
         .long("dot")
         .action(ArgAction::SetTrue)
         .help("Prints its graph instead, as a text for Graphviz");
-    file_command(alloc, "dump", about, help::DUMP)?.arg(dot)
+    let json = Arg::new(alloc, "json")
+        .long("json")
+        .action(ArgAction::SetTrue)
+        .help(JSON_HELP);
+    file_command(alloc, "dump", about, help::DUMP)?
+        .arg(dot)?
+        .arg(json)
 }
 
 /// The command `draw` as clap knows it.
@@ -203,6 +251,13 @@ pub fn read_words<'a>(alloc: Global, arguments: &'a [&'a str]) -> Result<Ask<'a>
     // It asks for explanations exactly where that parse has the flag for them.
     ensures explained { IfOk result (λ ask.
         ask.explain ≡ explains_of (map (λ a. a.now) arguments.now)) }
+    // What is done is viewed as that parse says.
+    ensures viewed { IfOk result (λ ask.
+        viewed_of (map (λ a. a.now) arguments.now) ≡ record {
+          telling = ask.views.telling;
+          cycles = option_map (λ t. t.now) ask.views.cycles;
+          history = option_map (λ t. t.now) ask.views.history;
+        }) }
     // A request comes only where clap refuses nothing.
     ensures taken { IfOk result (λ ask. error_kinds (map (λ a. a.now) arguments.now) ≡ []) }
     // Arguments that clap takes, and that hold a request, are refused for want of memory alone.
@@ -236,6 +291,8 @@ fn matches_of<'a>(alloc: Global, arguments: &'a [&'a str]) -> Result<ArgMatches<
         ≡ command_and_file_in (subcommand_rows_of matches)) }
     ensures explained { IfOk result (λ matches. explains_of (map (λ a. a.now) arguments.now)
         ≡ explains_in (subcommand_rows_of matches)) }
+    ensures viewed { IfOk result (λ matches. viewed_of (map (λ a. a.now) arguments.now)
+        ≡ viewed_in (subcommand_rows_of matches)) }
     ensures taken { IfOk result (λ matches. error_kinds (map (λ a. a.now) arguments.now) ≡ []) }
     ensures refused { IfErr result (λ fault. IsTrue (is_taken (map (λ a. a.now) arguments.now))
         → fault ≡ LineFault.OutOfMemory) }
@@ -256,6 +313,12 @@ fn ask_of<'a>(matches: &ArgMatches<'a>) -> Result<Ask<'a>, LineFault>
         command_and_file_in (subcommand_rows_of matches.now) ≡ Ok (command_and_file ask)) }
     ensures explained { IfOk result (λ ask.
         explains_in (subcommand_rows_of matches.now) ≡ ask.explain) }
+    ensures viewed { IfOk result (λ ask.
+        viewed_in (subcommand_rows_of matches.now) ≡ record {
+          telling = ask.views.telling;
+          cycles = option_map (λ t. t.now) ask.views.cycles;
+          history = option_map (λ t. t.now) ask.views.history;
+        }) }
     ensures none { IfErr result (λ fault.
         command_and_file_in (subcommand_rows_of matches.now) ≡ Err fault) }
     ensures kinds { IfErr result (λ fault. IsArgumentsFault fault) }
@@ -263,7 +326,6 @@ fn ask_of<'a>(matches: &ArgMatches<'a>) -> Result<Ask<'a>, LineFault>
     let Some((name, values)) = matches.subcommand() else {
         return Err(LineFault::Incomplete);
     };
-    let file = file_or_input(values.get_str("FILE"));
     let options = Options {
         paced: values.get_str("paced"),
         mark: values.get_str("mark"),
@@ -274,13 +336,26 @@ fn ask_of<'a>(matches: &ArgMatches<'a>) -> Result<Ask<'a>, LineFault>
         explain: values.get_str("explain"),
         line: values.get_str("line"),
         shell: values.get_str("SHELL"),
+        cycles: values.get_str("cycles"),
+        history: values.get_str("history"),
+        echo: values.get_str("echo"),
+        json: values.get_str("json"),
+        file: values.get_str("FILE"),
     };
-    let subcommand = command_named(name, options)?;
+    let file = file_or_input(options.file);
+    let subcommand = command_asked(name, options)?;
     let explain = is_set(options.explain);
+    let telling = telling_of(is_set(options.echo), is_set(options.json));
+    let views = Views {
+        telling,
+        cycles: options.cycles,
+        history: options.history,
+    };
     Ok(Ask {
         subcommand,
         file,
         explain,
+        views,
     })
 }
 
@@ -304,6 +379,132 @@ fn is_set(value: Option<&str>) -> bool
     }
 }
 
+/// How what is done is told, by the flags.
+fn telling_of(echo: bool, json: bool) -> Telling
+    ensures { result ≡ telling_of echo json }
+{
+    if json {
+        return Telling::Json;
+    }
+    if echo {
+        return Telling::Echo;
+    }
+    Telling::Answers
+}
+
+/// Whether the name of a file that is given says standard output.
+fn is_output(given: Option<&str>) -> bool
+    ensures { result ≡ is_output (option_map (λ t. t.now) given.entry) }
+{
+    match given {
+        Some(name) => name == "-",
+        None => false,
+    }
+}
+
+/// 1 where this holds.
+fn once(is: bool) -> u32
+    ensures value { result ≡ once is }
+    ensures few { result ≤ 1 }
+{
+    if is { 1 } else { 0 }
+}
+
+/// How many of the options would have standard output each for its own text.
+fn output_texts(given: &Options<'_>) -> u32
+    ensures texts { result ≡ output_texts (record {
+      paced = option_map (λ t. t.now) given.now.paced;
+      mark = option_map (λ t. t.now) given.now.mark;
+      grow = option_map (λ t. t.now) given.now.grow;
+      replicators = option_map (λ t. t.now) given.now.replicators;
+      idle = option_map (λ t. t.now) given.now.idle;
+      dot = option_map (λ t. t.now) given.now.dot;
+      explain = option_map (λ t. t.now) given.now.explain;
+      line = option_map (λ t. t.now) given.now.line;
+      shell = option_map (λ t. t.now) given.now.shell;
+      cycles = option_map (λ t. t.now) given.now.cycles;
+      history = option_map (λ t. t.now) given.now.history;
+      echo = option_map (λ t. t.now) given.now.echo;
+      json = option_map (λ t. t.now) given.now.json;
+      file = option_map (λ t. t.now) given.now.file;
+    }) }
+{
+    let flags = once(is_set(given.echo)) + (once(is_set(given.json)) + once(is_set(given.dot)));
+    once(is_output(given.cycles)) + (once(is_output(given.history)) + flags)
+}
+
+/// Whether two files that are given are one, other than standard input and output.
+fn is_same_file(one: Option<&str>, other: Option<&str>) -> bool
+    ensures { result ≡ is_same_file (option_map (λ t. t.now) one.entry)
+        (option_map (λ t. t.now) other.entry) }
+{
+    let (Some(name), Some(other)) = (one, other) else {
+        return false;
+    };
+    if name == "-" {
+        return false;
+    }
+    name == other
+}
+
+/// Whether a text would go to the file that is read, or two texts to one file.
+fn is_crossed(given: &Options<'_>) -> bool
+    ensures crossed { result ≡ is_crossed (record {
+      paced = option_map (λ t. t.now) given.now.paced;
+      mark = option_map (λ t. t.now) given.now.mark;
+      grow = option_map (λ t. t.now) given.now.grow;
+      replicators = option_map (λ t. t.now) given.now.replicators;
+      idle = option_map (λ t. t.now) given.now.idle;
+      dot = option_map (λ t. t.now) given.now.dot;
+      explain = option_map (λ t. t.now) given.now.explain;
+      line = option_map (λ t. t.now) given.now.line;
+      shell = option_map (λ t. t.now) given.now.shell;
+      cycles = option_map (λ t. t.now) given.now.cycles;
+      history = option_map (λ t. t.now) given.now.history;
+      echo = option_map (λ t. t.now) given.now.echo;
+      json = option_map (λ t. t.now) given.now.json;
+      file = option_map (λ t. t.now) given.now.file;
+    }) }
+{
+    if is_same_file(given.cycles, given.history) {
+        return true;
+    }
+    if is_same_file(given.cycles, given.file) {
+        return true;
+    }
+    is_same_file(given.history, given.file)
+}
+
+/// The command of this name with its options, where at most one text is for standard output, and no
+/// text for a file that has another.
+fn command_asked(name: &str, given: Options<'_>) -> Result<Subcommand, LineFault>
+    ensures asked { result ≡ command_asked name.now (record {
+      paced = option_map (λ t. t.now) given.entry.paced;
+      mark = option_map (λ t. t.now) given.entry.mark;
+      grow = option_map (λ t. t.now) given.entry.grow;
+      replicators = option_map (λ t. t.now) given.entry.replicators;
+      idle = option_map (λ t. t.now) given.entry.idle;
+      dot = option_map (λ t. t.now) given.entry.dot;
+      explain = option_map (λ t. t.now) given.entry.explain;
+      line = option_map (λ t. t.now) given.entry.line;
+      shell = option_map (λ t. t.now) given.entry.shell;
+      cycles = option_map (λ t. t.now) given.entry.cycles;
+      history = option_map (λ t. t.now) given.entry.history;
+      echo = option_map (λ t. t.now) given.entry.echo;
+      json = option_map (λ t. t.now) given.entry.json;
+      file = option_map (λ t. t.now) given.entry.file;
+    }) }
+    ensures kinds { IfErr result (λ fault. IsArgumentsFault fault) }
+{
+    if output_texts(&given) > 1 {
+        return Err(LineFault::Views);
+    }
+    if is_crossed(&given) {
+        return Err(LineFault::Views);
+    }
+    command_named(name, given)
+}
+
 /// The command of this name with its options, of those that are given.
 fn command_named(name: &str, given: Options<'_>) -> Result<Subcommand, LineFault>
     ensures named { result ≡ command_named name.now (record {
@@ -316,6 +517,11 @@ fn command_named(name: &str, given: Options<'_>) -> Result<Subcommand, LineFault
       explain = option_map (λ t. t.now) given.entry.explain;
       line = option_map (λ t. t.now) given.entry.line;
       shell = option_map (λ t. t.now) given.entry.shell;
+      cycles = option_map (λ t. t.now) given.entry.cycles;
+      history = option_map (λ t. t.now) given.entry.history;
+      echo = option_map (λ t. t.now) given.entry.echo;
+      json = option_map (λ t. t.now) given.entry.json;
+      file = option_map (λ t. t.now) given.entry.file;
     }) }
     ensures kinds { IfErr result (λ fault. IsArgumentsFault fault) }
 {

@@ -1,5 +1,7 @@
 //! What the program is asked to do.
 
+use rh_viewed_trace::Telling;
+
 /// A shell that completes command lines.
 #[derive(Clone, Copy, Debug, PartialEq, Eq)]
 pub enum Shell {
@@ -9,6 +11,34 @@ pub enum Shell {
     Zsh,
     /// `fish`.
     Fish,
+}
+
+/// How what is done is viewed.
+#[derive(Clone, Copy, Debug, PartialEq, Eq)]
+pub struct Views<'a> {
+    /// How it is told on standard output.
+    pub telling: Telling,
+    /// The file that a line for each cycle of a run goes to; `-` is standard output, in place of
+    /// the answers.
+    pub cycles: Option<&'a str>,
+    /// The file that the history of a run's commands goes to; `-` is standard output, in place of
+    /// the answers.
+    pub history: Option<&'a str>,
+}
+
+/// No view: answers or a report alone, on standard output.
+pub const PLAIN: Views<'static> = Views {
+    telling: Telling::Answers,
+    cycles: None,
+    history: None,
+};
+
+impl<'a> Views<'a> {
+    /// Whether there are answers or a report alone.
+    pub(crate) fn is_plain(&self) -> bool {
+        let is_told = matches!(self.telling, Telling::Answers);
+        is_told && self.cycles.is_none() && self.history.is_none()
+    }
 }
 
 /// What is to be done with the file.
@@ -63,4 +93,6 @@ pub struct Ask<'a> {
     pub file: &'a str,
     /// Whether a fault is to be explained, also where standard error is no terminal.
     pub explain: bool,
+    /// How what is done is viewed.
+    pub views: Views<'a>,
 }

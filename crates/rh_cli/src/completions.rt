@@ -11,10 +11,10 @@ _rheap() {
         return
     fi
     case ${COMP_WORDS[1]} in
-    run) options='--explain --paced --mark --grow -h --help' valued='--mark --grow' ;;
+    run) options='--explain --paced --mark --grow --cycles --history --echo --json -h --help' valued='--mark --grow' ;;
     threads) options='--explain --replicators --idle -h --help' valued='--replicators --idle' ;;
-    replay) options='--explain -h --help' valued='' ;;
-    dump) options='--explain --dot -h --help' valued='' ;;
+    replay) options='--explain --echo --json -h --help' valued='' ;;
+    dump) options='--explain --dot --json -h --help' valued='' ;;
     draw) options='--explain --line -h --help' valued='--line' ;;
     shell) options='-h --help' valued='' ;;
     completions) options='-h --help' valued='' ;;
@@ -77,6 +77,10 @@ argument)
             '--paced[Runs a trace of commands alone, on a heap that collects by itself]' \\
             '--mark=[With --paced\\: a cycle begins where fewer than N words are free]:N: ' \\
             '--grow=[With --paced, without --mark\\: each of its spaces grows to at most N words]:N: ' \\
+            '--cycles=[Writes a line for each cycle to the file OUT; - is standard output]:OUT:_files' \\
+            '--history=[Writes the history of the commands to the file OUT; - is standard output]:OUT:_files' \\
+            '--echo[Prints each line'\\''s number, its text and its answer, with tabs between]' \\
+            '--json[Prints objects of JSON, one a line]' \\
             '(- *)'{-h,--help}'[Print help]' \\
             '1:FILE:_files'
         ;;
@@ -91,6 +95,8 @@ argument)
     replay)
         _arguments \\
             '--explain[Shows the part of a line that is wrong, and says what may stand there]' \\
+            '--echo[Prints each line'\\''s number, its text and its answer, with tabs between]' \\
+            '--json[Prints objects of JSON, one a line]' \\
             '(- *)'{-h,--help}'[Print help]' \\
             '1:FILE:_files'
         ;;
@@ -98,6 +104,7 @@ argument)
         _arguments \\
             '--explain[Shows the part of a line that is wrong, and says what may stand there]' \\
             '--dot[Prints its graph instead, as a text for Graphviz]' \\
+            '--json[Prints objects of JSON, one a line]' \\
             '(- *)'{-h,--help}'[Print help]' \\
             '1:FILE:_files'
         ;;
@@ -142,15 +149,22 @@ complete -c rheap -n '__fish_seen_subcommand_from run' -l explain -d 'Shows the 
 complete -c rheap -n '__fish_seen_subcommand_from run' -l paced -d 'Runs a trace of commands alone, on a heap that collects by itself'
 complete -c rheap -n '__fish_seen_subcommand_from run' -l mark -x -d 'With --paced: a cycle begins where fewer than N words are free'
 complete -c rheap -n '__fish_seen_subcommand_from run' -l grow -x -d 'With --paced, without --mark: each of its spaces grows to at most N words'
+complete -c rheap -n '__fish_seen_subcommand_from run' -l cycles -r -d 'Writes a line for each cycle to the file OUT; - is standard output'
+complete -c rheap -n '__fish_seen_subcommand_from run' -l history -r -d 'Writes the history of the commands to the file OUT; - is standard output'
+complete -c rheap -n '__fish_seen_subcommand_from run' -l echo -d 'Prints each line\\'s number, its text and its answer, with tabs between'
+complete -c rheap -n '__fish_seen_subcommand_from run' -l json -d 'Prints objects of JSON, one a line'
 complete -c rheap -n '__fish_seen_subcommand_from run' -s h -l help -d 'Print help'
 complete -c rheap -n '__fish_seen_subcommand_from threads' -l explain -d 'Shows the part of a line that is wrong, and says what may stand there'
 complete -c rheap -n '__fish_seen_subcommand_from threads' -l replicators -x -d 'The replicators, in threads of their own: 0 to 8, 2 where it isn\\'t said'
 complete -c rheap -n '__fish_seen_subcommand_from threads' -l idle -x -d 'The idle words of an increment in a cycle: 0 to 65535, 0 if it isn\\'t said'
 complete -c rheap -n '__fish_seen_subcommand_from threads' -s h -l help -d 'Print help'
 complete -c rheap -n '__fish_seen_subcommand_from replay' -l explain -d 'Shows the part of a line that is wrong, and says what may stand there'
+complete -c rheap -n '__fish_seen_subcommand_from replay' -l echo -d 'Prints each line\\'s number, its text and its answer, with tabs between'
+complete -c rheap -n '__fish_seen_subcommand_from replay' -l json -d 'Prints objects of JSON, one a line'
 complete -c rheap -n '__fish_seen_subcommand_from replay' -s h -l help -d 'Print help'
 complete -c rheap -n '__fish_seen_subcommand_from dump' -l explain -d 'Shows the part of a line that is wrong, and says what may stand there'
 complete -c rheap -n '__fish_seen_subcommand_from dump' -l dot -d 'Prints its graph instead, as a text for Graphviz'
+complete -c rheap -n '__fish_seen_subcommand_from dump' -l json -d 'Prints objects of JSON, one a line'
 complete -c rheap -n '__fish_seen_subcommand_from dump' -s h -l help -d 'Print help'
 complete -c rheap -n '__fish_seen_subcommand_from draw' -l explain -d 'Shows the part of a line that is wrong, and says what may stand there'
 complete -c rheap -n '__fish_seen_subcommand_from draw' -l line -x -d 'The line after which it is drawn, from 1; the last if it isn\\'t said'

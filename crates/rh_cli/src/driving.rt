@@ -29,7 +29,7 @@ use std::thread::Threads;
 /// which is flushed at the end, and one line on failure to `err`. Answers the status that the
 /// program ends with: 0 where it is done, 4 for a wrong history or, of `threads`, one that differs,
 /// 3 where memory or a thread was refused, and else 1. It waits for the threads of `threads`. A
-/// session has no prompt, and no file for a picture.
+/// session has no prompt, and no file for a picture. It has no views: `drive_viewed` has.
 pub fn drive<T, A, R, O, E>(
     rt: &T,
     alloc: A,

@@ -44,6 +44,11 @@ pub enum LineFault {
     /// What `completions` is asked for is none of the shells that there are completions for.
     #[error("rheap: completions needs a shell: bash, zsh or fish")]
     Shell,
+    /// More than one of `--cycles -`, `--history -`, `--echo`, `--json` and `--dot` is given, of
+    /// which each has standard output for a text of its own; or a text is for the file that is read,
+    /// or two are for one file.
+    #[error("rheap: --echo, --json, --dot and OUT - can't stand together, and OUT is a file of its own")]
+    Views,
     /// The file is no trace.
     #[error("rheap: {0}")]
     Trace(TraceFault),
@@ -103,7 +108,7 @@ impl LineFault {
             LineFault::Arguments(error) if !error.use_stderr() => 0,
             LineFault::Arguments(_) | LineFault::NoText | LineFault::Incomplete => 2,
             LineFault::Mark | LineFault::Grow | LineFault::Replicators | LineFault::Idle => 2,
-            LineFault::Line | LineFault::Shell => 2,
+            LineFault::Line | LineFault::Shell | LineFault::Views => 2,
             LineFault::OutOfMemory => 3,
             LineFault::HistoryDiffers => 4,
             _ => 1,

@@ -74,6 +74,13 @@ Its pace is in time whatever lives, and its log as long as the pace asks for, so
 used. SpaceFull comes only once the heap has N words and these are too few, or where memory for
 more was refused; LogFull too, where N is at most 349000 times RATIO.
 
+A run can be seen in other ways, each beside the others; OUT is a file, or - for standard output in
+place of the answers:
+  --echo         each line's number, its text and its answer, with tabs between
+  --json         objects of JSON, one a line; a fault is one too
+  --history OUT  the commands that no limit refused, with their answers: `rheap replay` reads it
+  --cycles OUT   a line of numbers for each cycle as it ends, with tabs between, and a head line
+
 Statuses:
   0  done; a refused line is an answer, and no failure
   1  a fault in the file, or it can't be opened or read, or a write failed
@@ -160,6 +167,9 @@ A history is the calls of a heap with their answers, in the order in which they 
   COMMAND LINE = ANSWER     for each call; a command line is one of a trace
   end N                     N is the number of calls
 
+With --echo the line of a wrong call is shown too: its number in the file, its command and the answer
+there, with tabs between. With --json the report is objects of JSON, one a line.
+
 ANSWER is that of a trace, or `refused` and a name; calls that a limit refused (SpaceFull, LogFull,
 NumbersSpent) are left out, so these names are the fault Answer.
 
@@ -214,6 +224,8 @@ it: cut out the lines from `rheap 2` to `end`. What this command prints is no du
 With --dot the graph is printed in place of its counts, as a text for Graphviz, which draws it by
 `rheap dump FILE --dot | dot -Tsvg >FILE.svg`: roots are boxes at the left, objects are tables of
 their fields, raw ones with round corners, and each reference is an arrow.
+
+With --json the counts are an object of JSON.
 
 On failure standard error has one line, as `rheap: line 3: Order`, or `rheap: open failed`; the
 others are read failed, write failed and out of memory, as `rheap run --help` tells them. Where the

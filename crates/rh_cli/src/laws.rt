@@ -32,14 +32,18 @@ ghost use Rattle.rh_paced_trace.specs.declared.fault.PacedFault.{PacedFault as P
 ghost use Rattle.rh_paced_trace.specs.Growing.{IsGrowingRun, growing_text_of};
 ghost use Rattle.rh_paced_trace.specs.Run.{IsPlainRun, IsRun, AreSumsOf, output_of, text_of};
 ghost use Rattle.rh_shared_trace.specs.Run.{IsHistoryOf, IsSharedRun};
-ghost use Rattle.rh_cli.specs.Ask.{command_and_file_of, explains_of, is_taken};
+ghost use Rattle.rh_cli.specs.Ask.{command_and_file_of, explains_of, is_taken, viewed_of};
 ghost use Rattle.rh_cli.specs.Count.{counts_line};
 ghost use Rattle.rh_cli.specs.Drive.{Concludes, run_status};
-ghost use Rattle.rh_cli.specs.Fault.{ending_status, status_of};
+ghost use Rattle.rh_cli.specs.Fault.{ending_status, status_of, IsLateStatus};
 ghost use Rattle.rh_cli.specs.Paced.{paced_status};
 ghost use Rattle.rh_cli.specs.Replay.{IsJudged};
 ghost use Rattle.rh_text.specs.RawLine.{lines_of};
 ghost use Rattle.rh_shell.specs.Session.{IsSession};
+ghost use Rattle.rh_cli.specs.Views.{json_counts, told_report, ConcludesViewed};
+ghost use Rattle.rh_viewed_trace.specs.declared.telling.Telling.{Telling as TellingOf};
+ghost use Rattle.rh_viewed_trace.specs.Cycles.{cycles_text};
+ghost use Rattle.rh_viewed_trace.specs.Run.{run_cycles, run_history, view_of_run, IsRun as IsViewedRun, Written};
 ghost use Rattle.rh_cli.specs.declared.ask.Shell.{Shell as ShellOf};
 ghost use Rattle.rh_cli.specs.declared.ask.Subcommand.{Subcommand as SubcommandOf};
 ghost use Rattle.rh_cli.specs.declared.ending.Ending.{Ending as EndingOf};
@@ -143,8 +147,8 @@ pub fn status_2_says_that_the_command_line_is_not_understood()
     ensures only { (fault : FaultOf) → status_of fault ≡ 2
         → (fault ≡ FaultOf.NoText) ⊎ ((fault ≡ FaultOf.Incomplete) ⊎ ((fault ≡ FaultOf.Mark)
         ⊎ ((fault ≡ FaultOf.Grow) ⊎ ((fault ≡ FaultOf.Replicators) ⊎ ((fault ≡ FaultOf.Idle)
-        ⊎ ((fault ≡ FaultOf.Line) ⊎ ((fault ≡ FaultOf.Shell)
-        ⊎ ((error : ClapError) × (fault ≡ FaultOf.Arguments error))))))))) }
+        ⊎ ((fault ≡ FaultOf.Line) ⊎ ((fault ≡ FaultOf.Shell) ⊎ ((fault ≡ FaultOf.Views)
+        ⊎ ((error : ClapError) × (fault ≡ FaultOf.Arguments error)))))))))) }
     ensures no_text { status_of FaultOf.NoText ≡ 2 }
     ensures incomplete { status_of FaultOf.Incomplete ≡ 2 }
     ensures mark { status_of FaultOf.Mark ≡ 2 }
@@ -153,6 +157,7 @@ pub fn status_2_says_that_the_command_line_is_not_understood()
     ensures idle { status_of FaultOf.Idle ≡ 2 }
     ensures line { status_of FaultOf.Line ≡ 2 }
     ensures shell { status_of FaultOf.Shell ≡ 2 }
+    ensures views { status_of FaultOf.Views ≡ 2 }
     // What clap refuses has 2, unless it asks for help or the version, which is no mistake.
     ensures asked { (error : ClapError)
         → (kind_of error ≡ DisplayHelp) ⊎ (kind_of error ≡ DisplayVersion)
@@ -210,6 +215,35 @@ pub fn status_4_says_a_wrong_history()
         → (ending_status ending ≡ 4) ↔ (ending ≡ EndingOf.WrongHistory) }
 {}
 
+/// What is viewed ends with the statuses of what isn't, and never with 2. 0 says that all that was
+/// asked for is written: of a run what is told of its lines, its history and its cycles, each whole,
+/// the report on a legal history, or the counts of a dump. 4 of a check says that the history is
+/// wrong, and that the whole report is written.
+pub fn what_is_viewed_ends_with_the_same_statuses()
+    ensures late { (telling : TellingOf) (subcommand : SubcommandOf) (input : List ℕ)
+        (status : ℕ) (w : Written) → ConcludesViewed telling subcommand input status w
+        → IsLateStatus status }
+    ensures run { (telling : TellingOf) (input : List ℕ) (w : Written)
+        → ConcludesViewed telling SubcommandOf.Run input 0 w
+        → (script : Script) × IsViewedRun input script
+        × Appends w.old w.new (view_of_run telling script)
+        × Appends w.history_old w.history_new (spelling (run_history script))
+        × Appends w.cycles_old w.cycles_new (cycles_text (run_cycles script)) }
+    ensures replay { (telling : TellingOf) (input : List ℕ) (w : Written)
+        → ConcludesViewed telling SubcommandOf.Replay input 0 w
+        → (h : HistoryState) × (count : ℕ) × IsJudged input h (VerdictOf.Legal count)
+        × Appends w.old w.new (told_report telling h (VerdictOf.Legal count)) }
+    ensures wrong { (telling : TellingOf) (input : List ℕ) (w : Written)
+        → ConcludesViewed telling SubcommandOf.Replay input 4 w
+        → (h : HistoryState) × (at : ℕ) × (expected : Result Reply Refusal)
+        × IsJudged input h (VerdictOf.Wrong at expected)
+        × Appends w.old w.new (told_report telling h (VerdictOf.Wrong at expected)) }
+    ensures dump { (telling : TellingOf) (input : List ℕ) (w : Written)
+        → ConcludesViewed telling SubcommandOf.Dump input 0 w
+        → (g : GraphState) × (graph_of_text input ≡ Ok g)
+        × Appends w.old w.new (json_counts g) }
+{}
+
 /// Command lines, and what they ask: a subcommand and its file, where `-` is a file's name too. A
 /// line without a subcommand, without a file, with an unknown subcommand or with a part too many
 /// isn't taken.
@@ -239,6 +273,28 @@ pub fn worked_command_lines()
     ensures session { command_and_file_of (codes "rheap" ∷ codes "shell" ∷ [])
         ≡ Ok (SubcommandOf.Session, codes "-") }
     ensures session_file { false ≡ is_taken (codes "rheap" ∷ codes "shell" ∷ codes "x" ∷ []) }
+    ensures plain { viewed_of (codes "rheap" ∷ codes "run" ∷ codes "x" ∷ [])
+        ≡ record { telling = TellingOf.Answers; cycles = None; history = None } }
+    ensures viewed { viewed_of (codes "rheap" ∷ codes "run" ∷ codes "x" ∷ codes "--json"
+        ∷ codes "--history=h" ∷ codes "--cycles" ∷ codes "c" ∷ []) ≡ record {
+          telling = TellingOf.Json;
+          cycles = Some (codes "c");
+          history = Some (codes "h");
+        } }
+    ensures echo_json { command_and_file_of (codes "rheap" ∷ codes "replay" ∷ codes "x"
+        ∷ codes "--echo" ∷ codes "--json" ∷ []) ≡ Err FaultOf.Views }
+    ensures dot_json { command_and_file_of (codes "rheap" ∷ codes "dump" ∷ codes "x"
+        ∷ codes "--dot" ∷ codes "--json" ∷ []) ≡ Err FaultOf.Views }
+    ensures echo_output { command_and_file_of (codes "rheap" ∷ codes "run" ∷ codes "x"
+        ∷ codes "--echo" ∷ codes "--cycles=-" ∷ []) ≡ Err FaultOf.Views }
+    ensures crossed { command_and_file_of (codes "rheap" ∷ codes "run" ∷ codes "x"
+        ∷ codes "--history=x" ∷ []) ≡ Err FaultOf.Views }
+    ensures crossed_texts { command_and_file_of (codes "rheap" ∷ codes "run" ∷ codes "x"
+        ∷ codes "--history=h" ∷ codes "--cycles=h" ∷ []) ≡ Err FaultOf.Views }
+    ensures piped { command_and_file_of (codes "rheap" ∷ codes "run" ∷ codes "-"
+        ∷ codes "--history=-" ∷ []) ≡ Ok (SubcommandOf.Run, codes "-") }
+    ensures echo_dump { false
+        ≡ is_taken (codes "rheap" ∷ codes "dump" ∷ codes "x" ∷ codes "--echo" ∷ []) }
     ensures completions { command_and_file_of
         (codes "rheap" ∷ codes "completions" ∷ codes "zsh" ∷ [])
         ≡ Ok (SubcommandOf.Completions ShellOf.Zsh, codes "-") }

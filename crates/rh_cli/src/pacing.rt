@@ -54,7 +54,7 @@ pub fn run_by_growth<A: Allocator + Copy, R: Read, O: Write>(
 }
 
 /// What a paced or a growing run and the flush after it come to.
-fn conclude(ran: Result<Summary, PacedFault>, flushed: bool) -> Result<Ending, LineFault>
+pub(crate) fn conclude(ran: Result<Summary, PacedFault>, flushed: bool) -> Result<Ending, LineFault>
     ensures status { IsPacedStatus ran (status_after result) }
     // The status is 0 exactly where the run succeeded and the flush did.
     ensures done { (status_after result ≡ 0) ↔ (IsOk ran × IsTrue flushed) }

@@ -16,6 +16,8 @@ use crate::driving::{drive, show, tell};
 use crate::explaining::drive_explained;
 use crate::fault::LineFault;
 use crate::keeping::KeptReader;
+use crate::outputs::outputs_of;
+use crate::viewed_driving::drive_viewed;
 use std::alloc::Global;
 use std::env::{self, Args};
 use std::fs::File;
@@ -170,7 +172,10 @@ where
     if let Subcommand::Session = ask.subcommand {
         return hold_session(rt, err, terminals.input);
     }
-    let explains = terminals.error;
+    let explains = terminals.error || ask.explain;
+    if !ask.views.is_plain() {
+        return with_views(rt, threads, ask, err, explains);
+    }
     let mut out = gathering(rt.alloc(), io::writer(rt))?;
     if is_standard_input(ask.file) {
         return Ok(carried_out(
@@ -204,7 +209,7 @@ where
     E: Write,
     ensures { IsLateStatus result }
 {
-    if explains || ask.explain {
+    if explains {
         let mut kept = KeptReader::new(alloc, reader);
         return drive_explained(threads, alloc, ask, &mut kept, out, err);
     }
@@ -229,8 +234,80 @@ where
     }
 }
 
+/// Carries out a request that is viewed, with its file.
+fn with_views<R, T, E>(
+    rt: &R,
+    threads: &T,
+    ask: &Ask<'_>,
+    err: &mut E,
+    explains: bool,
+) -> Result<u8, LineFault>
+where
+    R: Files + Input + Print + AllocGlobal,
+    T: Threads + Wait + Sync,
+    E: Write,
+    ensures late { IfOk result (λ status. IsLateStatus status) }
+    ensures refused { IfErr result (λ fault.
+        (fault ≡ LineFault.Open) ⊎ (fault ≡ LineFault.OutOfMemory)) }
+    ensures input { IfErr result (λ fault. ask.now.file.now ≡ codes "-"
+        → fault ≡ LineFault.OutOfMemory) }
+{
+    if is_standard_input(ask.file) {
+        return Ok(viewed_out(rt, threads, ask, rt.reader(), err, explains));
+    }
+    let file = opened(rt, ask.file)?;
+    Ok(viewed_out(rt, threads, ask, file, err, explains))
+}
+
+/// Carries out a request that is viewed, with what the reader gives. A file that can't be made for a
+/// text is told as a write that failed; nothing is read then. Lines of cycles are written as they
+/// come.
+fn viewed_out<R, T, I, E>(
+    rt: &R,
+    threads: &T,
+    ask: &Ask<'_>,
+    reader: I,
+    err: &mut E,
+    explains: bool,
+) -> u8
+where
+    R: Files + Print + AllocGlobal,
+    T: Threads + Wait + Sync,
+    I: Read + Drop,
+    E: Write,
+    ensures { IsLateStatus result }
+{
+    let (out, history, mut cycles) = match outputs_of(rt, &ask.views) {
+        Ok(outputs) => outputs,
+        Err(fault) => return tell(&fault, err),
+    };
+    let mut out = match gathering(rt.alloc(), out) {
+        Ok(out) => out,
+        Err(fault) => return tell(&fault, err),
+    };
+    let mut history = match gathering(rt.alloc(), history) {
+        Ok(history) => history,
+        Err(fault) => return tell(&fault, err),
+    };
+    let mut kept = KeptReader::new(rt.alloc(), reader);
+    drive_viewed(
+        threads,
+        rt.alloc(),
+        ask,
+        &mut kept,
+        &mut out,
+        &mut history,
+        &mut cycles,
+        err,
+        explains,
+    )
+}
+
 /// A writer that gathers what is written before the other writes it.
-fn gathering<W: Write + Drop>(alloc: Global, writer: W) -> Result<BufWriter<W>, LineFault>
+pub(crate) fn gathering<W: Write + Drop>(
+    alloc: Global,
+    writer: W,
+) -> Result<BufWriter<W>, LineFault>
     ensures kept { IfOk result (λ out. writer_inner out ≡ writer) }
     ensures memory { IfErr result (λ fault. fault ≡ LineFault.OutOfMemory) }
 {

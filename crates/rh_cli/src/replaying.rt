@@ -78,7 +78,10 @@ fn report_on<A: Allocator + Copy, O: Write>(
 
 /// What a report and the flush after it come to.
 #[tactic(auto, using(crate::proofs::Statuses::failed_flush, crate::proofs::Statuses::late_is_not_0, crate::proofs::Statuses::late_is_not_4,))]
-fn conclude(reported: Result<Verdict, LineFault>, flushed: bool) -> Result<Ending, LineFault>
+pub(crate) fn conclude(
+    reported: Result<Verdict, LineFault>,
+    flushed: bool,
+) -> Result<Ending, LineFault>
     requires { IfErr reported (λ fault. IsUsualFault fault) }
     ensures status { IsReplayStatus reported (status_after result) }
     // The status is 0 exactly where the history is legal, and 4 exactly where it is wrong, with the

@@ -3,7 +3,7 @@
 use crate::expectations::{Row, expect_bytes, expect_equal, expect_prefix};
 use crate::program::terminal::Terminal;
 use crate::texts::{WITHOUT_FIELDS, WITHOUT_FIELDS_ANSWERS};
-use rh_cli::{Ask, LineFault, Subcommand, Terminals, play, read_words, tell};
+use rh_cli::{Ask, LineFault, PLAIN, Subcommand, Terminals, play, read_words, tell};
 use std::cell::RefCell;
 use std::process::Abort;
 use std::sync::Wait;
@@ -36,7 +36,9 @@ fn arguments_that_ask_for_each_command(rt: HostRuntime) {
         let file = "first";
         let words = ["rheap", name, file];
         let ask = read_words(rt.alloc(), &words);
-        assert!(rt; matches!(ask, Ok(ask) if ask == Ask { subcommand, file, explain: false }));
+        assert!(rt;
+            matches!(ask, Ok(ask) if ask == Ask { subcommand, file, explain: false, views: PLAIN })
+        );
     }
 }
 

@@ -3,7 +3,7 @@
 use crate::devices::InterruptedReader;
 use crate::expectations::{Row, expect_bytes, expect_equal, expect_prefix};
 use crate::texts::without_last_line;
-use rh_cli::{Ask, Subcommand, drive};
+use rh_cli::{Ask, PLAIN, Subcommand, drive};
 use std::alloc::Allocator;
 use std::process::Abort;
 use std::sync::Wait;
@@ -13,12 +13,14 @@ pub const RUN: Ask<'static> = Ask {
     subcommand: Subcommand::Run,
     file: "-",
     explain: false,
+    views: PLAIN,
 };
 
 pub const PACED: Ask<'static> = Ask {
     subcommand: Subcommand::RunPaced { mark: None },
     file: "-",
     explain: false,
+    views: PLAIN,
 };
 
 pub const THREADS: Ask<'static> = Ask {
@@ -28,24 +30,28 @@ pub const THREADS: Ask<'static> = Ask {
     },
     file: "-",
     explain: false,
+    views: PLAIN,
 };
 
 pub const REPLAY: Ask<'static> = Ask {
     subcommand: Subcommand::Replay,
     file: "-",
     explain: false,
+    views: PLAIN,
 };
 
 pub const DUMP: Ask<'static> = Ask {
     subcommand: Subcommand::Dump,
     file: "-",
     explain: false,
+    views: PLAIN,
 };
 
 pub const DOT: Ask<'static> = Ask {
     subcommand: Subcommand::Dot,
     file: "-",
     explain: false,
+    views: PLAIN,
 };
 
 /// Does with the text what is asked, and compares the status and what is written to both writers.

@@ -5,7 +5,7 @@ use crate::expectations::{Row, expect_bytes, expect_equal, expect_refusals};
 use crate::program::driving::{DUMP, PACED, REPLAY, RUN, THREADS};
 use crate::texts::{WHOLE_CYCLE, WHOLE_CYCLE_ANSWERS};
 use refusing::refused_in_turn;
-use rh_cli::{Ask, KeptReader, Subcommand, drive_explained};
+use rh_cli::{Ask, KeptReader, PLAIN, Subcommand, drive_explained};
 use std::alloc::Allocator;
 use std::process::Abort;
 use std::sync::Wait;
@@ -16,6 +16,7 @@ const GROWING: Ask<'static> = Ask {
     subcommand: Subcommand::RunGrowing { at_most: 20 },
     file: "-",
     explain: true,
+    views: PLAIN,
 };
 
 /// A picture of a line that isn't there.
@@ -23,6 +24,7 @@ const BEYOND: Ask<'static> = Ask {
     subcommand: Subcommand::Draw { line: Some(40) },
     file: "-",
     explain: true,
+    views: PLAIN,
 };
 
 /// Traces that fail, or whose sizes make no heap, and what is told of them.

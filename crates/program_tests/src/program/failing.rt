@@ -10,7 +10,7 @@ use crate::texts::{
     WRONG, WRONG_REPORT, add_numbered, ended_lines, repeated, without_last_line,
 };
 use refusing::refused_in_turn;
-use rh_cli::{Ask, Subcommand, drive};
+use rh_cli::{Ask, PLAIN, Subcommand, drive};
 use rh_dump::{read_dump, write_dump};
 use rh_layout::{Command, Operand, Refusal, Reply, RootId};
 use rh_replay::{Verdict, read_history, report, write_history};
@@ -26,12 +26,14 @@ const MARKED: Ask<'static> = Ask {
     subcommand: Subcommand::RunPaced { mark: Some(20) },
     file: "-",
     explain: false,
+    views: PLAIN,
 };
 
 const GROWING: Ask<'static> = Ask {
     subcommand: Subcommand::RunGrowing { at_most: 29 },
     file: "-",
     explain: false,
+    views: PLAIN,
 };
 
 const ALONE: Ask<'static> = Ask {
@@ -41,6 +43,7 @@ const ALONE: Ask<'static> = Ask {
     },
     file: "-",
     explain: false,
+    views: PLAIN,
 };
 
 const CROWDED: Ask<'static> = Ask {
@@ -50,6 +53,7 @@ const CROWDED: Ask<'static> = Ask {
     },
     file: "-",
     explain: false,
+    views: PLAIN,
 };
 
 /// The answers of a paced run of the two flips' trace at that mark, and of that growing run. Cycles

@@ -3,7 +3,7 @@
 use crate::expectations::{Row, expect_equal, expect_text, expect_texts};
 use crate::program::driving::{DUMP, PACED, REPLAY, RUN, THREADS, drives_to};
 use crate::texts::repeated;
-use rh_cli::{Ask, Subcommand};
+use rh_cli::{Ask, PLAIN, Subcommand};
 use rh_core::ConfigFault;
 use rh_dump::{DumpFault, DumpKind, DumpReadError};
 use rh_paced_trace::{PaceError, PacedFault};
@@ -335,6 +335,7 @@ const MARKED: Ask<'static> = Ask {
     subcommand: Subcommand::RunPaced { mark: Some(9) },
     file: "-",
     explain: false,
+    views: PLAIN,
 };
 
 /// Runs that grow to at most so many words, which is more than a heap can have.
@@ -342,6 +343,7 @@ const GROWING: Ask<'static> = Ask {
     subcommand: Subcommand::RunGrowing { at_most: 1_000 },
     file: "-",
     explain: false,
+    views: PLAIN,
 };
 
 const BOUNDLESS: Ask<'static> = Ask {
@@ -350,6 +352,7 @@ const BOUNDLESS: Ask<'static> = Ask {
     },
     file: "-",
     explain: false,
+    views: PLAIN,
 };
 
 /// Runs that can't be made, each with why: by the first line; and where a pace is asked for by the

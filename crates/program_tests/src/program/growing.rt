@@ -5,7 +5,7 @@ use crate::expectations::{expect_bytes, expect_equal, expect_refusals};
 use crate::program::driving::{RUN, drives_to};
 use crate::texts::{add_numbered, ended_lines, repeated, without_last_line};
 use refusing::{RefusingAllocator, refused_in_turn};
-use rh_cli::{Ask, Subcommand, drive};
+use rh_cli::{Ask, PLAIN, Subcommand, drive};
 use std::alloc::{AllocError, Allocator};
 use std::process::Abort;
 use std::sync::Wait;
@@ -18,6 +18,7 @@ fn growing(at_most: u32) -> Ask<'static> {
         subcommand: Subcommand::RunGrowing { at_most },
         file: "-",
         explain: false,
+        views: PLAIN,
     }
 }
 

@@ -2,7 +2,7 @@ use Rattle.std.proofs.Common.{ap, ap₂, codes, true, ◌≡◌, ◌∙◌}
 use Rattle.std.proofs.lemmas.Result.{IfOk-weaker}
 use Rattle.clap.specs.Words.{App, Shape, app_of, new_app, with_subcommand}
 use Rattle.clap.specs.Simple.{app_of_fields, on_top}
-use Rattle.rh_cli.specs.Ask.{rheap_top, file_app, run_app, threads_app, dump_app, draw_app, shell_app}
+use Rattle.rh_cli.specs.Ask.{rheap_top, run_app, threads_app, replay_app, dump_app, draw_app, shell_app}
 use Rattle.rh_cli.proofs.arguments.command_line.Goals as goal
 
 abbrev versioned : App → App
@@ -22,7 +22,7 @@ abbrev to_threads : App
 to_threads = with_subcommand to_run threads_app.top
 
 abbrev to_replay : App
-to_replay = with_subcommand to_threads (file_app (codes "replay")).top
+to_replay = with_subcommand to_threads replay_app.top
 
 abbrev to_dump : App
 to_dump = with_subcommand to_replay dump_app.top

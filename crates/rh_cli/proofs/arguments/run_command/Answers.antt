@@ -1,10 +1,15 @@
-use Rattle.std.proofs.Common.{rules, ap₂, ◌≡◌, ◌∙◌}
+use Rattle.std.proofs.Common.{rules, ap, ap₂, ◌≡◌, ◌∙◌}
 use Rattle.std.proofs.lemmas.Result.{IfOk-weaker}
-use Rattle.clap.specs.Words.{rule_of, with_rule}
-use Rattle.rh_cli.specs.Ask.{grow_rule}
+use Rattle.clap.specs.Words.{app_of, rule_of, with_rule}
+use Rattle.rh_cli.specs.Ask.{cycles_rule, grown_app, history_rule, told_app}
 use Rattle.rh_cli.proofs.arguments.run_command.Goals as goal
 
 pub returns-clause-app : goal.returns-clause-app
 returns-clause-app c =
-    let grow_is : rule_of c.help-grow.result ≡ grow_rule = search rules in
-    IfOk-weaker c.arg.result _ _ (λ r added. added.shape (search rules) ∙ ap₂ with_rule c.in_ok-marked_command.ensures.app grow_is) c.arg.ensures
+    let cycles_is : rule_of c.help-cycles.result ≡ cycles_rule = search rules in
+    let history_is : rule_of c.help-history.result ≡ history_rule = search rules in
+    let with_cycles : app_of c.in_ok-arg.field-0 ≡ with_rule grown_app cycles_rule =
+    c.in_ok-arg.ensures.shape (search rules) ∙ ap₂ with_rule c.in_ok-grown_command.ensures.app cycles_is in
+    let with_history : app_of c.in_ok-arg-2.field-0 ≡ with_rule (with_rule grown_app cycles_rule) history_rule =
+    c.in_ok-arg-2.ensures.shape (search rules) ∙ ap₂ with_rule with_cycles history_is in
+    IfOk-weaker c.told_command.result _ _ (λ r told. told ∙ ap told_app with_history) c.told_command.ensures.app

@@ -38,3 +38,6 @@ returns-clause-line c = refl
 
 pub returns-clause-shell : goal.returns-clause-shell
 returns-clause-shell c = refl
+
+pub returns-clause-views : goal.returns-clause-views
+returns-clause-views c = refl

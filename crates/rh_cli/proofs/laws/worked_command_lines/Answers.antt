@@ -2,7 +2,7 @@ use Rattle.std.proofs.Common.{refl}
 use Rattle.clap.proofs.OnLiterals.{clap_on_literals}
 use Rattle.std.specs.Fmt.{digits}
 use Rattle.rh_text.specs.Number.{number_of}
-use Rattle.rh_cli.specs.Ask.{command_and_file_of, explains_of, is_taken}
+use Rattle.rh_cli.specs.Ask.{command_and_file_of, explains_of, is_taken, viewed_of}
 use Rattle.rh_cli.proofs.laws.worked_command_lines.Goals as goal
 
 pub returns-clause-run : goal.returns-clause-run
@@ -164,3 +164,39 @@ returns-clause-session c = refl
 pub returns-clause-session_file : goal.returns-clause-session_file
 unfolding is_taken clap_on_literals
 returns-clause-session_file c = refl
+
+pub returns-clause-echo_json : goal.returns-clause-echo_json
+unfolding command_and_file_of clap_on_literals
+returns-clause-echo_json c = refl
+
+pub returns-clause-dot_json : goal.returns-clause-dot_json
+unfolding command_and_file_of clap_on_literals
+returns-clause-dot_json c = refl
+
+pub returns-clause-echo_output : goal.returns-clause-echo_output
+unfolding command_and_file_of clap_on_literals
+returns-clause-echo_output c = refl
+
+pub returns-clause-crossed : goal.returns-clause-crossed
+unfolding command_and_file_of clap_on_literals
+returns-clause-crossed c = refl
+
+pub returns-clause-crossed_texts : goal.returns-clause-crossed_texts
+unfolding command_and_file_of clap_on_literals
+returns-clause-crossed_texts c = refl
+
+pub returns-clause-piped : goal.returns-clause-piped
+unfolding command_and_file_of clap_on_literals
+returns-clause-piped c = refl
+
+pub returns-clause-echo_dump : goal.returns-clause-echo_dump
+unfolding is_taken clap_on_literals
+returns-clause-echo_dump c = refl
+
+pub returns-clause-plain : goal.returns-clause-plain
+unfolding viewed_of clap_on_literals
+returns-clause-plain c = refl
+
+pub returns-clause-viewed : goal.returns-clause-viewed
+unfolding viewed_of clap_on_literals
+returns-clause-viewed c = refl

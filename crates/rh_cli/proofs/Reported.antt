@@ -1,0 +1,33 @@
+-- How a check of which the report is told in another way ends.
+use Rattle.std.proofs.Common.{ℕ, ◌<◌, List, ◌++◌, length, Option, Err, Result, Ok, refl, arith}
+use Rattle.std.proofs.lemmas.List.{length-append}
+use Rattle.std.specs.Io.KnownBytes.{Keeps}
+use Rattle.rh_text.specs.lemmas.Appends.{Keeps-same}
+use Rattle.rh_replay.specs.declared.checking.Verdict.{Verdict}
+use Rattle.rh_viewed_trace.specs.declared.telling.Telling.{Telling}
+use Rattle.rh_cli.specs.declared.fault.LineFault.{LineFault}
+use Rattle.rh_cli.specs.declared.fault.LineFault.TheVariants as faults
+use Rattle.rh_cli.specs.Views.{ConcludesReport, ReportEnds, told_report}
+use Rattle.rh_cli.proofs.Flushed.{Appends-kept, AppendsLess-kept, Keeps-kept}
+
+-- a read failed
+pub unread : (telling : Telling) (input : List ℕ) (a : Option (List ℕ)) → ConcludesReport telling input 1 a a
+unread telling input a = (Err faults.Read, Keeps-same a, refl)
+
+-- memory was refused
+pub unreported : (telling : Telling) (input : List ℕ) (a : Option (List ℕ)) → ConcludesReport telling input 3 a a
+unreported telling input a = (Err faults.OutOfMemory, Keeps-same a, refl)
+
+-- there were too many bytes, and whatever follows them
+pub too_long : (telling : Telling) (taken rest : List ℕ) (a : Option (List ℕ)) → 16777216 < length taken → ConcludesReport telling (taken ++ rest) 1 a a
+too_long telling taken rest a many = (Err faults.TooLong, (omega (arith, many, length-append taken rest), Keeps-same a), refl)
+
+-- a check that ended in some way has ended so after a flush too
+pub ReportEnds-flushed : (telling : Telling) (input : List ℕ) (r : Result Verdict LineFault) (old mid new : Option (List ℕ)) → ReportEnds telling input r old mid → Keeps mid new → ReportEnds telling input r old new
+ReportEnds-flushed telling input (Ok verdict) old mid new e k = (e.0, e.1, Appends-kept old mid new (told_report telling e.0 verdict) e.2 k)
+ReportEnds-flushed telling input (Err faults.Write) old mid new e k = (e.0, e.1, e.2, AppendsLess-kept old mid new (told_report telling e.0 e.1) e.3 k)
+ReportEnds-flushed telling input (Err faults.TooLong) old mid new e k = (e.0, Keeps-kept old mid new e.1 k)
+ReportEnds-flushed telling input (Err (faults.History fault)) old mid new e k = (e.0, e.1, Keeps-kept old mid new e.2 k)
+ReportEnds-flushed telling input (Err faults.Read) old mid new e k = Keeps-kept old mid new e k
+ReportEnds-flushed telling input (Err faults.OutOfMemory) old mid new e k = Keeps-kept old mid new e k
+ReportEnds-flushed telling input (Err fault) old mid new e k = absurd e

@@ -1,0 +1,17 @@
+use Rattle.rh_cli.proofs.ViewStatuses.{viewed_dump_0, viewed_late, viewed_replay_0, viewed_replay_4, viewed_run_0}
+use Rattle.rh_cli.proofs.laws.what_is_viewed_ends_with_the_same_statuses.Goals as goal
+
+pub returns-clause-late : goal.returns-clause-late
+returns-clause-late c = viewed_late
+
+pub returns-clause-run : goal.returns-clause-run
+returns-clause-run c = viewed_run_0
+
+pub returns-clause-replay : goal.returns-clause-replay
+returns-clause-replay c = viewed_replay_0
+
+pub returns-clause-wrong : goal.returns-clause-wrong
+returns-clause-wrong c = viewed_replay_4
+
+pub returns-clause-dump : goal.returns-clause-dump
+returns-clause-dump c = viewed_dump_0

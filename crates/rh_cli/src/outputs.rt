@@ -1,0 +1,67 @@
+//! Where the texts of a request go: standard output, a file, or nowhere.
+
+ghost use Rattle.std.specs.Prelude.{◌≡◌, IfErr};
+
+use crate::ask::Views;
+use crate::fault::LineFault;
+use either::{Either, Left, Right};
+use std::fs::File;
+use std::io::{self, Printer, Sink};
+use std::rt::Files;
+
+/// Where a text goes: standard output, a file, or nowhere.
+pub(crate) type Output<'a, R> = Either<Printer<'a, R>, Either<<R as Files>::File, Sink>>;
+
+/// Whether the name of a file that is given says standard output.
+fn is_standard_output(given: Option<&str>) -> bool {
+    match given {
+        Some(name) => name == "-",
+        None => false,
+    }
+}
+
+/// Where the text goes for which this file is given: nowhere where none is. `Write` comes where the
+/// file can't be made.
+fn output_of<'a, R>(rt: &'a R, given: Option<&str>) -> Result<Output<'a, R>, LineFault>
+where
+    R: Files + Print,
+    ensures { IfErr result (λ fault. fault ≡ LineFault.Write) }
+{
+    let Some(name) = given else {
+        return Ok(Right(Right(io::sink())));
+    };
+    if name == "-" {
+        return Ok(Left(io::writer(rt)));
+    }
+    match File::create(rt, name) {
+        Ok(file) => Ok(Right(Left(file))),
+        Err(_) => Err(LineFault::Write),
+    }
+}
+
+/// Where the answers go: to standard output, or nowhere where another text goes there.
+fn answers_output<'a, R>(rt: &'a R, views: &Views<'_>) -> Result<Output<'a, R>, LineFault>
+where
+    R: Files + Print,
+    ensures { IfErr result (λ fault. fault ≡ LineFault.Write) }
+{
+    if is_standard_output(views.cycles) || is_standard_output(views.history) {
+        return output_of(rt, None);
+    }
+    output_of(rt, Some("-"))
+}
+
+/// Where the texts of views go: the answers, the history and the cycles.
+pub(crate) fn outputs_of<'a, R>(
+    rt: &'a R,
+    views: &Views<'_>,
+) -> Result<(Output<'a, R>, Output<'a, R>, Output<'a, R>), LineFault>
+where
+    R: Files + Print,
+    ensures { IfErr result (λ fault. fault ≡ LineFault.Write) }
+{
+    let answers = answers_output(rt, views)?;
+    let history = output_of(rt, views.history)?;
+    let cycles = output_of(rt, views.cycles)?;
+    Ok((answers, history, cycles))
+}

@@ -1,0 +1,153 @@
+//! Reports on histories and counts of dumps that are told in other ways.
+
+ghost use Rattle.std.specs.Prelude.{◌≡◌, ◌≤◌, List, ℕ, Ok, length, IfOk, IfSome, IfErr};
+ghost use Rattle.std.specs.Io.KnownBytes.{Consumes};
+ghost use Rattle.rh_dump.specs.texts.Reading.{graph_of_text};
+ghost use Rattle.rh_cli.specs.Count.{ConcludesDump};
+ghost use Rattle.rh_cli.specs.Fault.{status_after, IsUsualFault};
+ghost use Rattle.rh_cli.specs.Views.{json_counts, told_report, ConcludesReport, ReportEnds};
+
+use crate::counting::conclude as conclude_count;
+use crate::ending::Ending;
+use crate::fault::LineFault;
+use crate::replaying::conclude;
+use rh_dump::{DumpReadError, Graph, read_dump};
+use rh_layout::OutOfMemory;
+use rh_layout::limits::MAX_INPUT_BYTES;
+use rh_replay::{History, HistoryError, Verdict, check, read_history, report};
+use rh_text::{InputFault, IoLog, LineText, read_all, send};
+use rh_viewed_trace::{Telling, put_json_dump, report_echo, report_json};
+use std::alloc::Allocator;
+use std::io::{Read, Write};
+
+/// Checks the history that the reader gives, and writes the report on it as it is to be told. A
+/// failed flush is a failed write.
+pub(crate) fn view_report<A: Allocator + Copy, R: Read, O: Write>(
+    alloc: A,
+    reader: &mut R,
+    telling: Telling,
+    out: &mut O,
+) -> Result<Ending, LineFault>
+    ensures told { IfSome (R.remaining reader.old) (λ input. ConcludesReport telling input
+        (status_after result) (O.contents out.old) (O.contents out.new)) }
+    ensures read { (input : List ℕ)
+        × Consumes (R.remaining reader.old) (R.remaining reader.new) input
+        × ConcludesReport telling input (status_after result) (O.contents out.old)
+        (O.contents out.new) }
+    ensures late { IfErr result (λ fault. IsUsualFault fault) }
+{
+    match read_all(alloc, reader, &mut IoLog::new()) {
+        Ok(input) => view_report_of(alloc, &input, telling, out),
+        Err(InputFault::Read) => Err(LineFault::Read),
+        Err(InputFault::Long) => Err(LineFault::TooLong),
+        Err(InputFault::OutOfMemory) => Err(LineFault::OutOfMemory),
+    }
+}
+
+/// Checks the history that these bytes spell, writes the report on it, and flushes it.
+fn view_report_of<A: Allocator + Copy, O: Write>(
+    alloc: A,
+    input: &[u8],
+    telling: Telling,
+    out: &mut O,
+) -> Result<Ending, LineFault>
+    requires { length input.now ≤ MAX_INPUT_BYTES }
+    ensures concluded { ConcludesReport telling input.now (status_after result)
+        (O.contents out.old) (O.contents out.new) }
+    ensures late { IfErr result (λ fault. IsUsualFault fault) }
+{
+    let reported = report_on(alloc, input, telling, out);
+    let flushed = out.flush();
+    conclude(reported, flushed.is_ok())
+}
+
+/// The report on a history that has this verdict.
+fn report_text<A: Allocator + Copy, B: Allocator>(
+    alloc: A,
+    telling: Telling,
+    history: &History<B>,
+    verdict: &Verdict,
+) -> Result<Vec<u8, A>, OutOfMemory>
+    ensures { IfOk result (λ text. text.items
+        ≡ told_report telling history.now.contents verdict.now) }
+{
+    match telling {
+        Telling::Echo => report_echo(alloc, history, verdict),
+        Telling::Json => report_json(alloc, history, verdict),
+        Telling::Answers => {
+            let mut text = Vec::new(alloc);
+            match report(history, verdict, &mut text) {
+                Ok(()) => Ok(text),
+                // A write to memory fails where memory is refused.
+                Err(_) => Err(OutOfMemory),
+            }
+        }
+    }
+}
+
+/// Checks the history that these bytes spell, and writes the report on it. Gives the verdict.
+#[tactic(auto, using(crate::proofs::Inputs::keeps_itself))]
+fn report_on<A: Allocator + Copy, O: Write>(
+    alloc: A,
+    input: &[u8],
+    telling: Telling,
+    out: &mut O,
+) -> Result<Verdict, LineFault>
+    requires { length input.now ≤ MAX_INPUT_BYTES }
+    ensures ends { ReportEnds telling input.now result (O.contents out.old)
+        (O.contents out.new) }
+    ensures late { IfErr result (λ fault. IsUsualFault fault) }
+{
+    let history = match read_history(alloc, input) {
+        Ok(history) => history,
+        Err(HistoryError::Fault(fault)) => return Err(LineFault::History(fault)),
+        Err(HistoryError::OutOfMemory) => return Err(LineFault::OutOfMemory),
+    };
+    let Ok(verdict) = check(alloc, &history) else {
+        return Err(LineFault::OutOfMemory);
+    };
+    let Ok(text) = report_text(alloc, telling, &history, &verdict) else {
+        return Err(LineFault::OutOfMemory);
+    };
+    match send(out, &mut IoLog::new(), text.as_slice()) {
+        Ok(()) => Ok(verdict),
+        Err(_) => Err(LineFault::Write),
+    }
+}
+
+/// Reads the dump that the reader gives, and writes how many roots and objects it has, as an object
+/// of JSON. A failed flush is a failed write.
+pub(crate) fn view_count<A: Allocator + Copy, R: Read, O: Write>(
+    alloc: A,
+    reader: &mut R,
+    out: &mut O,
+) -> Result<Ending, LineFault>
+    ensures told { IfSome (R.remaining reader.old) (λ input. ConcludesDump json_counts input
+        (status_after result) (O.contents out.old) (O.contents out.new)) }
+    ensures read { (input : List ℕ)
+        × Consumes (R.remaining reader.old) (R.remaining reader.new) input
+        × ConcludesDump json_counts input (status_after result) (O.contents out.old)
+        (O.contents out.new) }
+    ensures late { IfErr result (λ fault. IsUsualFault fault) }
+{
+    match read_dump(alloc, reader) {
+        Ok(graph) => write_count(&graph, out),
+        Err(DumpReadError::Fault(fault)) => Err(LineFault::Dump(fault)),
+        Err(DumpReadError::Read) => Err(LineFault::Read),
+        Err(DumpReadError::OutOfMemory) => Err(LineFault::OutOfMemory),
+    }
+}
+
+/// Writes the object of a graph's counts, and flushes it.
+fn write_count<A: Allocator, O: Write>(graph: &Graph<A>, out: &mut O) -> Result<Ending, LineFault>
+    ensures concluded { (input : List ℕ) → graph_of_text input ≡ Ok graph.now
+        → ConcludesDump json_counts input (status_after result) (O.contents out.old)
+        (O.contents out.new) }
+    ensures late { IfErr result (λ fault. IsUsualFault fault) }
+{
+    let mut text = LineText::new();
+    put_json_dump(&mut text, graph.roots() as usize, graph.objects() as usize);
+    let sent = send(out, &mut IoLog::new(), text.as_bytes());
+    let flushed = out.flush();
+    conclude_count(sent, flushed.is_ok())
+}

@@ -1,0 +1,164 @@
+//! Doing what was asked, seen in other ways.
+
+ghost use Rattle.std.specs.Prelude.{◌≡◌, ◌≢◌, ◌⊎◌, List, ℕ, IfSome, IfErr};
+ghost use Rattle.std.specs.Io.KnownBytes.{Consumes, Keeps};
+ghost use Rattle.rh_cli.specs.Fault.{status_of, status_after, IsLateFault, IsLateStatus};
+ghost use Rattle.rh_cli.specs.Views.{ConcludesViewed};
+ghost use Rattle.rh_cli.specs.declared.ask.Subcommand.TheVariants.{Replay};
+
+use crate::ask::{Ask, Subcommand};
+use crate::driving::{act, tell};
+use crate::ending::Ending;
+use crate::explaining::explain;
+use crate::fault::LineFault;
+use crate::fault_object::tell_object;
+use crate::keeping::KeptReader;
+use crate::reporting::{view_count, view_report};
+use crate::viewing::{view_run, view_run_by_growth, view_run_by_mark};
+use rh_viewed_trace::Telling;
+use std::alloc::Allocator;
+use std::io::{Read, Write};
+use std::sync::Wait;
+use std::thread::Threads;
+
+/// Does what is asked as `drive` does, and views it: what is told goes to `out`, of a run the history
+/// of its commands to `history`, and a line for each cycle to `cycles`. All three are flushed at the
+/// end. The line of a fault is an object of JSON where that is asked; where `explains` is set the
+/// lines of `drive_explained` follow it.
+pub fn drive_viewed<T, A, R, O, H, C, E>(
+    rt: &T,
+    alloc: A,
+    ask: &Ask<'_>,
+    reader: &mut KeptReader<R, A>,
+    out: &mut O,
+    history: &mut H,
+    cycles: &mut C,
+    err: &mut E,
+    explains: bool,
+) -> u8
+where
+    T: Threads + Wait + Sync,
+    A: Allocator + Copy + Send,
+    R: Read,
+    O: Write,
+    H: Write,
+    C: Write,
+    E: Write,
+    // For a reader that tells its bytes: by what is due for the bytes that it had.
+    ensures told { IfSome (R.remaining reader.old.reader) (λ input.
+        ConcludesViewed ask.now.views.telling ask.now.subcommand input result (record {
+          old = O.contents out.old;
+          new = O.contents out.new;
+          history_old = H.contents history.old;
+          history_new = H.contents history.new;
+          cycles_old = C.contents cycles.old;
+          cycles_new = C.contents cycles.new;
+        })) }
+    // Of the bytes that were taken.
+    ensures read { (input : List ℕ)
+        × Consumes (R.remaining reader.old.reader) (R.remaining reader.new.reader) input
+        × ConcludesViewed ask.now.views.telling ask.now.subcommand input result (record {
+          old = O.contents out.old;
+          new = O.contents out.new;
+          history_old = H.contents history.old;
+          history_new = H.contents history.new;
+          cycles_old = C.contents cycles.old;
+          cycles_new = C.contents cycles.new;
+        }) }
+    // Where it is done, and where a history that was read is wrong, nothing is told of a fault.
+    ensures quiet { (result ≡ 0) ⊎ ((result ≡ 4) × (ask.now.subcommand ≡ Replay))
+        → Keeps (E.contents err.old) (E.contents err.new) }
+    ensures late { IsLateStatus result }
+{
+    let telling = ask.views.telling;
+    match act_viewed(
+        rt,
+        alloc,
+        ask.subcommand,
+        telling,
+        reader,
+        out,
+        history,
+        cycles,
+    ) {
+        Ok(ending) => ending.status(),
+        Err(fault) => {
+            let status = tell_as(alloc, telling, &fault, err);
+            if explains {
+                if let Some(text) = reader.kept() {
+                    explain(ask.subcommand, &fault, text, err);
+                }
+            }
+            status
+        }
+    }
+}
+
+/// Tells a fault as it is to be told, and answers its status.
+fn tell_as<A: Allocator + Copy, E: Write>(
+    alloc: A,
+    telling: Telling,
+    fault: &LineFault,
+    err: &mut E,
+) -> u8
+    ensures { result ≡ status_of fault.now }
+{
+    match telling {
+        Telling::Json => tell_object(alloc, fault, err),
+        _ => tell(fault, err),
+    }
+}
+
+/// Does what a subcommand asks, viewed. What has no views is done as it is without.
+fn act_viewed<T, A, R, O, H, C>(
+    rt: &T,
+    alloc: A,
+    subcommand: Subcommand,
+    telling: Telling,
+    reader: &mut R,
+    out: &mut O,
+    history: &mut H,
+    cycles: &mut C,
+) -> Result<Ending, LineFault>
+where
+    T: Threads + Wait + Sync,
+    A: Allocator + Copy + Send,
+    R: Read,
+    O: Write,
+    H: Write,
+    C: Write,
+    ensures told { IfSome (R.remaining reader.old) (λ input.
+        ConcludesViewed telling subcommand input (status_after result) (record {
+          old = O.contents out.old;
+          new = O.contents out.new;
+          history_old = H.contents history.old;
+          history_new = H.contents history.new;
+          cycles_old = C.contents cycles.old;
+          cycles_new = C.contents cycles.new;
+        })) }
+    ensures read { (input : List ℕ)
+        × Consumes (R.remaining reader.old) (R.remaining reader.new) input
+        × ConcludesViewed telling subcommand input (status_after result) (record {
+          old = O.contents out.old;
+          new = O.contents out.new;
+          history_old = H.contents history.old;
+          history_new = H.contents history.new;
+          cycles_old = C.contents cycles.old;
+          cycles_new = C.contents cycles.new;
+        }) }
+    ensures late { IfErr result (λ fault. IsLateFault fault) }
+    ensures check { subcommand ≡ Replay → IfErr result (λ fault. status_of fault ≢ 4) }
+{
+    match subcommand {
+        Subcommand::Run => view_run(alloc, reader, telling, out, history, cycles),
+        Subcommand::RunPaced { mark } => {
+            view_run_by_mark(alloc, reader, mark, telling, out, history, cycles)
+        }
+        Subcommand::RunGrowing { at_most } => {
+            view_run_by_growth(alloc, reader, at_most, telling, out, history, cycles)
+        }
+        Subcommand::Replay => view_report(alloc, reader, telling, out),
+        Subcommand::Dump => view_count(alloc, reader, out),
+        _ => act(rt, alloc, subcommand, reader, out),
+    }
+}
