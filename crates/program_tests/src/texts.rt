@@ -17,6 +17,11 @@ pub const STORED: &[u8] = b"heap 64 8 8 2 2\n1 alloc 1.0 1\n1 store 1.0 0 5\n1 l
 pub const STORED_HISTORY: &[u8] = b"history 2 2\n1 alloc 1.0 1 = object 1\n1 store 1.0 0 5 = done\n\
         1 load 1.1 1.0 0 = int 5\nend 3\n";
 
+/// The first line of a text of cycles.
+pub const COLUMNS: &[u8] =
+    b"number\tend\tepoch\tbegan\tended\tused\tlive\tfreed\tobjects\tgranted\t\
+    idle\tspent\tmost\tlogged\tjoined\trepeated\tstale\tpassed\twords\n";
+
 /// A trace of commands alone, whose paced heap is collected twice. Without a mark a cycle begins
 /// where fewer than 12 words are free, as the 5th object leaves 9; the words of the next pay for
 /// its flip, which keeps that one alone.

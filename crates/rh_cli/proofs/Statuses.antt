@@ -1,5 +1,5 @@
 -- What statuses tell apart.
-use Rattle.std.proofs.Common.{◌≡◌, ◌≢◌, ◌≤◌, ◌⊎◌, ◌↔◌, inl, inr, ℕ, refl, sym, arith}
+use Rattle.std.proofs.Common.{◌≡◌, ◌≢◌, ◌≤◌, ◌⊎◌, ◌↔◌, inl, inr, ℕ, refl, sym, ap, arith}
 use Rattle.rh_replay.specs.declared.checking.Verdict.{Verdict}
 use Rattle.rh_replay.specs.declared.checking.Verdict.TheVariants.{Legal, Wrong}
 use Rattle.std.specs.Prelude.{Ok}
@@ -10,7 +10,7 @@ use Rattle.rh_cli.specs.declared.ending.Ending.{Ending}
 use Rattle.rh_cli.specs.declared.ending.Ending.TheVariants.{Done, WrongHistory}
 use Rattle.rh_cli.specs.declared.fault.LineFault.{LineFault}
 use Rattle.rh_cli.specs.declared.fault.LineFault.TheVariants as faults
-use Rattle.rh_cli.specs.Fault.{arguments_status, status_of, ending_status, IsLateStatus}
+use Rattle.rh_cli.specs.Fault.{arguments_status, status_of, ending_status, IsLateStatus, IsUsualFault}
 use Rattle.rh_cli.specs.Replay.{IsReplayStatus}
 
 -- a fault that any subcommand may end with has another status than 0 and 4
@@ -53,6 +53,16 @@ pub late_of_fault : (status own : ℕ) → status ≡ own → ((own ≡ 1) ⊎ (
 late_of_fault status own is (inl (inl one)) = (omega (arith, is, one), λ two. omega (arith, is, one, two))
 late_of_fault status own is (inl (inr three)) = (omega (arith, is, three), λ two. omega (arith, is, three, two))
 late_of_fault status own is (inr four) = (omega (arith, is, four), λ two. omega (arith, is, four, two))
+
+-- what comes before anything is read of what is viewed
+pub usual_open : (fault : LineFault) → fault ≡ faults.Open → IsUsualFault fault
+usual_open fault is = inl (ap status_of is)
+
+pub usual_write : (fault : LineFault) → fault ≡ faults.Write → IsUsualFault fault
+usual_write fault is = inl (ap status_of is)
+
+pub usual_memory : (fault : LineFault) → fault ≡ faults.OutOfMemory → IsUsualFault fault
+usual_memory fault is = inr (ap status_of is)
 
 arguments_at_most_2 : (kind : ErrorKind) → arguments_status kind ≤ 2
 arguments_at_most_2 DisplayHelp = omega arith

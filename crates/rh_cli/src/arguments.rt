@@ -243,7 +243,9 @@ fn file_command<'a>(
 /// `--paced` or beside `--mark`, or with a value that is no such number; `Replicators` and then
 /// `Idle` where `threads` has such an option with a value that is no number up to 8, or up to
 /// 65,535; `Line` where `draw` has `--line` with a value that is no number from 1 below 2^32;
-/// `Shell` where `completions` is asked for another shell than bash, zsh and fish; `OutOfMemory` where memory was refused.
+/// `Shell` where `completions` is asked for another shell than bash, zsh and fish; `Views` where
+/// two texts are for standard output, two for one file, or one for the file that is read;
+/// `OutOfMemory` where memory was refused.
 pub fn read_words<'a>(alloc: Global, arguments: &'a [&'a str]) -> Result<Ask<'a>, LineFault>
     // The request has the command and the file that clap's parse of the arguments holds.
     ensures asked { IfOk result (λ ask.
@@ -393,7 +395,7 @@ fn telling_of(echo: bool, json: bool) -> Telling
 }
 
 /// Whether the name of a file that is given says standard output.
-fn is_output(given: Option<&str>) -> bool
+pub(crate) fn is_output(given: Option<&str>) -> bool
     ensures { result ≡ is_output (option_map (λ t. t.now) given.entry) }
 {
     match given {
@@ -438,7 +440,10 @@ fn is_same_file(one: Option<&str>, other: Option<&str>) -> bool
     ensures { result ≡ is_same_file (option_map (λ t. t.now) one.entry)
         (option_map (λ t. t.now) other.entry) }
 {
-    let (Some(name), Some(other)) = (one, other) else {
+    let Some(name) = one else {
+        return false;
+    };
+    let Some(other) = other else {
         return false;
     };
     if name == "-" {

@@ -2,6 +2,7 @@
 
 ghost use Rattle.std.specs.Prelude.{◌≡◌, IfErr};
 
+use crate::arguments::is_output;
 use crate::ask::Views;
 use crate::fault::LineFault;
 use either::{Either, Left, Right};
@@ -11,14 +12,6 @@ use std::rt::Files;
 
 /// Where a text goes: standard output, a file, or nowhere.
 pub(crate) type Output<'a, R> = Either<Printer<'a, R>, Either<<R as Files>::File, Sink>>;
-
-/// Whether the name of a file that is given says standard output.
-fn is_standard_output(given: Option<&str>) -> bool {
-    match given {
-        Some(name) => name == "-",
-        None => false,
-    }
-}
 
 /// Where the text goes for which this file is given: nowhere where none is. `Write` comes where the
 /// file can't be made.
@@ -45,7 +38,7 @@ where
     R: Files + Print,
     ensures { IfErr result (λ fault. fault ≡ LineFault.Write) }
 {
-    if is_standard_output(views.cycles) || is_standard_output(views.history) {
+    if is_output(views.cycles) || is_output(views.history) {
         return output_of(rt, None);
     }
     output_of(rt, Some("-"))

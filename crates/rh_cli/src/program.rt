@@ -6,7 +6,7 @@ ghost use Rattle.std.specs.IoError.{error_kind};
 ghost use Rattle.std.specs.String.{string_bytes};
 ghost use Rattle.std.specs.Vec.Iter.{into_iter_items};
 ghost use Rattle.rh_cli.specs.Ask.{command_and_file, command_and_file_of, is_taken};
-ghost use Rattle.rh_cli.specs.Fault.{IsEarlyFault, IsLateStatus};
+ghost use Rattle.rh_cli.specs.Fault.{IsEarlyFault, IsLateStatus, IsUsualFault};
 ghost use Rattle.rh_cli.specs.declared.ask.Ask.{Ask as AskOf};
 
 use crate::arguments::read_words;
@@ -17,7 +17,7 @@ use crate::explaining::drive_explained;
 use crate::fault::LineFault;
 use crate::keeping::KeptReader;
 use crate::outputs::outputs_of;
-use crate::viewed_driving::drive_viewed;
+use crate::viewed_driving::{drive_viewed, tell_as};
 use std::alloc::Global;
 use std::env::{self, Args};
 use std::fs::File;
@@ -174,7 +174,7 @@ where
     }
     let explains = terminals.error || ask.explain;
     if !ask.views.is_plain() {
-        return with_views(rt, threads, ask, err, explains);
+        return Ok(view(rt, threads, ask, err, explains));
     }
     let mut out = gathering(rt.alloc(), io::writer(rt))?;
     if is_standard_input(ask.file) {
@@ -234,7 +234,23 @@ where
     }
 }
 
-/// Carries out a request that is viewed, with its file.
+/// Carries out a request that is viewed, and answers its status. What went wrong is told as the
+/// request wants it, a file too that can't be opened or made.
+fn view<R, T, E>(rt: &R, threads: &T, ask: &Ask<'_>, err: &mut E, explains: bool) -> u8
+where
+    R: Files + Input + Print + AllocGlobal,
+    T: Threads + Wait + Sync,
+    E: Write,
+    ensures { IsLateStatus result }
+{
+    match with_views(rt, threads, ask, err, explains) {
+        Ok(status) => status,
+        Err(fault) => tell_as(rt.alloc(), ask.views.telling, &fault, err),
+    }
+}
+
+/// Carries out a request that is viewed, with its file. An `Err` is for what went wrong before
+/// that.
 fn with_views<R, T, E>(
     rt: &R,
     threads: &T,
@@ -247,50 +263,38 @@ where
     T: Threads + Wait + Sync,
     E: Write,
     ensures late { IfOk result (λ status. IsLateStatus status) }
-    ensures refused { IfErr result (λ fault.
-        (fault ≡ LineFault.Open) ⊎ (fault ≡ LineFault.OutOfMemory)) }
-    ensures input { IfErr result (λ fault. ask.now.file.now ≡ codes "-"
-        → fault ≡ LineFault.OutOfMemory) }
+    ensures early { IfErr result (λ fault. IsUsualFault fault) }
 {
     if is_standard_input(ask.file) {
-        return Ok(viewed_out(rt, threads, ask, rt.reader(), err, explains));
+        return with_outputs(rt, threads, ask, rt.reader(), err, explains);
     }
     let file = opened(rt, ask.file)?;
-    Ok(viewed_out(rt, threads, ask, file, err, explains))
+    with_outputs(rt, threads, ask, file, err, explains)
 }
 
-/// Carries out a request that is viewed, with what the reader gives. A file that can't be made for a
-/// text is told as a write that failed; nothing is read then. Lines of cycles are written as they
-/// come.
-fn viewed_out<R, T, I, E>(
+/// Carries out a request that is viewed, with what the reader gives. Nothing is read where a file
+/// can't be made for a text. Lines of cycles are written as they come.
+fn with_outputs<R, T, I, E>(
     rt: &R,
     threads: &T,
     ask: &Ask<'_>,
     reader: I,
     err: &mut E,
     explains: bool,
-) -> u8
+) -> Result<u8, LineFault>
 where
     R: Files + Print + AllocGlobal,
     T: Threads + Wait + Sync,
     I: Read + Drop,
     E: Write,
-    ensures { IsLateStatus result }
+    ensures late { IfOk result (λ status. IsLateStatus status) }
+    ensures early { IfErr result (λ fault. IsUsualFault fault) }
 {
-    let (out, history, mut cycles) = match outputs_of(rt, &ask.views) {
-        Ok(outputs) => outputs,
-        Err(fault) => return tell(&fault, err),
-    };
-    let mut out = match gathering(rt.alloc(), out) {
-        Ok(out) => out,
-        Err(fault) => return tell(&fault, err),
-    };
-    let mut history = match gathering(rt.alloc(), history) {
-        Ok(history) => history,
-        Err(fault) => return tell(&fault, err),
-    };
+    let (out, history, mut cycles) = outputs_of(rt, &ask.views)?;
+    let mut out = gathering(rt.alloc(), out)?;
+    let mut history = gathering(rt.alloc(), history)?;
     let mut kept = KeptReader::new(rt.alloc(), reader);
-    drive_viewed(
+    Ok(drive_viewed(
         threads,
         rt.alloc(),
         ask,
@@ -300,7 +304,7 @@ where
         &mut cycles,
         err,
         explains,
-    )
+    ))
 }
 
 /// A writer that gathers what is written before the other writes it.

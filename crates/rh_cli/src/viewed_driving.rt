@@ -21,10 +21,10 @@ use std::io::{Read, Write};
 use std::sync::Wait;
 use std::thread::Threads;
 
-/// Does what is asked as `drive` does, and views it: what is told goes to `out`, of a run the history
-/// of its commands to `history`, and a line for each cycle to `cycles`. All three are flushed at the
-/// end. The line of a fault is an object of JSON where that is asked; where `explains` is set the
-/// lines of `drive_explained` follow it.
+/// Does what is asked as `drive` does, and views it: what is told goes to `out`. Of a run the
+/// history of its commands goes to `history`, and a line for each cycle to `cycles`; all three are
+/// flushed at the end. The line of a fault is an object of JSON where that is asked. Where
+/// `explains` is set the lines of `drive_explained` follow it.
 pub fn drive_viewed<T, A, R, O, H, C, E>(
     rt: &T,
     alloc: A,
@@ -95,7 +95,7 @@ where
 }
 
 /// Tells a fault as it is to be told, and answers its status.
-fn tell_as<A: Allocator + Copy, E: Write>(
+pub(crate) fn tell_as<A: Allocator + Copy, E: Write>(
     alloc: A,
     telling: Telling,
     fault: &LineFault,

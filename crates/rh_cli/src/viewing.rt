@@ -62,7 +62,8 @@ pub(crate) fn view_run<A: Allocator + Copy, R: Read, O: Write, H: Write, C: Writ
     conclude(ran, flushed)
 }
 
-/// Runs the trace of commands that the reader gives at this mark, and writes what `view_run` writes.
+/// Runs the trace of commands that the reader gives at this mark, and writes what `view_run`
+/// writes.
 pub(crate) fn view_run_by_mark<A: Allocator + Copy, R: Read, O: Write, H: Write, C: Write>(
     alloc: A,
     reader: &mut R,

@@ -2,7 +2,7 @@
 
 use crate::expectations::{Row, expect_bytes, expect_equal, expect_prefix};
 use crate::program::terminal::Terminal;
-use crate::texts::{WITHOUT_FIELDS, WITHOUT_FIELDS_ANSWERS};
+use crate::texts::{COLUMNS, WITHOUT_FIELDS, WITHOUT_FIELDS_ANSWERS};
 use rh_cli::{Ask, LineFault, PLAIN, Subcommand, Terminals, play, read_words, tell};
 use std::cell::RefCell;
 use std::process::Abort;
@@ -431,6 +431,133 @@ const EXPLAINED: &[(&[&[u8]], u8, &[u8], &[u8])] = &[
     ),
 ];
 
+/// What is told of views that can't stand together.
+const VIEWS_FAULT: &[u8] =
+    b"rheap: --echo, --json, --dot and OUT - can't stand together, and OUT is a file of its own\n";
+
+/// What the trace without fields is told as with each line.
+const WITHOUT_FIELDS_ECHO: &[u8] =
+    b"2\t1 alloc 1.0 0\tobject 0\n3\t1 load 1.1 1.0 0\trefused NoField\n\
+        total commands 2 refused 1 flips 0 rootwords 0\n";
+
+/// What views come to: texts on standard output, files that can't be opened or made, and options
+/// that can't be taken. A fault is an object where JSON is asked for.
+const VIEWED: &[(&[&[u8]], u8, &[u8], &[u8])] = &[
+    (
+        &[b"rheap", b"run", b"-", b"--echo"],
+        0,
+        WITHOUT_FIELDS_ECHO,
+        b"",
+    ),
+    (
+        &[b"rheap", b"run", b"--history", b"-", b"-"],
+        0,
+        WITHOUT_FIELDS_HISTORY,
+        b"",
+    ),
+    (&[b"rheap", b"run", b"-", b"--cycles=-"], 0, COLUMNS, b""),
+    (
+        &[
+            b"rheap",
+            b"run",
+            b"-",
+            b"--paced",
+            b"--grow=16",
+            b"--cycles",
+            b"-",
+        ],
+        0,
+        COLUMNS,
+        b"",
+    ),
+    (
+        &[b"rheap", b"run", b"no such file", b"--echo"],
+        1,
+        b"",
+        b"rheap: open failed\n",
+    ),
+    (
+        &[b"rheap", b"run", b"no such file", b"--json"],
+        1,
+        b"",
+        b"{\"fault\":\"open failed\"}\n",
+    ),
+    (
+        &[b"rheap", b"run", b"-", b"--history", b"/"],
+        1,
+        b"",
+        b"rheap: write failed\n",
+    ),
+    (
+        &[b"rheap", b"run", b"-", b"--json", b"--cycles="],
+        1,
+        b"",
+        b"{\"fault\":\"write failed\"}\n",
+    ),
+    (
+        &[b"rheap", b"replay", b"-", b"--json"],
+        1,
+        b"",
+        b"{\"fault\":\"line 1: Header\",\"line\":1,\"kind\":\"Header\"}\n",
+    ),
+    (
+        &[b"rheap", b"dump", b"-", b"--json", b"--explain"],
+        1,
+        b"",
+        b"{\"fault\":\"line 1: Header\",\"line\":1,\"kind\":\"Header\"}\n\
+            1 | heap 16 8 4 2 2\n    ^^^^\nthis is a trace: rheap run reads it\n",
+    ),
+    (
+        &[b"rheap", b"run", b"-", b"--echo", b"--json"],
+        2,
+        b"",
+        VIEWS_FAULT,
+    ),
+    (
+        &[b"rheap", b"run", b"-", b"--history=a", b"--cycles=a"],
+        2,
+        b"",
+        VIEWS_FAULT,
+    ),
+    (
+        &[b"rheap", b"run", b"-", b"--history=-", b"--cycles=-"],
+        2,
+        b"",
+        VIEWS_FAULT,
+    ),
+    (
+        &[b"rheap", b"run", b"a", b"--json", b"--cycles", b"a"],
+        2,
+        b"",
+        VIEWS_FAULT,
+    ),
+    (
+        &[b"rheap", b"dump", b"-", b"--dot", b"--json"],
+        2,
+        b"",
+        VIEWS_FAULT,
+    ),
+    (
+        &[b"rheap", b"dump", b"-", b"--echo"],
+        2,
+        b"",
+        b"error: unexpected",
+    ),
+    (
+        &[b"rheap", b"replay", b"-", b"--history", b"a"],
+        2,
+        b"",
+        b"error: unexpected",
+    ),
+    (
+        &[b"rheap", b"threads", b"-", b"--json"],
+        2,
+        b"",
+        b"error: unexpected",
+    ),
+    (&[b"rheap", b"run", b"-", b"--cycles"], 2, b"", b"error: "),
+];
+
 /// The same where standard output is closed.
 const CLOSED: &[(&[&[u8]], u8, &[u8], &[u8])] = &[
     (&[b"rheap", b"--version"], 1, b"", b"rheap: write failed\n"),
@@ -442,6 +569,18 @@ const CLOSED: &[(&[&[u8]], u8, &[u8], &[u8])] = &[
     ),
     (&[b"rheap", b"run", b"-"], 1, b"", b"rheap: write failed\n"),
     (&[b"rheap", b"shell"], 1, b"", b"rheap: write failed\n"),
+    (
+        &[b"rheap", b"run", b"-", b"--json"],
+        1,
+        b"",
+        b"{\"fault\":\"write failed\"}\n",
+    ),
+    (
+        &[b"rheap", b"run", b"-", b"--cycles", b"-"],
+        1,
+        b"",
+        b"rheap: write failed\n",
+    ),
 ];
 
 #[test]
@@ -465,6 +604,9 @@ fn calls_of_the_program(rt: HostRuntime) {
         expect_played(&Row { rt: &rt, row }, &rt, false, call);
     }
     for (row, call) in EXPLAINED.iter().enumerate() {
+        expect_played(&Row { rt: &rt, row }, &rt, false, call);
+    }
+    for (row, call) in VIEWED.iter().enumerate() {
         expect_played(&Row { rt: &rt, row }, &rt, false, call);
     }
     for (row, call) in CLOSED.iter().enumerate() {
@@ -494,7 +636,7 @@ fn a_session_shows_its_prompts(rt: HostRuntime) {
 
 #[test]
 fn faults_before_a_run_are_told(rt: HostRuntime) {
-    let table: [(LineFault, u8, &[u8]); 11] = [
+    let table: [(LineFault, u8, &[u8]); 12] = [
         (LineFault::Open, 1, b"rheap: open failed\n"),
         (
             LineFault::NoText,
@@ -512,6 +654,7 @@ fn faults_before_a_run_are_told(rt: HostRuntime) {
             2,
             b"rheap: completions needs a shell: bash, zsh or fish\n",
         ),
+        (LineFault::Views, 2, VIEWS_FAULT),
         (LineFault::NoLine, 1, b"rheap: draw: NoLine\n"),
         (LineFault::HistoryDiffers, 4, b"rheap: history differs\n"),
     ];

@@ -2,7 +2,7 @@
 
 use crate::devices::SlowWriter;
 use crate::expectations::{Row, expect_bytes, expect_equal, expect_prefix, expect_refusals};
-use crate::texts::{TOO_MANY, TWO_FLIPS, WHOLE_CYCLE};
+use crate::texts::{COLUMNS, TOO_MANY, TWO_FLIPS, WHOLE_CYCLE};
 use refusing::refused_in_turn;
 use rh_viewed_trace::{
     PacedFault, Telling, ViewFault, run_viewed, run_viewed_growing, run_viewed_paced,
@@ -73,10 +73,6 @@ fn run<A: Allocator + Copy, W: io::Write, H: io::Write, C: io::Write>(
     };
     Ok(())
 }
-
-/// The first line of a text of cycles.
-const COLUMNS: &[u8] = b"number\tend\tepoch\tbegan\tended\tused\tlive\tfreed\tobjects\tgranted\t\
-    idle\tspent\tmost\tlogged\tjoined\trepeated\tstale\tpassed\twords\n";
 
 /// The history of `TWO_FLIPS`, on each heap.
 const TWO_FLIPS_HISTORY: &[u8] = b"history 2 2\n\
