@@ -243,7 +243,7 @@ run_of_fault due fault (Ok summary) status old new is ends own = absurd (let don
 run_of_fault due fault (Err other) status old new is ends own =
     elim (run_fault_is_1_or_3 other) [ inl one ↦ inl (own ∙ one) | inr three ↦ inr (own ∙ three) ]
 
-paced_fault_is_1_or_3 : (fault : PacedFault) → (paced_status fault ≡ 1) ⊎ (paced_status fault ≡ 3)
+pub paced_fault_is_1_or_3 : (fault : PacedFault) → (paced_status fault ≡ 1) ⊎ (paced_status fault ≡ 3)
 paced_fault_is_1_or_3 paced_faults.Read = inl refl
 paced_fault_is_1_or_3 paced_faults.Long = inl refl
 paced_fault_is_1_or_3 (paced_faults.Trace fault) = inl refl

@@ -29,8 +29,8 @@ ghost use Rattle.rh_syntax.specs.Spelling.{Script};
 ghost use Rattle.rh_syntax.specs.declared.fault.TraceFault.{TraceFault as TraceFaultOf};
 ghost use Rattle.rh_pace.specs.declared.pace.Pace.{Pace as PaceOf};
 ghost use Rattle.rh_paced_trace.specs.declared.fault.PacedFault.{PacedFault as PacedFaultOf};
-ghost use Rattle.rh_paced_trace.specs.Growing.{IsGrowingRun, growing_text_of};
-ghost use Rattle.rh_paced_trace.specs.Run.{IsPlainRun, IsRun, AreSumsOf, output_of, text_of};
+ghost use Rattle.rh_paced_trace.specs.Growing.{IsGrowingRun, growing_sum_of, growing_text_of};
+ghost use Rattle.rh_paced_trace.specs.Run.{IsPlainRun, IsRun, AreSumsOf, output_of, sum_of, text_of};
 ghost use Rattle.rh_shared_trace.specs.Run.{IsHistoryOf, IsSharedRun};
 ghost use Rattle.rh_cli.specs.Ask.{command_and_file_of, explains_of, is_taken, viewed_of};
 ghost use Rattle.rh_cli.specs.Count.{counts_line};
@@ -44,6 +44,7 @@ ghost use Rattle.rh_cli.specs.Views.{json_counts, told_report, ConcludesViewed};
 ghost use Rattle.rh_viewed_trace.specs.declared.telling.Telling.{Telling as TellingOf};
 ghost use Rattle.rh_viewed_trace.specs.Cycles.{cycles_text};
 ghost use Rattle.rh_viewed_trace.specs.Run.{run_cycles, run_history, view_of_run, IsRun as IsViewedRun, Written};
+ghost use Rattle.rh_viewed_trace.specs.Ways.{IsTold, growing_answered, growing_cycles, paced_answered, paced_cycles};
 ghost use Rattle.rh_cli.specs.declared.ask.Shell.{Shell as ShellOf};
 ghost use Rattle.rh_cli.specs.declared.ask.Subcommand.{Subcommand as SubcommandOf};
 ghost use Rattle.rh_cli.specs.declared.ending.Ending.{Ending as EndingOf};
@@ -216,9 +217,9 @@ pub fn status_4_says_a_wrong_history()
 {}
 
 /// What is viewed ends with the statuses of what isn't, and never with 2. 0 says that all that was
-/// asked for is written: of a run what is told of its lines, its history and its cycles, each whole,
-/// the report on a legal history, or the counts of a dump. 4 of a check says that the history is
-/// wrong, and that the whole report is written.
+/// asked for is written: of a run, also of a paced and of a growing one, what is told of its lines,
+/// its history and its cycles, each whole; the report on a legal history; or the counts of a dump.
+/// 4 of a check says that the history is wrong, and that the whole report is written.
 pub fn what_is_viewed_ends_with_the_same_statuses()
     ensures late { (telling : TellingOf) (subcommand : SubcommandOf) (input : List ℕ)
         (status : ℕ) (w : Written) → ConcludesViewed telling subcommand input status w
@@ -229,6 +230,16 @@ pub fn what_is_viewed_ends_with_the_same_statuses()
         × Appends w.old w.new (view_of_run telling script)
         × Appends w.history_old w.history_new (spelling (run_history script))
         × Appends w.cycles_old w.cycles_new (cycles_text (run_cycles script)) }
+    ensures paced { (mark : Option ℕ) (telling : TellingOf) (input : List ℕ) (w : Written)
+        → ConcludesViewed telling (SubcommandOf.RunPaced mark) input 0 w
+        → (script : Script) × (pace : PaceOf) × IsRun mark input script pace
+        × IsTold telling script (paced_answered script pace) (sum_of script pace)
+        (paced_cycles script pace) w }
+    ensures growing { (at_most : ℕ) (telling : TellingOf) (input : List ℕ) (w : Written)
+        → ConcludesViewed telling (SubcommandOf.RunGrowing at_most) input 0 w
+        → (script : Script) × (given : ℕ → Bool) × IsGrowingRun at_most input script
+        × IsTold telling script (growing_answered script at_most given)
+        (growing_sum_of script at_most given) (growing_cycles script at_most given) w }
     ensures replay { (telling : TellingOf) (input : List ℕ) (w : Written)
         → ConcludesViewed telling SubcommandOf.Replay input 0 w
         → (h : HistoryState) × (count : ℕ) × IsJudged input h (VerdictOf.Legal count)
