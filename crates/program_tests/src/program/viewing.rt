@@ -1,8 +1,11 @@
 //! What is asked for, seen in other ways: what goes to each of the writers.
 
 use crate::expectations::{Row, expect_bytes, expect_equal, expect_prefix, expect_refusals};
-use crate::texts::{STORED, STORED_HISTORY, WRONG, WRONG_REPORT};
-use refusing::refused_in_turn;
+use crate::texts::{
+    COLUMNS, RIGHT, STORED, STORED_HISTORY, TWO_FLIPS, TWO_FLIPS_ANSWERS, WHOLE_CYCLE,
+    WHOLE_CYCLE_ANSWERS, WITHOUT_FIELDS, WRONG, WRONG_REPORT,
+};
+use refusing::{RefusingAllocator, refused_in_turn};
 use rh_cli::{Ask, KeptReader, Subcommand, Telling, Views, drive_viewed};
 use std::alloc::Allocator;
 use std::process::Abort;
@@ -23,10 +26,6 @@ fn told(subcommand: Subcommand, telling: Telling) -> Ask<'static> {
     }
 }
 
-/// The names of the columns of cycles.
-const HEADER: &[u8] =
-    b"number\tend\tepoch\tbegan\tended\tused\tlive\tfreed\tobjects\tgranted\tidle\tspent\tmost\tlogged\tjoined\trepeated\tstale\tpassed\twords\n";
-
 /// What the trace of a store is told as, with each line.
 const STORED_ECHO: &[u8] =
     b"2\t1 alloc 1.0 1\tobject 1\n3\t1 store 1.0 0 5\tdone\n4\t1 load 1.1 1.0 0\tint 5\ntotal commands 3 refused 0 flips 0 rootwords 0\n";
@@ -34,6 +33,36 @@ const STORED_ECHO: &[u8] =
 /// And as objects of JSON.
 const STORED_JSON: &[u8] =
     b"{\"line\":2,\"text\":\"1 alloc 1.0 1\",\"answer\":\"object 1\"}\n{\"line\":3,\"text\":\"1 store 1.0 0 5\",\"answer\":\"done\"}\n{\"line\":4,\"text\":\"1 load 1.1 1.0 0\",\"answer\":\"int 5\"}\n{\"total\":{\"commands\":3,\"refused\":0,\"flips\":0,\"rootwords\":0}}\n";
+
+/// What the first line of a text of cycles is followed by, of `WHOLE_CYCLE`, and of `TWO_FLIPS` on a
+/// heap that collects by itself.
+const WHOLE_CYCLE_LINE: &[u8] =
+    b"1\tflipped\t1\t3\t10\t4\t7\t0\t2\t24\t0\t15\t6\t1\t3\t0\t0\t0\t16\n";
+
+const TWO_FLIPS_LINES: &[u8] =
+    b"1\tflipped\t1\t6\t7\t20\t4\t20\t1\t32\t0\t9\t9\t0\t-\t-\t-\t-\t29\n\
+        2\tflipped\t2\t11\t12\t20\t4\t20\t1\t32\t0\t9\t9\t0\t-\t-\t-\t-\t29\n";
+
+/// What `TWO_FLIPS` is answered on a heap that may grow, which begins its cycles earlier, and the
+/// lines of these.
+const GROWN_ANSWERS: &[u8] =
+    b"object 2\nobject 2\nobject 2\nobject 2\nobject 2\nobject 2\nobject 2\nobject 2\n\
+        object 2\nobject 2\nobject 2\ntotal commands 11 refused 0 flips 3 rootwords 3\n";
+
+const GROWN_LINES: &[u8] = b"1\tflipped\t1\t4\t5\t12\t4\t12\t1\t32\t0\t9\t9\t0\t-\t-\t-\t-\t29\n\
+        2\tflipped\t2\t7\t8\t12\t4\t12\t1\t32\t0\t9\t9\t0\t-\t-\t-\t-\t29\n\
+        3\tflipped\t3\t10\t11\t12\t4\t12\t1\t32\t0\t9\t9\t0\t-\t-\t-\t-\t29\n";
+
+/// The history of `WHOLE_CYCLE`.
+const WHOLE_CYCLE_HISTORY: &[u8] = b"history 2 2\n1 alloc 1.0 2 = object 2\n\
+        1 alloc 1.1 1 = object 1\n1 store 1.0 0 1.1 = done\nend 3\n";
+
+/// The history of `TWO_FLIPS`.
+const TWO_FLIPS_HISTORY: &[u8] = b"history 2 2\n\
+        1 alloc 1.0 2 = object 2\n1 alloc 1.0 2 = object 2\n1 alloc 1.0 2 = object 2\n\
+        1 alloc 1.0 2 = object 2\n1 alloc 1.0 2 = object 2\n1 alloc 1.0 2 = object 2\n\
+        1 alloc 1.0 2 = object 2\n1 alloc 1.0 2 = object 2\n1 alloc 1.0 2 = object 2\n\
+        1 alloc 1.0 2 = object 2\n1 alloc 1.0 2 = object 2\nend 11\n";
 
 /// What a subcommand does with a text: the status, and what goes to standard output, to the history,
 /// to the lines of cycles, and to standard error.
@@ -46,21 +75,21 @@ const VIEWED: &[Viewed] = &[
         Telling::Echo,
         STORED,
         0,
-        [STORED_ECHO, STORED_HISTORY, HEADER, b""],
+        [STORED_ECHO, STORED_HISTORY, COLUMNS, b""],
     ),
     (
         Subcommand::RunPaced { mark: Some(0) },
         Telling::Json,
         STORED,
         0,
-        [STORED_JSON, STORED_HISTORY, HEADER, b""],
+        [STORED_JSON, STORED_HISTORY, COLUMNS, b""],
     ),
     (
         Subcommand::RunGrowing { at_most: 4096 },
         Telling::Echo,
         STORED,
         0,
-        [STORED_ECHO, STORED_HISTORY, HEADER, b""],
+        [STORED_ECHO, STORED_HISTORY, COLUMNS, b""],
     ),
     (
         Subcommand::Run,
@@ -87,6 +116,66 @@ const VIEWED: &[Viewed] = &[
         b"heap 7 8 16 2 2\n",
         1,
         [b"", b"", b"", b"rheap: heap: BadSpace\n"],
+    ),
+    (
+        Subcommand::Run,
+        Telling::Echo,
+        b"",
+        1,
+        [b"", b"", b"", b"rheap: line 1: Empty\n"],
+    ),
+    // A fault in the last line: nothing is written of the lines before it.
+    (
+        Subcommand::RunPaced { mark: None },
+        Telling::Json,
+        b"heap 64 8 16 2 2\n1 alloc 1.0 2\n1 alloc 1.1 1",
+        1,
+        [
+            b"",
+            b"",
+            b"",
+            b"{\"fault\":\"line 3: Cut\",\"line\":3,\"kind\":\"Cut\"}\n",
+        ],
+    ),
+    (
+        Subcommand::RunPaced { mark: None },
+        Telling::Json,
+        WITHOUT_FIELDS,
+        1,
+        [b"", b"", b"", b"{\"fault\":\"pace: TooSmall need 17\"}\n"],
+    ),
+    (
+        Subcommand::RunGrowing { at_most: 15 },
+        Telling::Json,
+        WITHOUT_FIELDS,
+        1,
+        [b"", b"", b"", b"{\"fault\":\"grow: BadLimits\"}\n"],
+    ),
+    (
+        Subcommand::Replay,
+        Telling::Json,
+        b"history 2 2\n1 drop 1.0 = dome\nend 1\n",
+        1,
+        [
+            b"",
+            b"",
+            b"",
+            b"{\"fault\":\"line 2: Answer\",\"line\":2,\"kind\":\"Answer\"}\n",
+        ],
+    ),
+    (
+        Subcommand::Replay,
+        Telling::Json,
+        RIGHT,
+        0,
+        [b"{\"owner\":1,\"calls\":3}\n{\"legal\":3}\n", b"", b"", b""],
+    ),
+    (
+        Subcommand::Replay,
+        Telling::Echo,
+        RIGHT,
+        0,
+        [b"owner 1 calls 3\nlegal 3\n", b"", b"", b""],
     ),
     (
         Subcommand::Replay,
@@ -140,8 +229,17 @@ const VIEWED: &[Viewed] = &[
     ),
 ];
 
-/// Does what is asked with a text, and answers the status and what each of four writers has.
-fn viewed<R, A>(rt: &R, memory: A, ask: &Ask<'_>, text: &[u8]) -> (u8, [Vec<u8>; 4])
+/// What was written to each of the four writers.
+#[derive(Drop)]
+struct Written {
+    out: Vec<u8>,
+    history: Vec<u8>,
+    cycles: Vec<u8>,
+    err: Vec<u8>,
+}
+
+/// Does what is asked with a text, and answers the status and what was written.
+fn viewed<R, A>(rt: &R, memory: A, ask: &Ask<'_>, text: &[u8]) -> (u8, Written)
 where
     R: AllocGlobal + Abort + Threads + Wait + Sync,
     A: Allocator + Copy + Send,
@@ -162,7 +260,13 @@ where
         &mut err,
         false,
     );
-    (status, [out, history, cycles, err])
+    let written = Written {
+        out,
+        history,
+        cycles,
+        err,
+    };
+    (status, written)
 }
 
 #[test]
@@ -170,36 +274,82 @@ fn each_view_goes_to_its_writer(rt: HostRuntime) {
     for (row, &(subcommand, telling, text, due, texts)) in VIEWED.iter().enumerate() {
         let rt = Row { rt: &rt, row };
         let ask = told(subcommand, telling);
-        let (status, [out, history, cycles, err]) = viewed(&rt, rt.alloc(), &ask, text);
+        let (status, written) = viewed(&rt, rt.alloc(), &ask, text);
         expect_equal(&rt, status, due);
-        expect_bytes(&rt, &out, texts[0]);
-        expect_bytes(&rt, &history, texts[1]);
-        expect_bytes(&rt, &cycles, texts[2]);
-        expect_bytes(&rt, &err, texts[3]);
+        expect_bytes(&rt, &written.out, texts[0]);
+        expect_bytes(&rt, &written.history, texts[1]);
+        expect_bytes(&rt, &written.cycles, texts[2]);
+        expect_bytes(&rt, &written.err, texts[3]);
     }
 }
 
-/// Whether memory was refused. What is told is then a prefix, and no history is written.
-fn is_refused<R: AllocGlobal + Abort + Threads + Wait + Sync, A: Allocator + Copy + Send>(
-    rt: &R,
-    memory: A,
-) -> bool {
-    let ask = told(Subcommand::Run, Telling::Json);
-    let (status, [out, history, _, err]) = viewed(rt, memory, &ask, STORED);
-    if status == 3 {
-        expect_prefix(rt, STORED_JSON, &out);
-        expect_equal(rt, history.len(), 0);
-        assert!(rt; err.starts_with(b"rheap: out of memory") || err.starts_with(b"{\"fault\""));
-        return true;
+/// Runs with cycles: of each the texts that go to standard output and to the history, and the lines
+/// of its cycles.
+const WITH_CYCLES: &[(Subcommand, &[u8], [&[u8]; 3])] = &[
+    (
+        Subcommand::Run,
+        WHOLE_CYCLE,
+        [WHOLE_CYCLE_ANSWERS, WHOLE_CYCLE_HISTORY, WHOLE_CYCLE_LINE],
+    ),
+    (
+        Subcommand::RunPaced { mark: None },
+        TWO_FLIPS,
+        [TWO_FLIPS_ANSWERS, TWO_FLIPS_HISTORY, TWO_FLIPS_LINES],
+    ),
+    (
+        Subcommand::RunGrowing { at_most: 64 },
+        TWO_FLIPS,
+        [GROWN_ANSWERS, TWO_FLIPS_HISTORY, GROWN_LINES],
+    ),
+];
+
+#[test]
+fn each_cycle_has_its_line(rt: HostRuntime) {
+    for (row, &(subcommand, text, texts)) in WITH_CYCLES.iter().enumerate() {
+        let rt = Row { rt: &rt, row };
+        let ask = told(subcommand, Telling::Answers);
+        let (status, written) = viewed(&rt, rt.alloc(), &ask, text);
+        expect_equal(&rt, status, 0);
+        expect_bytes(&rt, &written.out, texts[0]);
+        expect_bytes(&rt, &written.history, texts[1]);
+        expect_prefix(&rt, &written.cycles, COLUMNS);
+        expect_bytes(
+            &rt,
+            written.cycles.strip_prefix(COLUMNS).unwrap_or(b""),
+            texts[2],
+        );
+        expect_bytes(&rt, &written.err, b"");
     }
-    expect_equal(rt, status, 0);
-    expect_bytes(rt, &out, STORED_JSON);
-    expect_bytes(rt, &history, STORED_HISTORY);
-    false
+}
+
+/// Whether memory was refused. That is told, and what was written is a prefix without a history; or
+/// it was for the copy of the input, and all is written.
+fn is_refused<R, A>(rt: &R, memory: &RefusingAllocator<A>) -> bool
+where
+    R: AllocGlobal + Abort + Threads + Wait + Sync,
+    A: Allocator + Copy + Send + Sync,
+{
+    let ask = told(Subcommand::Run, Telling::Json);
+    let (status, written) = viewed(rt, memory, &ask, STORED);
+    if status == 3 {
+        expect_prefix(rt, STORED_JSON, &written.out);
+        expect_equal(rt, written.history.len(), 0);
+        assert!(rt;
+            written.err.starts_with(b"rheap: out of memory")
+                || written.err.starts_with(b"{\"fault\"")
+        );
+    } else {
+        expect_equal(rt, status, 0);
+        expect_bytes(rt, &written.out, STORED_JSON);
+        expect_bytes(rt, &written.history, STORED_HISTORY);
+    }
+    memory.has_refused()
 }
 
 #[test]
 fn each_allocation_of_a_view_is_refused_in_turn(rt: HostRuntime) {
-    let refused = refused_in_turn(rt.alloc(), |memory| is_refused(&rt, memory));
+    let refused = refused_in_turn(rt.alloc(), |memory: &RefusingAllocator<_>| {
+        is_refused(&rt, memory)
+    });
     expect_refusals(&rt, refused, 5);
 }
