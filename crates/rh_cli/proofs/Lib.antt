@@ -10,5 +10,6 @@ pub mod StatusLaws
 pub mod Statuses
 pub mod ThreadsHistory
 pub mod ViewStatuses
+pub mod Viewed
 pub mod ViewsFlushed
 pub mod WorkedCounts

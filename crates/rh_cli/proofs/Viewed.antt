@@ -1,0 +1,38 @@
+-- How a subcommand without views of its own is viewed.
+use Rattle.std.proofs.Common.{◌≡◌, ◌≢◌, ℕ, List, Option, refl}
+use Rattle.rh_text.specs.lemmas.Appends.{Keeps-same}
+use Rattle.rh_viewed_trace.specs.Run.{Written}
+use Rattle.rh_viewed_trace.specs.declared.telling.Telling.{Telling}
+use Rattle.rh_cli.specs.Drive.{Concludes}
+use Rattle.rh_cli.specs.Views.{ConcludesViewed, KeepsOthers}
+use Rattle.rh_cli.specs.declared.ask.Subcommand.{Subcommand}
+use Rattle.rh_cli.specs.declared.ask.Subcommand.TheVariants.{Run, RunPaced, RunGrowing, Threads, Replay, Dump, Dot, Draw, Session, Completions}
+
+-- where the first writer was and is, and nothing was written to the others
+abbrev pub told_alone : Option (List ℕ) → Option (List ℕ) → Option (List ℕ) → Option (List ℕ) → Written
+told_alone old new history cycles = record {
+  old = old;
+  new = new;
+  history_old = history;
+  history_new = history;
+  cycles_old = cycles;
+  cycles_new = cycles;
+}
+
+pub others_kept : (old new history cycles : Option (List ℕ)) → KeepsOthers (told_alone old new history cycles)
+others_kept old new history cycles = (Keeps-same history, Keeps-same cycles)
+
+-- it ends as it does without
+pub unviewed : (telling : Telling) (subcommand : Subcommand) (status : ℕ) (old new history cycles : Option (List ℕ)) → subcommand ≢ Run → ((mark : Option ℕ) → subcommand ≢ RunPaced mark)
+    → ((at_most : ℕ) → subcommand ≢ RunGrowing at_most) → subcommand ≢ Replay → subcommand ≢ Dump
+    → (input : List ℕ) → Concludes subcommand input status old new → ConcludesViewed telling subcommand input status (told_alone old new history cycles)
+unviewed telling Run status old new history cycles run paced growing replay dump input ends = absurd (run refl)
+unviewed telling (RunPaced mark) status old new history cycles run paced growing replay dump input ends = absurd (paced mark refl)
+unviewed telling (RunGrowing at_most) status old new history cycles run paced growing replay dump input ends = absurd (growing at_most refl)
+unviewed telling Replay status old new history cycles run paced growing replay dump input ends = absurd (replay refl)
+unviewed telling Dump status old new history cycles run paced growing replay dump input ends = absurd (dump refl)
+unviewed telling (Threads replicators idle) status old new history cycles run paced growing replay dump input ends = (ends, others_kept old new history cycles)
+unviewed telling Dot status old new history cycles run paced growing replay dump input ends = (ends, others_kept old new history cycles)
+unviewed telling (Draw line) status old new history cycles run paced growing replay dump input ends = (ends, others_kept old new history cycles)
+unviewed telling Session status old new history cycles run paced growing replay dump input ends = (ends, others_kept old new history cycles)
+unviewed telling (Completions shell) status old new history cycles run paced growing replay dump input ends = (ends, others_kept old new history cycles)
