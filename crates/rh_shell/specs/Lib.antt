@@ -1,2 +1,3 @@
+pub mod OutputLog
 pub mod Session
 pub mod Typing

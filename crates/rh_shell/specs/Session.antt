@@ -1,6 +1,6 @@
 -- What a session writes for the lines that are typed.
 use Rattle.std.specs.Prelude.{◌≡◌, ℕ, ◌+◌, ◌*◌, ◌^◌, ◌≤◌, ◌⊎◌, List, [], ◌∷◌, ◌++◌, length, take, Option, Some, None, Result, Ok, Err, nat_lt, not, if◌then◌else◌, codes}
-use Rattle.std.specs.Io.KnownBytes.{Appends, Consumes, IsAtEnd}
+use Rattle.std.specs.Io.KnownBytes.{Appends}
 use Rattle.std.specs.Str.{bytes_eq}
 use Rattle.rh_mutator.specs.declared.config.ConfigFault.{ConfigFault}
 use Rattle.rh_mutator.specs.declared.config.ConfigFault.TheVariants.{BadSpace, BadRatio, BadRoots, BadLog, BadNumbers}
@@ -11,7 +11,7 @@ use Rattle.rh_cycles.specs.declared.cycle.Cycle.{Cycle}
 use Rattle.rh_cycles.specs.Cycles.{ReaderState, new_reader, read_step}
 use Rattle.rh_cycles.specs.Heaps.{reading_of, without_entries}
 use Rattle.rh_cycles.specs.Line.{cycle_line, cycles_header}
-use Rattle.rh_text.specs.RawLine.{RawLine, lines_of}
+use Rattle.rh_text.specs.RawLine.{RawLine}
 use Rattle.rh_text.specs.Output.{AppendsPrefix}
 use Rattle.rh_syntax.specs.declared.fault.Kind.{Kind}
 use Rattle.rh_syntax.specs.declared.fault.Kind.TheVariants as kinds
@@ -23,7 +23,6 @@ use Rattle.rh_engine.specs.Engine.{EngineState}
 use Rattle.rh_trace.specs.declared.summary.Summary.{Summary}
 use Rattle.rh_trace.specs.Answers.{answered_text, total_line}
 use Rattle.rh_trace.specs.Run.{config_of, request_step, summary_with}
-use Rattle.rh_shell.specs.declared.fault.ShellFault.{ShellFault}
 use Rattle.rh_shell.specs.declared.own.Own.{Own}
 use Rattle.rh_shell.specs.declared.own.Own.TheVariants as owns
 
@@ -201,20 +200,6 @@ IsSession lines text sum =
     (answers : List ℕ) × (t : SessionState)
     × AreAnswers new_session lines answers t
     × (text ≡ answers ++ total_line t.summary) × (sum ≡ t.summary)
-
--- How a session ends: at the end of its input with the whole text of its lines; or before that with
--- a prefix of the text of some of them, from the first on.
-abbrev pub Ends : Result Summary ShellFault → Option (List ℕ) → Option (List ℕ)
-    → Option (List ℕ) → Option (List ℕ) → Type 0
-Ends (Ok sum) input left old new =
-    (typed : List ℕ) × (text : List ℕ)
-    × Consumes input left typed × IsAtEnd left × IsSession (lines_of typed) text sum
-    × Appends old new text
-Ends (Err fault) input left old new =
-    (typed : List ℕ) × (text : List ℕ) × (lines : List RawLine) × (others : List RawLine)
-    × (sum : Summary)
-    × Consumes input left typed × (lines_of typed ≡ lines ++ others)
-    × IsSession lines text sum × AppendsPrefix old new text
 
 -- How writing some text ends: all of it is written, or a prefix of it.
 abbrev pub WritesSome : {X E : Type 0} → List ℕ → Result X E → Option (List ℕ) → Option (List ℕ)

@@ -1,7 +1,8 @@
 //! What is answered to a line.
 
-ghost use Rattle.std.specs.Prelude.{◌≡◌, ◌≤◌, List, ℕ, OnOk, IfSome, None, false};
+ghost use Rattle.std.specs.Prelude.{◌≡◌, ◌≤◌, List, ℕ, IsErrOf, OnOk, IfSome, None, false};
 ghost use Rattle.rh_core.specs.Config.{fault_of};
+ghost use Rattle.rh_text.specs.IoLog.{AreSpent};
 ghost use Rattle.rh_trace.specs.Answers.{answered_text};
 ghost use Rattle.rh_trace.specs.Run.{config_of, request_step};
 ghost use Rattle.rh_shell.specs.Session.{own_of, IsAnswer, IsCounted, IsCyclesAnswer, IsDrawAnswer, IsHeapAnswer, IsOtherAnswer, SessionState, session_after, WritesSome};
@@ -29,6 +30,7 @@ fn tell<W: io::Write>(writer: &mut W, writes: &mut IoLog, text: &[u8]) -> Result
     requires { writes.old.failed ≡ false }
     ensures written { WritesSome text.now result (W.contents writer.old) (W.contents writer.new) }
     ensures none_failed { OnOk result (writes.new.failed ≡ false) }
+    ensures failed { IsErrOf result Stop.Write → AreSpent writes.new }
 {
     match send(writer, writes, text) {
         Ok(()) => Ok(()),
@@ -46,6 +48,7 @@ fn answer_cycles<A: Allocator + Copy, W: io::Write>(
     ensures told { (text : List ℕ) × IsCyclesAnswer playing.now text
         × WritesSome text result (W.contents writer.old) (W.contents writer.new) }
     ensures none_failed { OnOk result (writes.new.failed ≡ false) }
+    ensures failed { IsErrOf result Stop.Write → AreSpent writes.new }
 {
     let Some(playing) = playing else {
         let mut text = LineText::new();
@@ -114,6 +117,7 @@ fn answer_other<A: Allocator + Copy, W: io::Write, H: Host>(
         kind text
         × WritesSome text result (W.contents writer.old) (W.contents writer.new) }
     ensures none_failed { OnOk result (writes.new.failed ≡ false) }
+    ensures failed { IsErrOf result Stop.Write → AreSpent writes.new }
 {
     let mut text = LineText::new();
     match own_of(line, ended) {
@@ -151,6 +155,7 @@ fn begin<A: Allocator + Copy, W: io::Write>(
         × WritesSome text result (W.contents writer.old) (W.contents writer.new) }
     ensures counted { OnOk result (IsCounted session.new) }
     ensures none_failed { OnOk result (writes.new.failed ≡ false) }
+    ensures failed { IsErrOf result Stop.Write → AreSpent writes.new }
 {
     match Heap::new(alloc, config_of(header)) {
         Ok(heap) => {
@@ -184,6 +189,7 @@ fn answer_request<A: Allocator + Copy, W: io::Write>(
         (W.contents writer.old) (W.contents writer.new)) }
     ensures counted { OnOk result (IsCounted session.new) }
     ensures none_failed { OnOk result (writes.new.failed ≡ false) }
+    ensures failed { IsErrOf result Stop.Write → AreSpent writes.new }
 {
     let number = session.number;
     let mut summary = session.summary;
@@ -221,6 +227,7 @@ pub(crate) fn answer_line<A: Allocator + Copy, W: io::Write, H: Host>(
         × WritesSome text result (W.contents writer.old) (W.contents writer.new) }
     ensures counted { OnOk result (IsCounted session.new) }
     ensures none_failed { OnOk result (writes.new.failed ≡ false) }
+    ensures failed { IsErrOf result Stop.Write → AreSpent writes.new }
 {
     if session.playing.is_none() {
         return match header_or_fault(line, ended) {

@@ -6,6 +6,7 @@ mod fault;
 mod help;
 mod host;
 pub mod laws;
+mod output_log;
 mod own;
 mod playing;
 mod session;
@@ -14,5 +15,6 @@ mod telling;
 
 pub use fault::ShellFault;
 pub use host::Host;
+pub use output_log::OutputLog;
 pub use rh_trace::Summary;
-pub use shell::run_shell;
+pub use shell::{run_shell, run_shell_logged};

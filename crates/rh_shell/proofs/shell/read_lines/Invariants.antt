@@ -1,14 +1,14 @@
 use Rattle.std.proofs.Common.{◌≡◌, ℕ, List, [], false}
 use Rattle.std.specs.Io.KnownBytes.{Consumes}
 use Rattle.rh_shell.specs.Session.{IsCounted}
-use Rattle.rh_shell.proofs.Taken.{Taken}
+use Rattle.rh_shell.specs.Typing.{Taken}
 use Rattle.rh_shell.proofs.shell.read_lines.Given as goal
 
 abbrev pub invariant-loop-alloc : goal.invariant-loop-alloc
 invariant-loop-alloc g l = record {
   read : (typed : List ℕ) × Consumes (g.R.Read.remaining l.fn.reader) (g.R.Read.remaining l.reader) typed × Taken typed [] l.line.items l.session (g.W.Write.contents l.fn.writer) (g.W.Write.contents l.writer);
   counted : IsCounted l.session;
-  none_failed : l.writes.failed ≡ false;
+  none_failed : l.log.writes.failed ≡ false;
   no_read_failed : l.reads.failed ≡ false;
 }
 
