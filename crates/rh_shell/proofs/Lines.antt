@@ -24,7 +24,7 @@ session_is p q a b n e f = cc
 
 -- some line tells this fault
 fault_line : (name : List ℕ) → (text : List ℕ) × IsFaultLine name text
-fault_line name = (codes "fault: " ++ (name ++ ([] ++ 10 ∷ [])), ([], refl))
+fault_line name = (codes "fault: " ++ (name ++ 10 ∷ []), inl refl)
 
 -- a heap's line has some answer
 pub some_heap_answer : (s : SessionState) (header : Header) (o : Option ConfigFault) → (text : List ℕ) × (t : SessionState) × IsHeapAnswer s header o text t

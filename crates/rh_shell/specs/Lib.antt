@@ -1,3 +1,4 @@
+pub mod HelpText
 pub mod OutputLog
 pub mod Session
 pub mod Typing

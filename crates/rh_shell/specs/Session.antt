@@ -1,6 +1,7 @@
 -- What a session writes for the lines that are typed.
-use Rattle.std.specs.Prelude.{◌≡◌, ℕ, ◌+◌, ◌*◌, ◌^◌, ◌≤◌, ◌⊎◌, List, [], ◌∷◌, ◌++◌, length, take, Option, Some, None, Result, Ok, Err, nat_lt, not, if◌then◌else◌, codes}
+use Rattle.std.specs.Prelude.{◌≡◌, ℕ, ◌+◌, ◌*◌, ◌^◌, ◌≤◌, ◌⊎◌, List, [], ◌∷◌, ◌++◌, length, take, Option, Some, None, Result, Ok, Err, nat_lt, not, if◌then◌else◌, codes, ◌==◌, false}
 use Rattle.std.specs.Io.KnownBytes.{Appends}
+use Rattle.std.specs.List.{list_any}
 use Rattle.std.specs.Str.{bytes_eq}
 use Rattle.rh_mutator.specs.declared.config.ConfigFault.{ConfigFault}
 use Rattle.rh_mutator.specs.declared.config.ConfigFault.TheVariants.{BadSpace, BadRatio, BadRoots, BadLog, BadNumbers}
@@ -23,6 +24,7 @@ use Rattle.rh_engine.specs.Engine.{EngineState}
 use Rattle.rh_trace.specs.declared.summary.Summary.{Summary}
 use Rattle.rh_trace.specs.Answers.{answered_text, total_line}
 use Rattle.rh_trace.specs.Run.{config_of, request_step, summary_with}
+use Rattle.rh_shell.specs.HelpText.{help_text}
 use Rattle.rh_shell.specs.declared.own.Own.{Own}
 use Rattle.rh_shell.specs.declared.own.Own.TheVariants as owns
 
@@ -106,10 +108,12 @@ size_fault_name BadRoots = codes "BadRoots"
 size_fault_name BadLog = codes "BadLog"
 size_fault_name BadNumbers = codes "BadNumbers"
 
--- a line that tells a fault of this name; a sentence may stand after it
+-- a line that tells a fault of this name; a sentence without a line feed may stand after it
 abbrev pub IsFaultLine : List ℕ → List ℕ → Type 0
 IsFaultLine name text =
-    (sentence : List ℕ) × (text ≡ codes "fault: " ++ (name ++ (sentence ++ 10 ∷ [])))
+    (text ≡ codes "fault: " ++ (name ++ 10 ∷ []))
+    ⊎ ((sentence : List ℕ) × (list_any (λ b. b == 10) sentence ≡ false)
+    × (text ≡ codes "fault: " ++ (name ++ (codes ": " ++ (sentence ++ 10 ∷ [])))))
 
 -- what a line asks beside those of a trace: `help`, `cycles`, or `draw` and the name of a file
 unfoldable pub own_of : RawLine → Own
@@ -138,7 +142,7 @@ IsDrawAnswer (Some p) text =
 
 -- what is answered to a line that is none of a trace, with this fault there
 abbrev pub IsOtherAnswer : Own → Option PlayingState → Kind → List ℕ → Type 0
-IsOtherAnswer owns.Help p kind text = Unit {0}
+IsOtherAnswer owns.Help p kind text = text ≡ help_text
 IsOtherAnswer owns.Cycles p kind text = IsCyclesAnswer p text
 IsOtherAnswer owns.Draw p kind text = IsDrawAnswer p text
 IsOtherAnswer owns.Nothing p kind text = IsFaultLine (kind_name kind) text

@@ -12,7 +12,7 @@ OWNER same ROOT ROOT                whether both hold the same
 OWNER drop ROOT                     the root becomes nil
 begin, shade ROOT                   a cycle begins; a root's object is placed
 deal copies N TRAY, deal entries N TRAY, give TRAY, join TRAY TRAY
-flip, recall, abandon, idle N       a cycle ends; it deals again; it is given up; it gets time
+flip, recall, abandon, idle N       a cycle ends; it deals again; it is given up; it gets N units
 resize WORDS                        both spaces get so many words
 tickets N, OWNER watch ROOT, unwatch T, gone
 stat, dump, trays                   what is there

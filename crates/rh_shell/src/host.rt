@@ -5,7 +5,8 @@ pub trait Host {
     /// A line is waited for: here a prompt may be shown.
     fn prompt(&mut self);
 
-    /// The input ended where a line was waited for: here the line of the prompt may be ended.
+    /// The input ended; an unended line was answered before. Here the line of the prompt may be
+    /// ended.
     fn end(&mut self);
 
     /// Puts a picture, a text in SVG, into the file of this name, in place of what it had. Answers

@@ -1,12 +1,13 @@
 //! The lines that tell a fault.
 
-ghost use Rattle.std.specs.Prelude.{◌≡◌, ◌≤◌, length};
+ghost use Rattle.std.specs.Prelude.{◌≡◌, ◌≤◌, ◌==◌, false, IsTrue, length};
+ghost use Rattle.std.specs.List.{list_any};
 ghost use Rattle.rh_shell.specs.Session.{kind_name, size_fault_name, IsFaultLine};
 
 use rh_core::ConfigFault;
 use rh_explain::fault_part;
 use rh_explained::{Told, config_spot};
-use rh_text::LineText;
+use rh_text::{LineText, is_text};
 use rh_trace::Kind;
 use std::alloc::Allocator;
 
@@ -48,6 +49,38 @@ fn size_fault_name(fault: ConfigFault) -> &'static [u8]
     }
 }
 
+/// Whether a text can stand as a sentence in a line: it has some bytes, not too many, and no line
+/// feed.
+fn is_sentence(text: &[u8]) -> bool
+    ensures few { IsTrue result → length text.now ≤ 200 }
+    ensures within { IsTrue result → list_any (λ b. b == 10) text.now ≡ false }
+{
+    if text.is_empty() {
+        return false;
+    }
+    if text.len() > MOST_SENTENCE {
+        return false;
+    }
+    !text.contains(&b'\n')
+}
+
+/// What is told of a line of an unknown word that begins as one of a session's own; else nothing.
+fn own_sentence(kind: Kind, line: &[u8]) -> &'static [u8] {
+    if kind != Kind::Word {
+        return b"";
+    }
+    if is_text(line, b"draw") {
+        return b"draw FILE";
+    }
+    if line.starts_with(b"help ") {
+        return b"help stands alone";
+    }
+    if line.starts_with(b"cycles ") {
+        return b"cycles stands alone";
+    }
+    b""
+}
+
 /// The text becomes the line of a fault: its name, and a sentence if there is one.
 pub(crate) fn put_fault(text: &mut LineText, name: &[u8], sentence: &[u8])
     requires { length name.now ≤ 10 }
@@ -56,12 +89,12 @@ pub(crate) fn put_fault(text: &mut LineText, name: &[u8], sentence: &[u8])
     text.clear();
     text.put(b"fault: ");
     text.put(name);
-    if !sentence.is_empty() {
-        if sentence.len() <= MOST_SENTENCE {
-            text.put(b": ");
-            text.put(sentence);
-        }
+    if !is_sentence(sentence) {
+        text.put(b"\n");
+        return;
     }
+    text.put(b": ");
+    text.put(sentence);
     text.put(b"\n");
 }
 
@@ -88,6 +121,11 @@ pub(crate) fn put_line_fault<A: Allocator + Copy>(
 )
     ensures { IsFaultLine (kind_name kind) text.new }
 {
+    let own = own_sentence(kind, line);
+    if !own.is_empty() {
+        put_fault(text, kind_name(kind), own);
+        return;
+    }
     match fault_part(number, line, ended) {
         Some(part) => put_told(alloc, text, kind_name(kind), Told::Line(part.why)),
         None => put_fault(text, kind_name(kind), b""),

@@ -86,12 +86,15 @@ total commands 2 refused 0 flips 0 rootwords 0
 ";
 
 /// Files of pictures, and a word that is nearly a command.
-const FILES: &[u8] = b"heap 32 8 8 1 2\ndraw heap.svg\ndraw \ndraw \xff\n1 allok 0.0 1\n";
+const FILES: &[u8] =
+    b"heap 32 8 8 1 2\ndraw heap.svg\ndraw \ndraw \xff\ndraw\nhelp me\n1 allok 0.0 1\n";
 
 const FILES_ANSWERS: &[u8] = b"\
 drawn
 fault: Form: a space at the end: a line ends with its last part
 fault: Form: the file's name is no text
+fault: Word: draw FILE
+fault: Word: help stands alone
 fault: Word: no such command; did you mean alloc?
 total commands 0 refused 0 flips 0 rootwords 0
 ";
