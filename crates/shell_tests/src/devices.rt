@@ -45,11 +45,12 @@ impl Host for Counts {
     }
 }
 
-/// A reader that gives one byte a time, and is interrupted before each.
+/// A reader that gives one byte a time, and is interrupted before each. At the end it may break.
 #[derive(Drop)]
 pub struct SlowReader<'a> {
     rest: &'a [u8],
     interrupts: bool,
+    breaks: bool,
 }
 
 impl<'a> SlowReader<'a> {
@@ -58,6 +59,16 @@ impl<'a> SlowReader<'a> {
         SlowReader {
             rest,
             interrupts: false,
+            breaks: false,
+        }
+    }
+
+    /// A reader of these bytes, that fails in place of their end.
+    pub fn breaking(rest: &'a [u8]) -> SlowReader<'a> {
+        SlowReader {
+            rest,
+            interrupts: false,
+            breaks: true,
         }
     }
 }
@@ -74,6 +85,7 @@ impl io::Read for SlowReader<'_> {
                 self.rest = rest;
                 Ok(1)
             }
+            _ if self.breaks => Err(io::Error::from(ErrorKind::BrokenPipe)),
             _ => Ok(0),
         }
     }

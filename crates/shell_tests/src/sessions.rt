@@ -2,7 +2,8 @@
 
 use crate::devices::{Counts, Full, SlowReader};
 use refusing::{RefusingAllocator, refused_in_turn};
-use rh_shell::{ShellFault, run_shell};
+use rh_shell::{OutputLog, ShellFault, run_shell, run_shell_logged};
+use rh_text::IoLog;
 use rh_trace::run_trace;
 use std::process::Abort;
 
@@ -87,7 +88,7 @@ total commands 2 refused 0 flips 0 rootwords 0
 
 /// Files of pictures, and a word that is nearly a command.
 const FILES: &[u8] =
-    b"heap 32 8 8 1 2\ndraw heap.svg\ndraw \ndraw \xff\ndraw\nhelp me\n1 allok 0.0 1\n";
+    b"heap 32 8 8 1 2\ndraw heap.svg\ndraw \ndraw \xff\ndraw\nhelp me\ncycles 2\n1 allok 0.0 1\n";
 
 const FILES_ANSWERS: &[u8] = b"\
 drawn
@@ -95,6 +96,7 @@ fault: Form: a space at the end: a line ends with its last part
 fault: Form: the file's name is no text
 fault: Word: draw FILE
 fault: Word: help stands alone
+fault: Word: cycles stands alone
 fault: Word: no such command; did you mean alloc?
 total commands 0 refused 0 flips 0 rootwords 0
 ";
@@ -155,6 +157,26 @@ fn a_host_is_told_what_comes(rt: HostRuntime) {
         let is_told = writer.text.as_slice() == OWN_ANSWERS;
         assert!(rt; is_told == takes);
     }
+}
+
+#[test]
+fn a_failed_read_leaves_ended_lines_answered(rt: HostRuntime) {
+    let mut reader = SlowReader::breaking(b"heap 32 8 8 1 2\n0 alloc 0.0 1\n0 drop 0.0\nsta");
+    let mut reads = IoLog::new();
+    let mut writer = Full::new(&rt, 0);
+    let mut log = OutputLog::new();
+    let outcome = run_shell_logged(
+        rt.alloc(),
+        &mut reader,
+        &mut reads,
+        &mut writer,
+        &mut log,
+        &mut Counts::new(true),
+    );
+    assert!(rt; outcome == Err(ShellFault::Read));
+    expect_text(&rt, &writer.text, b"object 1\ndone\n");
+    assert!(rt; reads.has_failed());
+    assert!(rt; !log.has_flush_failed());
 }
 
 #[test]
