@@ -1,12 +1,15 @@
 -- How a check of which the report is told in another way ends.
-use Rattle.std.proofs.Common.{ℕ, ◌<◌, List, ◌++◌, length, Option, Err, Result, Ok, refl, arith}
+use Rattle.std.proofs.Common.{◌≡◌, ℕ, ◌<◌, List, ◌++◌, length, Option, Err, Result, Ok, refl, subst, arith}
 use Rattle.std.proofs.lemmas.List.{length-append}
-use Rattle.std.specs.Io.KnownBytes.{Keeps}
+use Rattle.std.specs.Io.KnownBytes.{Appends, Keeps}
+use Rattle.rh_text.specs.Output.{AppendsLess}
 use Rattle.rh_text.specs.lemmas.Appends.{Keeps-same}
 use Rattle.rh_replay.specs.declared.checking.Verdict.{Verdict}
+use Rattle.rh_replay.specs.History.{HistoryState}
 use Rattle.rh_viewed_trace.specs.declared.telling.Telling.{Telling}
 use Rattle.rh_cli.specs.declared.fault.LineFault.{LineFault}
 use Rattle.rh_cli.specs.declared.fault.LineFault.TheVariants as faults
+use Rattle.rh_cli.specs.Replay.{IsJudged}
 use Rattle.rh_cli.specs.Views.{ConcludesReport, ReportEnds, told_report}
 use Rattle.rh_cli.proofs.Flushed.{Appends-kept, AppendsLess-kept, Keeps-kept}
 
@@ -21,6 +24,15 @@ unreported telling input a = (Err faults.OutOfMemory, Keeps-same a, refl)
 -- there were too many bytes, and whatever follows them
 pub too_long : (telling : Telling) (taken rest : List ℕ) (a : Option (List ℕ)) → 16777216 < length taken → ConcludesReport telling (taken ++ rest) 1 a a
 too_long telling taken rest a many = (Err faults.TooLong, (omega (arith, many, length-append taken rest), Keeps-same a), refl)
+
+-- the report was sent, or some of it
+pub sent_report : (telling : Telling) (input text : List ℕ) (h : HistoryState) (verdict : Verdict) (old new : Option (List ℕ)) → IsJudged input h verdict → text ≡ told_report telling h verdict → Appends old new text
+    → ReportEnds telling input (Ok verdict) old new
+sent_report telling input text h verdict old new judged is a = (h, judged, subst (Appends old new) is a)
+
+pub cut_report : (telling : Telling) (input text : List ℕ) (h : HistoryState) (verdict : Verdict) (old new : Option (List ℕ)) → IsJudged input h verdict → text ≡ told_report telling h verdict → AppendsLess old new text
+    → ReportEnds telling input (Err faults.Write) old new
+cut_report telling input text h verdict old new judged is a = (h, verdict, judged, subst (AppendsLess old new) is a)
 
 -- a check that ended in some way has ended so after a flush too
 pub ReportEnds-flushed : (telling : Telling) (input : List ℕ) (r : Result Verdict LineFault) (old mid new : Option (List ℕ)) → ReportEnds telling input r old mid → Keeps mid new → ReportEnds telling input r old new
