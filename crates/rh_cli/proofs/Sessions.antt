@@ -9,7 +9,7 @@ use Rattle.rh_trace.specs.declared.summary.Summary.{Summary}
 use Rattle.rh_shell.specs.declared.fault.ShellFault.{ShellFault}
 use Rattle.rh_shell.specs.declared.fault.ShellFault.TheVariants as shell_faults
 use Rattle.rh_shell.specs.Session.{IsSession}
-use Rattle.rh_shell.specs.Typing.{AnswersFirst, Ends, StopsWithin}
+use Rattle.rh_shell.specs.Typing.{Ends, StopsWithin}
 use Rattle.rh_shell.proofs.Shown.{prefix_after, prefix_more, prefix_of_all}
 use Rattle.rh_cli.specs.Session.{ConcludesSession, IsSessionStatus}
 use Rattle.rh_cli.proofs.Inputs.{begun_input, whole_input}

@@ -1,5 +1,5 @@
 -- How a subcommand without views of its own is viewed.
-use Rattle.std.proofs.Common.{◌≡◌, ◌≢◌, ℕ, List, Option, refl}
+use Rattle.std.proofs.Common.{◌≢◌, ℕ, List, Option, refl}
 use Rattle.rh_text.specs.lemmas.Appends.{Keeps-same}
 use Rattle.rh_viewed_trace.specs.Run.{Written}
 use Rattle.rh_viewed_trace.specs.declared.telling.Telling.{Telling}

@@ -1,5 +1,5 @@
 -- What flushes leave of how a viewed run ended.
-use Rattle.std.proofs.Common.{ℕ, List, Option, Some, None, Result, Ok, Err, ◌⊎◌, inl, inr, IfSome}
+use Rattle.std.proofs.Common.{ℕ, List, Option, Result, Ok, Err, inl, inr}
 use Rattle.std.specs.Io.KnownBytes.{Keeps}
 use Rattle.rh_text.specs.Output.{AppendsPrefix}
 use Rattle.rh_syntax.specs.Spelling.{Script}

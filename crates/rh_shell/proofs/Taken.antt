@@ -3,7 +3,6 @@ use Rattle.std.proofs.Common.{◌≡◌, ℕ, ◌+◌, ◌<◌, Bool, true, fals
 use Rattle.std.specs.Io.KnownBytes.{Appends, Consumes, IsAtEnd}
 use Rattle.std.proofs.lemmas.List.{append-nil, take-append-drop, take_more}
 use Rattle.std.proofs.lemmas.Bool.{eqb-true}
-use Rattle.rh_text.specs.Output.{AppendsPrefix}
 use Rattle.rh_text.specs.lemmas.Appends.{Appends-then, Appends-none, Appends-at}
 use Rattle.rh_text.specs.RawLine.{lines_of}
 use Rattle.rh_trace.specs.Answers.{total_line}

@@ -2,7 +2,7 @@ use Rattle.std.proofs.Common.{◌≡◌, ◌∙◌, ap, sym, option_map, Err, Bo
 use Rattle.std.proofs.lemmas.Result.{err_from_is_err_and}
 use Rattle.clap.specs.Words.{Text}
 use Rattle.rh_viewed_trace.specs.declared.telling.Telling.{Telling}
-use Rattle.rh_cli.specs.Ask.{with_file, telling_of, Options, Viewed}
+use Rattle.rh_cli.specs.Ask.{with_file, telling_of, Options}
 use Rattle.rh_cli.proofs.ClapMatches.{command_and_file_in-matches, AreMatched, explains_in-matches, viewed_in-matches}
 use Rattle.rh_cli.proofs.arguments.ask_of.Goals as goal
 

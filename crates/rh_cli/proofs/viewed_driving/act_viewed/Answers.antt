@@ -1,4 +1,3 @@
-use Rattle.std.proofs.Common.{ℕ, List}
 use Rattle.rh_cli.specs.Fault.{status_after}
 use Rattle.rh_cli.proofs.Counted.{known_so}
 use Rattle.rh_cli.proofs.Viewed.{others_kept, unviewed}

@@ -1,4 +1,3 @@
-use Rattle.std.proofs.Common.{ℕ, List, Option}
 use Rattle.rh_viewed_trace.specs.Run.{Written}
 use Rattle.rh_cli.proofs.Counted.{known_so}
 use Rattle.rh_cli.proofs.ViewsFlushed.{AreKept, view_paced_concludes}
