@@ -1,5 +1,5 @@
 //! Runs of traces, seen in other ways: each line with its answer, as objects of JSON, as the
-//! history of the run's commands, and a line for each cycle as it ends. And reports on histories
+//! history of the run's commands, and a line for each cycle that ended. And reports on histories
 //! and dumps as JSON.
 #![tactic(auto)]
 

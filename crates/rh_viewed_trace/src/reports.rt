@@ -50,7 +50,7 @@ fn put_json_byte<A: Allocator>(text: &mut Vec<u8, A>, byte: u8) -> Result<(), Ou
 ///
 /// # Errors
 ///
-/// `OutOfMemory` where memory for it was refused.
+/// `OutOfMemory` where memory for it was refused. Nothing is promised of the text then.
 pub fn put_json_string<A: Allocator>(text: &mut Vec<u8, A>, string: &str) -> Result<(), OutOfMemory>
     ensures { OnOk result (text.new.items ≡ text.old.items ++ json_string string.now) }
 {

@@ -96,9 +96,9 @@ fn run_input<A: Allocator + Copy, W: io::Write, H: io::Write, C: io::Write>(
 }
 
 /// Reads a trace whole, runs its lines in order on a new heap and on trays, and tells each line,
-/// and at the end what the run adds up to, to `out`. Nothing is written before the whole trace was
-/// read and its heap made. What is told of a line is put together in memory, a dump too. A trace
-/// has at most 16,777,216 bytes, and must end within 33,554,432 reads.
+/// and at the end what the run adds up to, to `out`. Nothing is written where a read failed or the
+/// input has a fault. What is told of a line is put together in memory, a dump too. A trace has at
+/// most 16,777,216 bytes, and must end within 33,554,432 reads.
 ///
 /// - To `cycles` it writes the names of the columns, and a line for each cycle, in order.
 /// - To `history` it writes the history of the commands that no limit refused.
