@@ -2,6 +2,7 @@ pub mod LegalHistory
 pub mod InTurn
 pub mod EngineRuns
 pub mod Pieces
+pub mod Inputs
 pub mod ScriptRuns
 pub mod PlainRuns
 pub mod CommandRuns

@@ -1,5 +1,5 @@
 -- How a run of a trace ends, where its engine and its recorder begin as the trace says.
-use Rattle.std.proofs.Common.{◌≡◌, ◌⊎◌, ℕ, List, [], ◌++◌, Option, Some, None, Ok, Err, inl, inr, refl, sym, ap, subst, ◌∙◌}
+use Rattle.std.proofs.Common.{◌≡◌, ◌⊎◌, ℕ, List, [], Option, Some, None, Ok, Err, inl, inr, refl, sym, ap, subst, ◌∙◌}
 use Rattle.std.specs.Prelude.{IfSome}
 use Rattle.std.specs.Io.KnownBytes.{Appends, Keeps}
 use Rattle.std.proofs.lemmas.List.{append-nil}
@@ -9,7 +9,11 @@ use Rattle.rh_core.specs.Stat.{stat_of}
 use Rattle.rh_cycles.specs.declared.cycle.Cycle.{Cycle}
 use Rattle.rh_cycles.specs.Cycles.{ReaderState, cycles_of, new_reader}
 use Rattle.rh_engine.specs.Engine.{EngineState}
+use Rattle.rh_syntax.specs.declared.fault.ParseError.{ParseError}
+use Rattle.rh_syntax.specs.declared.fault.ParseError.TheVariants as errors
+use Rattle.rh_syntax.specs.declared.fault.TraceFault.{TraceFault}
 use Rattle.rh_syntax.specs.declared.request.Request.{Request}
+use Rattle.rh_syntax.specs.Reading.{Fails, trace_of}
 use Rattle.rh_syntax.specs.Spelling.{Script}
 use Rattle.rh_replay.specs.History.{HistoryState, empty_history}
 use Rattle.rh_replay.specs.Spelling.{spelling}
@@ -40,6 +44,10 @@ unwritten a b c = record { old = a; new = a; history_old = b; history_new = b; c
 
 pub keeps_all : (a b c : Option (List ℕ)) → KeepsAll (unwritten a b c)
 keeps_all a b c = (Keeps-same a, Keeps-same b, Keeps-same c)
+
+-- the fault with which a text isn't parsed
+pub fault_read : (input : List ℕ) (error : ParseError) (fault : TraceFault) → Fails error (trace_of input) → error ≡ errors.Fault fault → trace_of input ≡ Err fault
+fault_read input error fault fails is = subst (λ (e : ParseError). Fails e (trace_of input)) is fails
 
 -- where memory was refused before the first line, nothing was written
 pub refused_first : (telling : Telling) (input : List ℕ) (a b c : Option (List ℕ)) → Ends telling input (Err faults.OutOfMemory) (unwritten a b c)

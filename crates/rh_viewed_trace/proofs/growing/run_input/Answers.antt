@@ -1,4 +1,4 @@
-use Rattle.std.proofs.Common.{◌≡◌, List, [], None, Err, length, ap, subst, sym, ◌∙◌, arith}
+use Rattle.std.proofs.Common.{◌≡◌, List, None, Err, inl, length, ap, subst, sym, ◌∙◌, arith}
 use Rattle.rh_mutator.specs.Config.{fault_of}
 use Rattle.rh_syntax.specs.declared.line.Header.{Header}
 use Rattle.rh_syntax.specs.declared.request.Request.{Request}
@@ -7,14 +7,35 @@ use Rattle.rh_trace.specs.Run.{config_of}
 use Rattle.rh_growing.specs.Growing.{growing_heap}
 use Rattle.rh_growing.specs.Growth.{IsGrowth, config_at}
 use Rattle.rh_growing.specs.declared.growth.Growth.{Growth}
-use Rattle.rh_paced_trace.specs.Lines.{AreCommands, other_fault}
+use Rattle.rh_paced_trace.specs.Lines.{AreCommands, fault_in, other_fault}
 use Rattle.rh_paced_trace.specs.Growing.{IsGrowingRun, IsGrowthFault, growth_of, new_growing_run}
 use Rattle.rh_paced_trace.specs.Run.{IsCommandTrace}
 use Rattle.rh_paced_trace.proofs.GrownFaults.{sizes-grown, ungrown-unread}
 use Rattle.rh_viewed_trace.specs.Cycles.{first_read}
 use Rattle.rh_viewed_trace.specs.Run.{Written}
+use Rattle.rh_viewed_trace.proofs.ScriptRuns.{fault_read, keeps_all}
 use Rattle.rh_viewed_trace.proofs.WayRuns.{ends_ungrown, growing_cut, growing_done, growing_refused}
 use Rattle.rh_viewed_trace.proofs.growing.run_input.Goals as goal
+
+pub returns-in-Err-Fault-clause-ends : goal.returns-in-Err-Fault-clause-ends
+returns-in-Err-Fault-clause-ends g c = rw c.in-Err-Fault.field-0-is (c.requires.few, ap fault_in (fault_read c.args.input.now c.in-Err-Fault.field-0 c.in-Err-Fault.fault c.in-Err-Fault.ensures.exact c.in-Err-Fault.field-0-is), keeps_all (g.W.Write.contents c.args.out.now) (g.H.Write.contents c.args.history.now) (g.C.Write.contents c.args.cycles.now))
+
+pub returns-in-Err-OutOfMemory-clause-ends : goal.returns-in-Err-OutOfMemory-clause-ends
+returns-in-Err-OutOfMemory-clause-ends g c = inl (keeps_all (g.W.Write.contents c.args.out.now) (g.H.Write.contents c.args.history.now) (g.C.Write.contents c.args.cycles.now))
+
+pub returns-in-Some-clause-ends : goal.returns-in-Some-clause-ends
+returns-in-Some-clause-ends g c =
+    (c.requires.few, ap fault_in c.in-Ok.ensures.exact ∙ sym (ap (other_fault 2) c.requests.ensures) ∙ sym c.other_fault.ensures ∙ c.in-Some.is, keeps_all (g.W.Write.contents c.args.out.now) (g.H.Write.contents c.args.history.now) (g.C.Write.contents c.args.cycles.now))
+
+pub returns-in-Some-fault-clause-ends : goal.returns-in-Some-fault-clause-ends
+returns-in-Some-fault-clause-ends g c =
+    let script = c.in-Ok.trace in
+    let none : other_fault 2 script.requests ≡ None = sym (ap (other_fault 2) c.requests.ensures) ∙ sym c.other_fault.ensures ∙ c.in_default.is in
+    let whole : IsCommandTrace c.args.input.now script = record { few = c.requires.few; read = c.in-Ok.ensures.exact; commands = none } in
+    (script, whole, sym (ap fault_of (c.config_of.ensures ∙ ap config_of c.header.ensures)) ∙ sym c.fault.ensures ∙ c.in-Some-fault.is, keeps_all (g.W.Write.contents c.args.out.now) (g.H.Write.contents c.args.history.now) (g.C.Write.contents c.args.cycles.now))
+
+pub returns-in-Err-recorder_for-clause-ends : goal.returns-in-Err-recorder_for-clause-ends
+returns-in-Err-recorder_for-clause-ends g c = inl (keeps_all (g.W.Write.contents c.args.out.now) (g.H.Write.contents c.args.history.now) (g.C.Write.contents c.args.cycles.now))
 
 pub new_heap-requires-clause-sizes : goal.new_heap-requires-clause-sizes
 new_heap-requires-clause-sizes g c =

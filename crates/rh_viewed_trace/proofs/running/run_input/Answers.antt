@@ -8,7 +8,7 @@ use Rattle.rh_syntax.specs.declared.line.Header.{Header}
 use Rattle.rh_replay.specs.History.{HistoryState, empty_history}
 use Rattle.rh_trace.specs.Run.{config_of, new_run}
 use Rattle.rh_viewed_trace.specs.Run.{IsRun, Written}
-use Rattle.rh_viewed_trace.proofs.ScriptRuns.{keeps_all, refused_first, run_cut, run_done, run_refused}
+use Rattle.rh_viewed_trace.proofs.ScriptRuns.{fault_read, keeps_all, refused_first, run_cut, run_done, run_refused}
 use Rattle.rh_viewed_trace.proofs.running.run_input.Goals as goal
 
 -- the engine that a run starts with
@@ -29,6 +29,16 @@ run_lines-requires-clause-room g c =
     let none = ap (λ (h : HistoryState). length h.calls) c.in-Ok-recorder_for.ensures.history in
     let lines = ap length c.requests.ensures in
     omega (arith, none, lines, c.len.ensures.value, c.in-Ok-recorder_for.ensures.room)
+
+pub returns-in-Err-Fault-clause-ends : goal.returns-in-Err-Fault-clause-ends
+returns-in-Err-Fault-clause-ends g c =
+    rw c.in-Err-Fault.field-0-is (c.requires.few, fault_read c.args.input.now c.in-Err-Fault.field-0 c.in-Err-Fault.fault c.in-Err-Fault.ensures.exact c.in-Err-Fault.field-0-is, keeps_all (g.W.Write.contents c.args.out.now) (g.H.Write.contents c.args.history.now) (g.C.Write.contents c.args.cycles.now))
+
+pub returns-in-Some-clause-ends : goal.returns-in-Some-clause-ends
+returns-in-Some-clause-ends g c =
+    let script = c.in-Ok.trace in
+    let config_is : c.config_of-config.result ≡ config_of script.header = c.config_of-config.ensures ∙ ap config_of c.header.ensures in
+    (script, (c.requires.few, c.in-Ok.ensures.exact), sym (ap fault_of config_is) ∙ sym c.fault.ensures ∙ c.in-Some.is, keeps_all (g.W.Write.contents c.args.out.now) (g.H.Write.contents c.args.history.now) (g.C.Write.contents c.args.cycles.now))
 
 pub returns-in-Err-Config-clause-ends : goal.returns-in-Err-Config-clause-ends
 returns-in-Err-Config-clause-ends g c =
