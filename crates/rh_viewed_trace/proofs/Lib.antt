@@ -11,3 +11,4 @@ pub mod LegalReplies
 pub mod WayPlain
 pub mod AsAnswers
 pub mod KeptLines
+pub mod Unescaped

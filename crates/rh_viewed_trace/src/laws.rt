@@ -6,7 +6,8 @@ ghost use Rattle.rh_replay.specs.Legal.{IsLegal};
 ghost use Rattle.rh_syntax.specs.declared.request.Request.{Request as RequestOf};
 ghost use Rattle.rh_trace.specs.Answers.{Answered};
 ghost use Rattle.rh_pace.specs.declared.pace.Pace.{Pace};
-ghost use Rattle.rh_syntax.specs.Spelling.{Script};
+ghost use Rattle.rh_syntax.specs.Spelling.{RequestFits, Script};
+ghost use Rattle.rh_syntax.specs.TrayName.{IsTrayName};
 ghost use Rattle.rh_trace.specs.Run.{AreTransparent, answers_of, output_of};
 ghost use Rattle.rh_core.specs.runs.Programs.{CommandAnswers};
 ghost use Rattle.rh_paced_trace.specs.Lines.{commands_in, other_fault};
@@ -15,7 +16,9 @@ ghost use Rattle.rh_paced_trace.specs.Run.{AreTransparent as AreRepliesTranspare
 ghost use Rattle.rh_viewed_trace.specs.Run.{told_of, view_of_run};
 ghost use Rattle.rh_viewed_trace.specs.Ways.{answered_by, growing_answered, paced_answered};
 ghost use Rattle.rh_viewed_trace.specs.History.{calls_of, history_of};
+ghost use Rattle.rh_viewed_trace.specs.Json.{json_string};
 ghost use Rattle.rh_viewed_trace.specs.Kept.{is_kept, line_of_call};
+ghost use Rattle.rh_viewed_trace.specs.Lines.{request_text};
 ghost use Rattle.rh_viewed_trace.specs.Views.{numbered};
 
 use crate::telling::Telling;
@@ -58,4 +61,12 @@ pub fn as_answers_a_run_is_told_as_it_is_written()
         → (given : ℕ → Bool)
         → told_of Telling.Answers script.requests (growing_answered script at_most given)
         (growing_sum_of script at_most given) ≡ growing_text_of script at_most given }
+{}
+
+/// The text of a line of a trace and the name of a tray stand within quotes as they are: no byte of
+/// them needs an escape.
+pub fn lines_and_names_need_no_escape()
+    ensures line { (request : RequestOf) → RequestFits request
+        → json_string (request_text request) ≡ request_text request }
+    ensures name { (name : List ℕ) → IsTrayName name → json_string name ≡ name }
 {}
