@@ -1,5 +1,5 @@
 -- Told as answers, lines have the text of a run that isn't viewed.
-use Rattle.std.proofs.Common.{◌≡◌, ℕ, suc, ◌+◌, Bool, List, [], ◌∷◌, ◌++◌, length, None, Result, refl, ap, ◌∙◌, arith}
+use Rattle.std.proofs.Common.{◌≡◌, ℕ, suc, ◌+◌, Bool, List, [], ◌∷◌, ◌++◌, length, None, Result, refl, ap, arith}
 use Rattle.std.specs.List.{flat_map}
 use Rattle.rh_layout.specs.declared.command.Command.{Command}
 use Rattle.rh_layout.specs.declared.command.Reply.{Reply}
@@ -9,12 +9,12 @@ use Rattle.rh_pace.specs.InTime.{paced_replies}
 use Rattle.rh_pace.specs.Paced.{PacedState, paced_step}
 use Rattle.rh_pace.specs.declared.pace.Pace.{Pace}
 use Rattle.rh_engine.specs.Engine.{EngineState}
-use Rattle.rh_growing.specs.Growing.{GrowingState, growing_step}
+use Rattle.rh_growing.specs.Growing.{growing_step}
 use Rattle.rh_syntax.specs.declared.request.Request.{Request}
 use Rattle.rh_syntax.specs.declared.request.Request.TheVariants as requests
 use Rattle.rh_syntax.specs.Spelling.{Script}
 use Rattle.rh_trace.specs.declared.summary.Summary.{Summary}
-use Rattle.rh_trace.specs.Answers.{Answered, answer_line, answered_text, total_line}
+use Rattle.rh_trace.specs.Answers.{answer_line, answered_text, total_line}
 use Rattle.rh_trace.specs.Run.{answers_of, answers_to, new_run, output_of, request_step, summary_of}
 use Rattle.rh_paced_trace.specs.Growing.{growing_answers_of, growing_sum_of, growing_text_of, new_growing_run}
 use Rattle.rh_paced_trace.specs.Lines.{Commands, commands_in, other_fault}

@@ -1,5 +1,5 @@
 -- Lines played on the engine of traces: the answers are those of the requests, in order, and the cycles those of what was read.
-use Rattle.std.proofs.Common.{◌≡◌, ℕ, zero, suc, ◌+◌, ◌<◌, List, [], ◌∷◌, ◌++◌, length, take, Option, refl, sym, ap, subst, ◌∙◌, append_assoc, arith}
+use Rattle.std.proofs.Common.{◌≡◌, ℕ, zero, suc, ◌+◌, ◌<◌, List, [], ◌∷◌, ◌++◌, length, take, Option, refl, ap, ◌∙◌, append_assoc, arith}
 use Rattle.std.proofs.lemmas.List.{length-append}
 use Rattle.rh_text.specs.Output.{AppendsLess, AppendsPrefix}
 use Rattle.rh_engine.specs.Engine.{EngineState}

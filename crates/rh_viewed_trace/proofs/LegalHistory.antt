@@ -12,7 +12,6 @@ use Rattle.rh_replay.specs.declared.call.Call.{Call}
 use Rattle.rh_replay.specs.History.{HistoryState}
 use Rattle.rh_replay.specs.Legal.{IsLegal, replay}
 use Rattle.rh_replay.proofs.Replays.{legal-with_call, replay-with_call}
-use Rattle.rh_trace.specs.Answers as answers
 use Rattle.rh_trace.specs.Answers.{Answered}
 use Rattle.rh_trace.specs.Run.{AreTransparent, IsPlainAnswer, plain_after}
 use Rattle.rh_viewed_trace.specs.History.{call_of, calls_of, kept_unless, with_calls}

@@ -17,7 +17,7 @@ use Rattle.rh_trace.specs.Run.{config_of}
 use Rattle.rh_paced_trace.specs.declared.fault.PacedFault.{PacedFault}
 use Rattle.rh_paced_trace.specs.Growing.{growing_answers_of, growth_of}
 use Rattle.rh_paced_trace.specs.Lines.{commands_in, other_fault}
-use Rattle.rh_paced_trace.specs.Run.{AreSumsOf, AreTransparent, IsCommandTrace, IsPlainRun, new_run}
+use Rattle.rh_paced_trace.specs.Run.{AreSumsOf, AreTransparent, IsCommandTrace, new_run}
 use Rattle.rh_paced_trace.proofs.PlainAnswers.{plain_run_of}
 use Rattle.rh_viewed_trace.specs.declared.telling.Telling.{Telling}
 use Rattle.rh_viewed_trace.specs.History.{history_of}

@@ -1,6 +1,6 @@
 -- What a viewed run of an input gives, and how it ends.
 use Rattle.std.specs.Prelude.{◌≡◌, ◌⊎◌, ℕ, ◌<◌, ◌≤◌, List, ◌++◌, length, Option, Some, None, Result, Ok, Err}
-use Rattle.std.specs.Io.KnownBytes.{Appends, Consumes, Keeps}
+use Rattle.std.specs.Io.KnownBytes.{Appends, Keeps}
 use Rattle.rh_core.specs.Config.{fault_of}
 use Rattle.rh_core.specs.Stat.{stat_of}
 use Rattle.rh_cycles.specs.declared.cycle.Cycle.{Cycle}

@@ -1,4 +1,4 @@
-use Rattle.std.proofs.Common.{◌≡◌, ◌++◌, Bool, ap, sym, ◌∙◌}
+use Rattle.std.proofs.Common.{◌++◌, Bool, ap, sym, ◌∙◌}
 use Rattle.rh_core.specs.declared.stat.Stat.{Stat}
 use Rattle.rh_core.specs.Stat.{stat_of}
 use Rattle.rh_trace.specs.Answers as answers

@@ -1,6 +1,6 @@
-use Rattle.std.proofs.Common.{◌≡◌, ℕ, List, ◌++◌, ap, ◌∙◌}
+use Rattle.std.proofs.Common.{ℕ, List, ◌++◌, ap, ◌∙◌}
 use Rattle.std.specs.Prelude.{codes, decimal}
-use Rattle.rh_viewed_trace.proofs.Pieces.{two, three, four, five}
+use Rattle.rh_viewed_trace.proofs.Pieces.{five}
 use Rattle.rh_viewed_trace.proofs.json.put_json_tray.Goals as goal
 
 pub returns : goal.returns

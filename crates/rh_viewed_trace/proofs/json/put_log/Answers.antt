@@ -1,4 +1,4 @@
-use Rattle.std.proofs.Common.{◌≡◌, ℕ, List, ◌++◌, ap, ◌∙◌}
+use Rattle.std.proofs.Common.{◌++◌}
 use Rattle.std.specs.Prelude.{codes, decimal}
 use Rattle.rh_viewed_trace.proofs.Pieces.{three}
 use Rattle.rh_viewed_trace.proofs.json.put_log.Goals as goal

@@ -1,4 +1,4 @@
-use Rattle.std.proofs.Common.{◌≡◌, ℕ, List, Bool, ◌++◌, ap, sym, ◌∙◌}
+use Rattle.std.proofs.Common.{Bool, ◌++◌, ap, sym, ◌∙◌}
 use Rattle.std.specs.Prelude.{codes, decimal}
 use Rattle.rh_viewed_trace.specs.Views.{json_cycle}
 use Rattle.rh_viewed_trace.proofs.Pieces.{three}

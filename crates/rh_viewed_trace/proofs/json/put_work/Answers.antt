@@ -1,4 +1,4 @@
-use Rattle.std.proofs.Common.{◌≡◌, ℕ, List, ◌++◌, ap, ◌∙◌}
+use Rattle.std.proofs.Common.{◌++◌}
 use Rattle.std.specs.Prelude.{codes, decimal}
 use Rattle.rh_viewed_trace.proofs.Pieces.{five}
 use Rattle.rh_viewed_trace.proofs.json.put_work.Goals as goal

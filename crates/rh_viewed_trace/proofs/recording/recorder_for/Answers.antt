@@ -1,4 +1,4 @@
-use Rattle.std.proofs.Common.{◌≡◌, ◌⊎◌, ℕ, ◌<◌, inl, inr, Err, ap, ◌∙◌, arith}
+use Rattle.std.proofs.Common.{◌≡◌, ◌⊎◌, ◌<◌, inl, inr, Err, ap, ◌∙◌, arith}
 use Rattle.rh_mutator.specs.declared.config.ConfigFault.TheVariants.{BadRoots}
 use Rattle.rh_mutator.specs.Config.{FaultHolds}
 use Rattle.rh_mutator.specs.lemmas.FirstFault.{fault_of-none}

@@ -1,7 +1,7 @@
-use Rattle.std.proofs.Common.{◌≡◌, ℕ, List, ◌++◌, ap, ◌∙◌}
+use Rattle.std.proofs.Common.{ℕ, List, ◌++◌, ap, ◌∙◌}
 use Rattle.std.specs.Prelude.{codes, decimal}
 use Rattle.rh_syntax.specs.CommandAnswers.{answer_text}
-use Rattle.rh_viewed_trace.proofs.Pieces.{two, three, four, five}
+use Rattle.rh_viewed_trace.proofs.Pieces.{four}
 use Rattle.rh_viewed_trace.proofs.reports.put_wrong.Goals as goal
 
 pub returns : goal.returns

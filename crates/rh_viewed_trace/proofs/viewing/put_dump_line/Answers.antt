@@ -1,6 +1,6 @@
-use Rattle.std.proofs.Common.{◌≡◌, ℕ, List, ◌++◌, ap, ◌∙◌}
+use Rattle.std.proofs.Common.{◌++◌}
 use Rattle.std.specs.Prelude.{codes, decimal}
-use Rattle.rh_viewed_trace.proofs.Pieces.{two, three, four, five}
+use Rattle.rh_viewed_trace.proofs.Pieces.{four}
 use Rattle.rh_viewed_trace.proofs.viewing.put_dump_line.Goals as goal
 
 pub returns : goal.returns

@@ -1,8 +1,8 @@
-use Rattle.std.proofs.Common.{◌≡◌, ℕ, List, ◌++◌, ap, ◌∙◌}
+use Rattle.std.proofs.Common.{ℕ, List, ◌++◌, ap, ◌∙◌}
 use Rattle.std.specs.Prelude.{codes, decimal}
 use Rattle.rh_viewed_trace.specs.Lines.{request_text}
 use Rattle.rh_viewed_trace.specs.Views.{listing_start, sort_of}
-use Rattle.rh_viewed_trace.proofs.Pieces.{two, three, four, five}
+use Rattle.rh_viewed_trace.proofs.Pieces.{five}
 use Rattle.rh_viewed_trace.proofs.viewing.put_echo_start.Goals as goal
 
 pub returns : goal.returns

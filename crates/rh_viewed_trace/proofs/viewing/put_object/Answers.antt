@@ -1,7 +1,5 @@
-use Rattle.std.proofs.Common.{◌≡◌, ℕ, List, ◌++◌, ap, ◌∙◌}
-use Rattle.std.specs.Prelude.{codes, decimal}
 use Rattle.rh_viewed_trace.specs.Views.{json_start}
-use Rattle.rh_viewed_trace.proofs.Pieces.{two, three, four, five}
+use Rattle.rh_viewed_trace.proofs.Pieces.{four}
 use Rattle.rh_viewed_trace.proofs.viewing.put_object.Goals as goal
 
 pub returns : goal.returns
