@@ -1,5 +1,5 @@
 -- Requests run one after the other, and what a run gives.
-use Rattle.std.proofs.Common.{◌≡◌, ℕ, ◌+◌, ◌<◌, ◌≤◌, suc, Bool, true, false, cond, List, [], ◌∷◌, ◌++◌, length, get_or, take, drop, Option, Some, None, Result, Ok, Err, refl, sym, ap, subst, ◌∙◌, arith}
+use Rattle.std.proofs.Common.{◌≡◌, ℕ, ◌+◌, ◌<◌, ◌≤◌, suc, Bool, true, false, cond, List, [], ◌∷◌, ◌++◌, length, get_or, take, drop, Option, Some, None, Result, Ok, Err, refl, sym, ap, ◌∙◌, arith}
 use Rattle.std.specs.Prelude.{count_by, IfSome, nat_lt, if◌then◌else◌}
 use Rattle.std.specs.List.{flat_map}
 use Rattle.std.proofs.lemmas.List.{drop_more, take_more}
@@ -7,7 +7,7 @@ use Rattle.std.proofs.lemmas.List.Sums.{count_by_more_yes, count_by_more_no}
 use Rattle.rh_mutator.specs.declared.config.ConfigFault.{ConfigFault}
 use Rattle.rh_core.specs.declared.errors.HeapError.{HeapError}
 use Rattle.rh_core.specs.Config.{fault_of}
-use Rattle.rh_core.specs.Heap.{HeapState, new_heap, IsWellFormed}
+use Rattle.rh_core.specs.Heap.{HeapState}
 use Rattle.rh_syntax.specs.declared.fault.TraceFault.{TraceFault}
 use Rattle.rh_trace.specs.declared.run_fault.RunFault.TheVariants as faults
 use Rattle.rh_syntax.specs.declared.request.Request.{Request}
@@ -108,18 +108,3 @@ refused_with made e d p q = cc
 
 pub not_refused : (made : Result HeapState HeapError) (h : HeapState) (e : HeapError) → made ≡ Ok h → made ≡ Err e → ⊥
 not_refused made h e p q = absurd cc
-
-same_script : (read : Result Script TraceFault) (a b : Script) → read ≡ Ok a → read ≡ Ok b → a ≡ b
-same_script read a b p q = cc
-
--- the heap of the trace that was read is a heap that was made
-pub is_begun : (read : Result Script TraceFault) (script : Script) (h : HeapState) → read ≡ Ok script → h ≡ new_heap (config_of script.header) → IsWellFormed h
-    → (other : Script) → read ≡ Ok other → fault_of (config_of other.header) ≡ None → IsWellFormed (new_heap (config_of other.header))
-is_begun read script h is made fine other same faultless = subst IsWellFormed (made ∙ ap (λ (s : Script). new_heap (config_of s.header)) (same_script read script other is same)) fine
-
--- and where its sizes have a fault there is none
-pub is_faulty : (read : Result Script TraceFault) (script : Script) (fault : ConfigFault) → read ≡ Ok script → fault_of (config_of script.header) ≡ Some fault
-    → (other : Script) → read ≡ Ok other → fault_of (config_of other.header) ≡ None → ⊥
-is_faulty read script fault is bad other same faultless =
-    let both : Some fault ≡ None = sym bad ∙ ap (λ (s : Script). fault_of (config_of s.header)) (same_script read script other is same) ∙ faultless in
-    absurd cc

@@ -76,8 +76,6 @@ fn run_input<A: Allocator + Copy, W: io::Write>(
         Err(HeapError::Config(fault)) => return Err(RunFault::New(fault)),
         Err(HeapError::OutOfMemory) => return Err(RunFault::OutOfMemory),
     };
-    // Only for the proof: the heap is well formed.
-    let _ = heap.stat();
     let mut engine = Engine::new(alloc, heap);
     match play(alloc, &mut engine, trace.requests(), writer, writes) {
         Ok(summary) => Ok(summary),

@@ -4,13 +4,14 @@ use Rattle.std.specs.Io.KnownBytes.{Appends}
 use Rattle.rh_core.specs.declared.errors.HeapError.TheVariants as errors
 use Rattle.rh_core.specs.Config.{fault_of}
 use Rattle.rh_core.specs.Heap.{HeapState, new_heap}
+use Rattle.rh_core.proofs.runs.NewHeaps.{new-well_formed}
 use Rattle.rh_trace.specs.Answers.{answered_text}
 use Rattle.rh_engine.specs.Engine.{EngineState}
 use Rattle.rh_syntax.specs.Reading.{trace_of}
 use Rattle.rh_trace.specs.Run.{config_of, answers_to, new_run, answers_of, summary_of, output_of, run_of_trace, text_of, StopsBeforeTotal}
 use Rattle.rh_text.specs.Output.{AppendsLess}
 use Rattle.rh_text.specs.lemmas.Appends.{Keeps-same}
-use Rattle.rh_trace.proofs.AnswersInTurn.{run-new, run-made, no_fault, refused_with, not_refused, is_begun, is_faulty, unwritten_trace}
+use Rattle.rh_trace.proofs.AnswersInTurn.{run-new, run-made, no_fault, refused_with, not_refused, unwritten_trace}
 use Rattle.rh_trace.proofs.WrittenInTurn.{stopped}
 use Rattle.rh_trace.proofs.running.run_input.Goals as goal
 
@@ -34,25 +35,16 @@ returns-in-Err-Config-clause-ends g c =
     rw c.in-Err-Config.field-0-is (run-new (trace_of c.args.input.now) script fault c.in-Ok.ensures.exact bad, Keeps-same (g.W.Write.contents c.args.writer.now))
 
 pub returns-in-Err-Config-clause-begun : goal.returns-in-Err-Config-clause-begun
-returns-in-Err-Config-clause-begun g c = inr (λ other same faultless.
-    let script = c.in-Ok.trace in
-    let fault = c.in-Err-Config.fault in
-    let config_is : c.config_of.result ≡ config_of script.header = c.config_of.ensures ∙ ap config_of c.header.ensures in
-    let refused = refused_with c.new.result c.in-Err-Config.field-0 (errors.Config fault) c.in-Err-Config.is c.in-Err-Config.field-0-is in
-    let bad : fault_of (config_of script.header) ≡ Some fault = ap fault_of (sym config_is) ∙ (c.new.ensures.fault fault).0 refused in
-    absurd (is_faulty (trace_of c.args.input.now) script fault c.in-Ok.ensures.exact bad other same faultless))
+returns-in-Err-Config-clause-begun g c = inr (λ other same. new-well_formed (config_of other.header))
 
 pub returns-in-Err-Write-clause-begun : goal.returns-in-Err-Write-clause-begun
-returns-in-Err-Write-clause-begun g c =
-    let script = c.in-Ok.trace in
-    let heap_is = c.in-Ok-new.ensures.made ∙ ap new_heap (c.config_of.ensures ∙ ap config_of c.header.ensures) in
-    inr (is_begun (trace_of c.args.input.now) script c.in-Ok-new.heap c.in-Ok.ensures.exact heap_is c.stat.ensures.heap)
+returns-in-Err-Write-clause-begun g c = inr (λ other same. new-well_formed (config_of other.header))
 
 pub returns-in-Ok-play-clause-begun : goal.returns-in-Ok-play-clause-begun
-returns-in-Ok-play-clause-begun g c =
-    let script = c.in-Ok.trace in
-    let heap_is = c.in-Ok-new.ensures.made ∙ ap new_heap (c.config_of.ensures ∙ ap config_of c.header.ensures) in
-    inr (is_begun (trace_of c.args.input.now) script c.in-Ok-new.heap c.in-Ok.ensures.exact heap_is c.stat.ensures.heap)
+returns-in-Ok-play-clause-begun g c = inr (λ other same. new-well_formed (config_of other.header))
+
+pub returns-clause-begun : goal.returns-clause-begun
+returns-clause-begun g c = inr (λ other same. new-well_formed (config_of other.header))
 
 pub returns-in-Err-Write-clause-failed : goal.returns-in-Err-Write-clause-failed
 returns-in-Err-Write-clause-failed g c = λ failed. c.play.ensures.failed (c.in-Err-Write.is ∙ ap Err c.in-Err-Write.field-0-is)
