@@ -11,7 +11,7 @@ use Rattle.rh_mutator.specs.Commands.{is_limit_answer}
 use Rattle.rh_cycles.specs.declared.cycle.Cycle.{Cycle}
 use Rattle.rh_cycles.specs.declared.cycle.EntryCounts.{EntryCounts}
 use Rattle.rh_cycles.specs.Cycles.{told_cycles}
-use Rattle.rh_cycles.specs.Line.{cycle_line}
+use Rattle.rh_cycles.specs.Line.{cycle_line, cycles_header}
 use Rattle.rh_syntax.specs.declared.request.Request.{Request}
 use Rattle.rh_syntax.specs.declared.request.Request.TheVariants as requests
 use Rattle.rh_replay.specs.declared.call.Call.{Call}
@@ -23,7 +23,7 @@ use Rattle.rh_trace.specs.Run.{summary_of, summary_with}
 use Rattle.rh_trace.proofs.CountsByHead.{count_by-head}
 use Rattle.rh_viewed_trace.specs.declared.telling.Telling.{Telling}
 use Rattle.rh_viewed_trace.specs.History.{call_of, calls_of, kept_unless, with_calls}
-use Rattle.rh_viewed_trace.specs.Cycles.{cycle_lines, cycles_header, cycles_text, entries_of}
+use Rattle.rh_viewed_trace.specs.Cycles.{cycle_lines, cycles_text, entries_of}
 use Rattle.rh_viewed_trace.specs.Runs.{IsStoppedIn, LineSteps, Runs, Seen, answers_in, cycles_in}
 use Rattle.rh_viewed_trace.specs.Views.{Viewed, is_structured, numbered, told_text, view_of, view_text, views_text}
 use Rattle.rh_viewed_trace.proofs.LegalHistory.{no_calls_more}

@@ -1,5 +1,5 @@
 -- The cycles of a run, and their text.
-use Rattle.std.specs.Prelude.{ℕ, suc, ◌+◌, List, [], ◌∷◌, ◌++◌, Result, Ok, codes}
+use Rattle.std.specs.Prelude.{ℕ, suc, ◌+◌, List, [], ◌∷◌, ◌++◌, Result, Ok}
 use Rattle.std.specs.List.{flat_map}
 use Rattle.rh_layout.specs.declared.command.Command.{Command}
 use Rattle.rh_layout.specs.declared.command.Reply.{Reply}
@@ -15,7 +15,7 @@ use Rattle.rh_cycles.specs.declared.cycle.Cycle.{Cycle}
 use Rattle.rh_cycles.specs.declared.cycle.EntryCounts.{EntryCounts}
 use Rattle.rh_cycles.specs.Cycles.{Reading, dealt_counts, given_counts, no_counts, told_cycles}
 use Rattle.rh_cycles.specs.Heaps.{CyclesState, after_step, new_cycles}
-use Rattle.rh_cycles.specs.Line.{cycle_line}
+use Rattle.rh_cycles.specs.Line.{cycle_line, cycles_header}
 use Rattle.rh_paced_trace.specs.Lines.{Commands}
 
 -- the entries of a deal or a give, of what was answered
@@ -49,11 +49,6 @@ module _ {X S : Type 0} (paced : S → PacedState)
       (let done = (step (given 0) s owned.0 owned.1).0 in
       told_cycles (after_step c (paced done)).1
       ++ cycles_by (λ i. given (suc i)) (after_step c (paced done)).0 done others)
-
--- the names of the columns
-abbrev pub cycles_header : List ℕ
-cycles_header =
-    codes "number\tend\tepoch\tbegan\tended\tused\tlive\tfreed\tobjects\tgranted\tidle\tspent\tmost\tlogged\tjoined\trepeated\tstale\tpassed\twords\n"
 
 -- the lines of cycles
 abbrev pub cycle_lines : List Cycle → List ℕ
