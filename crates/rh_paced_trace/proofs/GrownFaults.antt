@@ -1,6 +1,6 @@
 -- Why there is no heap for a growing run.
-use Rattle.std.proofs.Common.{◌≡◌, ℕ, Bool, true, false, List, Option, Some, None, Result, Err, refl, sym, ap, subst, ◌∙◌}
-use Rattle.std.specs.Prelude.{nat_le, nat_lt, ◌&&◌, not, if◌then◌else◌}
+use Rattle.std.proofs.Common.{◌≡◌, ℕ, Bool, true, false, List, Option, Some, None, Result, Ok, Err, refl, sym, ap, subst, ◌∙◌}
+use Rattle.std.specs.Prelude.{◌≢◌, ◌↔◌, nat_le, nat_lt, ◌&&◌, not, if◌then◌else◌}
 use Rattle.std.proofs.lemmas.Bool.{and_from, le-leb}
 use Rattle.std.proofs.lemmas.Option.{none-some}
 use Rattle.rh_layout.specs.Refusing.{first_of}
@@ -11,11 +11,13 @@ use Rattle.rh_pace.specs.declared.errors.PaceError.TheVariants.{RatioTooLow, Too
 use Rattle.rh_text.specs.lemmas.Appends.{Keeps-same}
 use Rattle.rh_syntax.specs.Spelling.{Script}
 use Rattle.rh_trace.specs.Run.{config_of}
+use Rattle.rh_core.specs.declared.errors.HeapError.TheVariants as heap_errors
 use Rattle.rh_growing.specs.declared.errors.GrowingError.{GrowingError}
 use Rattle.rh_growing.specs.declared.errors.GrowingError.TheVariants as errors
 use Rattle.rh_growing.specs.declared.growth.Growth.{Growth}
-use Rattle.rh_growing.specs.Growth.{config_at, fault_by_config, fault_of_growth, least_words, limits_fault, pace_at, pace_fault}
+use Rattle.rh_growing.specs.Growth.{IsGrowth, config_at, fault_by_config, fault_of_growth, least_words, limits_fault, pace_at, pace_fault}
 use Rattle.rh_growing.proofs.Grown.{log_limit-within}
+use Rattle.rh_growing.proofs.Made.{faultless-growth}
 use Rattle.rh_paced_trace.specs.declared.fault.PacedFault.{PacedFault}
 use Rattle.rh_paced_trace.specs.declared.fault.PacedFault.TheVariants as faults
 use Rattle.rh_paced_trace.specs.Growing.{EndsGrowing, IsGrowthFault, growth_of}
@@ -72,6 +74,21 @@ of-growth g usual sizes why has =
     let need : ℕ = least_words 0 g.biggest g.ratio in
     of-growth_by (not (nat_le g.at_least g.at_most && nat_le g.at_most 16777216)) (nat_lt g.ratio 4) (nat_lt g.at_least need) need (fault_of (config_at g g.at_least)) sizes why
     (sym (ap (λ (n : ℕ). first_of (limits_fault (record g { factor = n })) (pace_fault g)) usual) ∙ has)
+
+of-heap : (why : GrowingError) → IsOfGrowth why → why ≢ errors.Heap heap_errors.OutOfMemory
+of-heap why of memory = subst IsOfGrowth memory of
+
+faultless_by : (o : Option GrowingError) → ((why : GrowingError) → o ≡ Some why → ⊥) → o ≡ None
+faultless_by None never = refl
+faultless_by (Some why) never = absurd (never why refl)
+
+-- So a heap that was made grows so: its growth has no fault, since none was told.
+pub grows-made : {X : Type 0} (g : Growth) → g.factor ≡ 200 → fault_of (config_at g g.at_least) ≡ None → (heap : X) (made : Result X GrowingError) → made ≡ Ok heap
+    → ((why : GrowingError) → why ≢ errors.Heap heap_errors.OutOfMemory → (made ≡ Err why) ↔ (fault_of_growth g ≡ Some why)) → IsGrowth g
+grows-made g usual sizes heap made is faults =
+    faultless-growth g (faultless_by (fault_of_growth g) (λ why has.
+    let told = (faults why (of-heap why (of-growth g usual sizes why has))).1 has in
+    absurd (cc)))
 
 -- A run for whose heap there is no such growth ends so, with nothing written.
 pub ends-ungrown : (at_most : ℕ) (input : List ℕ) (script : Script) (fault : PacedFault) (old : Option (List ℕ)) → IsCommandTrace input script → fault_of (config_of script.header) ≡ None

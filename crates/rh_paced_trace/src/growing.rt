@@ -59,11 +59,7 @@ pub fn new_heap<A: Allocator + Copy>(alloc: A, growth: Growth) -> Result<Growing
     ensures fault { IfErr result (λ fault. IsGrowthFault growth fault) }
 {
     match GrowingHeap::of(alloc, growth) {
-        Ok(heap) => {
-            // Only for the proof: it grows, so that its growth has no fault.
-            let _ = heap.growth();
-            Ok(heap)
-        }
+        Ok(heap) => Ok(heap),
         Err(GrowingError::BadFactor) => Err(PacedFault::Limits),
         Err(GrowingError::BadLimits) => Err(PacedFault::Limits),
         Err(GrowingError::Pace(why)) => Err(PacedFault::Pace(why)),
@@ -94,8 +90,6 @@ fn run_input<A: Allocator + Copy, W: io::Write>(
         Err(ParseError::Fault(fault)) => return Err(PacedFault::Trace(fault)),
         Err(ParseError::OutOfMemory) => return Err(PacedFault::OutOfMemory),
     };
-    // Only for the proof: there are few lines.
-    let _ = trace.len();
     if let Some(fault) = other_fault(trace.requests()) {
         return Err(PacedFault::Trace(fault));
     }

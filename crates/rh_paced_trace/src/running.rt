@@ -49,8 +49,6 @@ fn run_input<A: Allocator + Copy, W: io::Write>(
         Err(ParseError::Fault(fault)) => return Err(PacedFault::Trace(fault)),
         Err(ParseError::OutOfMemory) => return Err(PacedFault::OutOfMemory),
     };
-    // Only for the proof: there are few lines.
-    let _ = trace.len();
     if let Some(fault) = other_fault(trace.requests()) {
         return Err(PacedFault::Trace(fault));
     }

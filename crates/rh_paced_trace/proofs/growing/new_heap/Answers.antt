@@ -1,13 +1,11 @@
-use Rattle.std.proofs.Common.{Err, ap, subst, ◌∙◌}
+use Rattle.std.proofs.Common.{Err, ap, ◌∙◌}
 use Rattle.rh_core.specs.declared.errors.HeapError.TheVariants as heap_errors
-use Rattle.rh_growing.specs.Growth.{IsGrowth}
-use Rattle.rh_growing.specs.Growing.{GrowingState}
 use Rattle.rh_growing.specs.declared.errors.GrowingError.TheVariants as errors
-use Rattle.rh_paced_trace.proofs.GrownFaults.{of-growth}
+use Rattle.rh_paced_trace.proofs.GrownFaults.{grows-made, of-growth}
 use Rattle.rh_paced_trace.proofs.growing.new_heap.Goals as goal
 
 pub returns-in-Ok-clause-grows : goal.returns-in-Ok-clause-grows
-returns-in-Ok-clause-grows g c = subst IsGrowth (ap (λ (s : GrowingState). s.growth) c.in-Ok.ensures.made) c.growth.ensures.keeps.growth
+returns-in-Ok-clause-grows g c = grows-made c.args.growth c.requires.factor c.requires.sizes c.in-Ok.heap c.of.result c.in-Ok.is c.of.ensures.fault
 
 pub returns-in-Err-BadFactor-clause-fault : goal.returns-in-Err-BadFactor-clause-fault
 returns-in-Err-BadFactor-clause-fault g c =

@@ -1,4 +1,4 @@
-use Rattle.std.proofs.Common.{◌≡◌, List, None, ap, subst, sym, ◌∙◌}
+use Rattle.std.proofs.Common.{◌≡◌, ◌<◌, List, length, None, ap, subst, sym, ◌∙◌}
 use Rattle.std.specs.Io.KnownBytes.{Appends}
 use Rattle.rh_mutator.specs.Config.{fault_of}
 use Rattle.rh_text.specs.Output.{AppendsLess}
@@ -18,6 +18,10 @@ use Rattle.rh_paced_trace.proofs.growing.run_input.Goals as goal
 
 abbrev paced_of : GrowingState → PacedState
 paced_of s = s.paced
+
+pub other_fault-requires : goal.other_fault-requires
+other_fault-requires g c =
+    subst (λ (requests : List Request). length requests < 1048576) (sym c.requests.ensures) c.in-Ok.ensures.found.0.few
 
 pub new_heap-requires-clause-sizes : goal.new_heap-requires-clause-sizes
 new_heap-requires-clause-sizes g c =

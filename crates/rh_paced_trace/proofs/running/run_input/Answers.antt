@@ -1,4 +1,4 @@
-use Rattle.std.proofs.Common.{◌≡◌, List, None, Ok, Err, ap, subst, sym, ◌∙◌}
+use Rattle.std.proofs.Common.{◌≡◌, ◌<◌, List, length, None, Ok, Err, ap, subst, sym, ◌∙◌}
 use Rattle.std.specs.Io.KnownBytes.{Appends}
 use Rattle.rh_mutator.specs.declared.config.Config.{Config}
 use Rattle.rh_mutator.specs.Config.{fault_of}
@@ -14,6 +14,10 @@ use Rattle.rh_paced_trace.specs.Pacing.{IsPaceOf}
 use Rattle.rh_paced_trace.specs.Run.{new_run, output_to, summary_to, text_of, IsCommandTrace, IsRun}
 use Rattle.rh_paced_trace.proofs.Played.{output-unaided, summary-unaided}
 use Rattle.rh_paced_trace.proofs.running.run_input.Goals as goal
+
+pub other_fault-requires : goal.other_fault-requires
+other_fault-requires g c =
+    subst (λ (requests : List Request). length requests < 1048576) (sym c.requests.ensures) c.in-Ok.ensures.found.0.few
 
 pub returns-in-Err-Config-clause-ends : goal.returns-in-Err-Config-clause-ends
 returns-in-Err-Config-clause-ends g c =
