@@ -20,12 +20,8 @@ use Rattle.rh_increment.specs.declared.did.Did.{Did}
 use Rattle.rh_increment.specs.Collector.{CollectorState, with_heap}
 use Rattle.rh_increment.specs.Collected.{IsCollected, most_units}
 use Rattle.rh_increment.specs.Increment.{increment, Meets, Met}
+use Rattle.rh_replay.proofs.Replays.{legal-with_call, replay-with_call}
 use Rattle.rh_shared.specs.Kept.{CallMeets, IsKept, KeptState, full_refusal, kept_call, kept_increment, noted_unless, refused_where, with_command, with_noted}
-
--- What the law of legal histories says.
-pub record HistoryLaws : Type 0 where
-  pub grown : (h : HistoryState) (call : Call) → IsLegal (with_call h call) ↔ (IsLegal h × (call.answer ≡ (step (replay h) call.owner call.command).1))
-  pub replayed : (h : HistoryState) (call : Call) → replay (with_call h call) ≡ (step (replay h) call.owner call.command).0
 
 -- an answer that isn't a limit's is the plain heap's
 pub same_answer : (answer plain : Result Reply Refusal) → AnswersAs answer plain → is_limit_answer answer ≡ false → answer ≡ plain
@@ -33,17 +29,17 @@ same_answer answer plain (inl same) kept = same.1
 same_answer answer plain (inr limited) kept = cc (limited.0, kept)
 
 -- A call that is noted with the heap's answer keeps the history legal, and what the heap stands for.
-pub IsKept-noted : (laws : HistoryLaws) (h : HistoryState) (before after : HeapState) (owner : ℕ) (command : Command) (answer : Result Reply Refusal)
+pub IsKept-noted : (h : HistoryState) (before after : HeapState) (owner : ℕ) (command : Command) (answer : Result Reply Refusal)
     → IsKept h before → is_limit_answer answer ≡ false
     → AnswersAs answer (step (replay h) owner command).1
     → StandsFor after.mutators (plain_unless (is_limit_answer answer) (replay h) owner command)
     → IsKept (with_call h (record { owner = owner; command = command; answer = answer })) after
-IsKept-noted laws h before after owner command answer was kept answered stands =
+IsKept-noted h before after owner command answer was kept answered stands =
     let call : Call = record { owner = owner; command = command; answer = answer } in
     let moved : StandsFor after.mutators (step (replay h) owner command).0 = subst (λ b. StandsFor after.mutators (plain_unless b (replay h) owner command)) kept stands in
     record {
-      legal = (laws.grown h call).1 (was.legal, same_answer answer (step (replay h) owner command).1 answered kept);
-      stands = subst (λ p. StandsFor after.mutators p) (sym (laws.replayed h call)) moved;
+      legal = legal-with_call h call was.legal (same_answer answer (step (replay h) owner command).1 answered kept);
+      stands = subst (λ p. StandsFor after.mutators p) (sym (replay-with_call h call)) moved;
     }
 
 -- Where a limit refused, nothing was noted.
@@ -57,19 +53,19 @@ IsKept-limited h before after owner command answer was limited stands = record {
 }
 
 -- Whether it is noted or not.
-pub IsKept-noted_unless : (laws : HistoryLaws) (h : HistoryState) (before after : HeapState) (owner : ℕ) (command : Command) (answer : Result Reply Refusal)
+pub IsKept-noted_unless : (h : HistoryState) (before after : HeapState) (owner : ℕ) (command : Command) (answer : Result Reply Refusal)
     → IsKept h before
     → AnswersAs answer (step (replay h) owner command).1
     → StandsFor after.mutators (plain_unless (is_limit_answer answer) (replay h) owner command)
     → IsKept (noted_unless (is_limit_answer answer) h (record { owner = owner; command = command; answer = answer })) after
-IsKept-noted_unless laws h before after owner command answer was answered stands = by_test (is_limit_answer answer) refl
+IsKept-noted_unless h before after owner command answer was answered stands = by_test (is_limit_answer answer) refl
   where
     call : Call
     call = record { owner = owner; command = command; answer = answer }
 
     by_test : (b : Bool) → is_limit_answer answer ≡ b → IsKept (noted_unless b h call) after
     by_test true limited = IsKept-limited h before after owner command answer was limited stands
-    by_test false kept = IsKept-noted laws h before after owner command answer was kept answered stands
+    by_test false kept = IsKept-noted h before after owner command answer was kept answered stands
 
 -- An increment.
 

@@ -31,10 +31,7 @@ ghost use Rattle.rh_increment.specs.declared.did.Did.{Did as DidOf};
 ghost use Rattle.rh_increment.specs.Did.{did_nothing};
 ghost use Rattle.rh_increment.specs.Increment.{increment, Meets, Met};
 
-use rh_core::laws::{
-    heaps_answer_as_plain_heaps, limits_refuse_exactly_where_they_are_met,
-    refused_commands_change_nothing,
-};
+use rh_core::laws::refused_commands_change_nothing;
 use rh_increment::laws::an_increment_begins_a_cycle_below_the_mark;
 use std::alloc::Allocator;
 
@@ -81,10 +78,7 @@ pub fn a_call_is_noted_unless_a_limit_refused_it<A: Allocator + Copy>()
 pub fn an_answer_comes_after_a_legal_history<A: Allocator + Copy>()
     ensures { (owner : ℕ) (command : Command) (answer : Result Reply CallErrorOf)
         → AnswersUnderLock A owner command answer → ComesAfterHistory owner command answer }
-{
-    heaps_answer_as_plain_heaps();
-    limits_refuse_exactly_where_they_are_met();
-}
+{}
 
 /// What the answers of a shared heap say of the commands alone, before the heap is closed.
 ///

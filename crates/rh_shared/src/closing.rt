@@ -1,6 +1,7 @@
 //! Closing a shared heap: the mutators' shares are compared with the history.
 
 ghost use Rattle.std.specs.Prelude.{◌≡◌, ◌↔◌, ◌≤◌, IfOk, IfErr, IsTrue, IfSome, IfNone, Some, length, slice_get};
+ghost use Rattle.rh_shared.specs.Answers.{IsUnderLock};
 ghost use Rattle.rh_shared.specs.Kept.{IsKept};
 ghost use Rattle.rh_shared.specs.Shares.{HasShares, IsFirstDifference, IsLeastStranger, IsOneEach, WhyNotClosed, calls_of, calls_together, have_owners_below, lesser_stranger, mutator_count, share_of};
 
@@ -83,6 +84,7 @@ fn why_not_closed<A: Allocator + Copy>(
     kept: &Kept<A>,
     mutators: &[Mutator<A>],
 ) -> Option<CloseError>
+    requires { IsUnderLock kept.now }
     ensures closed { IfNone result
         (IsOneEach kept.now.collector.heap.mutators.roots.owners mutators.now
         × HasShares mutators.now kept.now.recorder.history.calls) }
@@ -90,8 +92,6 @@ fn why_not_closed<A: Allocator + Copy>(
         WhyNotClosed kept.now.collector.heap.mutators.roots.owners mutators.now
         kept.now.recorder.history.calls why) }
 {
-    // Only for the proof: the heap has as many owners as its `Config` says.
-    let _ = kept.heap().used();
     let owners = kept.heap().config().owners;
     if !is_one_each(mutators, owners) {
         return Some(CloseError::SharesMissing);

@@ -13,7 +13,6 @@ use rh_core::{Config, ConfigFault, Heap, HeapError};
 use rh_increment::{MAX_REPLICATORS, SharedConfig, SharedFault};
 use rh_layout::OutOfMemory;
 use rh_layout::limits::MAX_HISTORY_CALLS;
-use rh_replay::laws::a_legal_history_grows_by_the_steps_answer;
 use rh_replay::{Recorder, RecorderError};
 use rh_rings::{Link, ReplicatorEnds, new_link};
 use std::alloc::{Allocator, Global};
@@ -86,8 +85,6 @@ impl<A: Allocator + Copy> Start<A> {
             ↔ ((fault_of config ≡ None) × (shared_fault_of shared ≡ Some f)) }
         ensures made { IfOk result (λ start. IsNewStart config shared start) }
     {
-        // Only for the proof: the law that a history without a call is legal.
-        a_legal_history_grows_by_the_steps_answer();
         if let Some(fault) = config.fault() {
             return Err(StartError::Config(fault));
         }

@@ -1,5 +1,6 @@
 use Rattle.std.proofs.Common.{◌≡◌, Some, Err, ap, ◌∙◌, rules}
 use Rattle.rh_mutator.specs.Config.{fault_of}
+use Rattle.rh_replay.proofs.Replays.{legal-empty}
 use Rattle.rh_shared.proofs.KeptCalls.{IsKept-new}
 use Rattle.rh_shared.proofs.NewLinks.{count-rings}
 use Rattle.rh_shared.proofs.start.Start.new.Goals as goal
@@ -13,7 +14,7 @@ unreachable-requires g c =
 pub invariant_of-result : goal.invariant_of-result
 invariant_of-result g c = record {
   kept = IsKept-new c.in-Ok-recorder_for.recorder c.in-Ok.heap c.args.config.owners c.args.config.slots c.args.shared.history c.in-Ok-recorder_for.ensures
-      (c.a_legal_history_grows_by_the_steps_answer.ensures.empty c.args.config.owners c.args.config.slots) c.in-Ok.ensures.stands;
+      (legal-empty c.args.config.owners c.args.config.slots) c.in-Ok.ensures.stands;
   config = Prim.search rules;
   limit = Prim.search rules;
   owners = Prim.search rules;
