@@ -1,8 +1,9 @@
 -- How a session ends the program.
-use Rattle.std.proofs.Common.{◌≡◌, ℕ, List, [], ◌++◌, Option, Result, Ok, Err, IfSome, inl, inr, refl, sym, ap, ◌∙◌}
+use Rattle.std.proofs.Common.{◌≡◌, ℕ, List, [], ◌++◌, Option, Result, Ok, Err, IfSome, inl, inr, refl, sym, ap, ◌∙◌, append_assoc}
 use Rattle.std.proofs.lemmas.List.{append-nil}
-use Rattle.std.specs.Io.KnownBytes.{Consumes}
+use Rattle.std.specs.Io.KnownBytes.{Appends, Consumes}
 use Rattle.rh_text.specs.Output.{AppendsPrefix}
+use Rattle.rh_text.specs.lemmas.Appends.{Appends-then}
 use Rattle.rh_text.specs.RawLine.{RawLine, lines_of}
 use Rattle.rh_trace.specs.Answers.{total_line}
 use Rattle.rh_trace.specs.declared.summary.Summary.{Summary}
@@ -10,9 +11,16 @@ use Rattle.rh_shell.specs.declared.fault.ShellFault.{ShellFault}
 use Rattle.rh_shell.specs.declared.fault.ShellFault.TheVariants as shell_faults
 use Rattle.rh_shell.specs.Session.{IsSession}
 use Rattle.rh_shell.specs.Typing.{Ends, StopsWithin}
-use Rattle.rh_shell.proofs.Shown.{prefix_after, prefix_more, prefix_of_all}
 use Rattle.rh_cli.specs.Session.{ConcludesSession, IsSessionStatus}
 use Rattle.rh_cli.proofs.Inputs.{begun_input, whole_input}
+
+-- a prefix of a text is one of the text with more behind it
+prefix_more : (old new : Option (List ℕ)) (text more : List ℕ) → AppendsPrefix old new text → AppendsPrefix old new (text ++ more)
+prefix_more old new text more q = (q.0, q.1 ++ more, ap (λ (t : List ℕ). t ++ more) q.2 ∙ append_assoc q.0 q.1 more, q.3)
+
+-- a text that was written, and then a prefix of another
+prefix_after : (old now new : Option (List ℕ)) (text more : List ℕ) → Appends old now text → AppendsPrefix now new more → AppendsPrefix old new (text ++ more)
+prefix_after old now new text more p q = (text ++ q.0, q.1, ap (λ (t : List ℕ). text ++ t) q.2 ∙ sym (append_assoc text q.0 q.1), Appends-then old now new text q.0 p q.3)
 
 -- of what was taken a prefix of the text of some lines was written, from the first on
 abbrev WritesFirst : Option (List ℕ) → Option (List ℕ) → Option (List ℕ) → Option (List ℕ) → Type 0
@@ -32,7 +40,7 @@ fault_first : (fault : ShellFault) (known left old new : Option (List ℕ)) → 
 fault_first shell_faults.Read known left old new e =
     let i = e.5 in
     let total = total_line e.3.summary in
-    (e.0, i.lines, lines_of (i.partial ++ []), e.2 ++ total, e.3.summary, e.4, ap lines_of (sym (append-nil e.0)) ∙ i.cut [], (e.2, e.3, i.answered, refl, refl), prefix_more old new e.2 total (prefix_of_all old new e.2 e.6))
+    (e.0, i.lines, lines_of (i.partial ++ []), e.2 ++ total, e.3.summary, e.4, ap lines_of (sym (append-nil e.0)) ∙ i.cut [], (e.2, e.3, i.answered, refl, refl), (e.2, total, refl, e.6))
 fault_first shell_faults.Write known left old new (inl e) = within_first known left old new e
 fault_first shell_faults.Write known left old new (inr e) =
     let total = total_line e.2.summary in
