@@ -1,10 +1,11 @@
 -- How a subcommand without views of its own is viewed.
-use Rattle.std.proofs.Common.{◌≢◌, ℕ, List, Option, refl}
+use Rattle.std.proofs.Common.{◌≡◌, ◌≢◌, ℕ, List, Option, refl, sym, subst}
 use Rattle.rh_text.specs.lemmas.Appends.{Keeps-same}
 use Rattle.rh_viewed_trace.specs.Run.{Written}
 use Rattle.rh_viewed_trace.specs.declared.telling.Telling.{Telling}
 use Rattle.rh_cli.specs.Drive.{Concludes}
-use Rattle.rh_cli.specs.Views.{ConcludesViewed, KeepsOthers}
+use Rattle.rh_cli.specs.Count.{ConcludesDump}
+use Rattle.rh_cli.specs.Views.{ConcludesReport, ConcludesViewed, KeepsOthers, json_counts}
 use Rattle.rh_cli.specs.declared.ask.Subcommand.{Subcommand}
 use Rattle.rh_cli.specs.declared.ask.Subcommand.TheVariants.{Run, RunPaced, RunGrowing, Threads, Replay, Dump, Dot, Draw, Session, Completions}
 
@@ -21,6 +22,17 @@ told_alone old new history cycles = record {
 
 pub others_kept : (old new history cycles : Option (List ℕ)) → KeepsOthers (told_alone old new history cycles)
 others_kept old new history cycles = (Keeps-same history, Keeps-same cycles)
+
+-- a check, and a count
+pub viewed_check : (telling : Telling) (subcommand : Subcommand) (status : ℕ) (old new history cycles : Option (List ℕ)) → subcommand ≡ Replay
+    → (input : List ℕ) → ConcludesReport telling input status old new → ConcludesViewed telling subcommand input status (told_alone old new history cycles)
+viewed_check telling subcommand status old new history cycles is input ends =
+    subst (λ (s : Subcommand). ConcludesViewed telling s input status (told_alone old new history cycles)) (sym is) (ends, others_kept old new history cycles)
+
+pub viewed_count : (telling : Telling) (subcommand : Subcommand) (status : ℕ) (old new history cycles : Option (List ℕ)) → subcommand ≡ Dump
+    → (input : List ℕ) → ConcludesDump json_counts input status old new → ConcludesViewed telling subcommand input status (told_alone old new history cycles)
+viewed_count telling subcommand status old new history cycles is input ends =
+    subst (λ (s : Subcommand). ConcludesViewed telling s input status (told_alone old new history cycles)) (sym is) (ends, others_kept old new history cycles)
 
 -- it ends as it does without
 pub unviewed : (telling : Telling) (subcommand : Subcommand) (status : ℕ) (old new history cycles : Option (List ℕ)) → subcommand ≢ Run → ((mark : Option ℕ) → subcommand ≢ RunPaced mark)

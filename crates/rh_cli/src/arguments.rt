@@ -1,6 +1,6 @@
 //! The arguments of the program.
 
-ghost use Rattle.std.specs.Prelude.{◌≡◌, ◌≢◌, ◌⊎◌, [], map, option_map, false, Ok, Err, IsTrue, IfOk, IfErr};
+ghost use Rattle.std.specs.Prelude.{◌≡◌, ◌≢◌, ◌≤◌, ◌⊎◌, [], map, option_map, false, Ok, Err, IsTrue, IfOk, IfErr};
 ghost use Rattle.clap.specs.declared.builder.command.Command.TheViews.{out-Command as fields_of};
 ghost use Rattle.clap.specs.Words.{kind_of, app_of, subcommand_rows_of};
 ghost use Rattle.rh_cli.specs.Ask.{command_asked, grown_app, is_output, output_texts, replay_app, telling_of, told_app, viewed_in, viewed_of, command_and_file, command_and_file_in, command_and_file_of, command_named, completions_app, completions_asked, completions_for, error_kinds, explains_in, explains_of, file_or_input, draw_app, draw_asked, dump_app, dump_asked, file_app, growing_asked, marked_app, number_within, once, run_app, run_given, rheap_app, is_crossed, is_same_file, is_set, is_taken, run_asked, threads_app, threads_asked, shell_app};
@@ -82,8 +82,8 @@ fn run_command<'a>(alloc: Global) -> Result<Command<'a>, AllocError>
 
 /// A command with the flags that say how it is told on standard output, as clap knows it.
 fn told_command<'a>(alloc: Global, command: Command<'a>) -> Result<Command<'a>, AllocError>
-    ensures app { IfOk result (λ told. app_of told ≡ told_app (app_of command)) }
-    ensures local { (fields_of command).has_globals ≡ false
+    ensures app { IfOk result (λ told. app_of told ≡ told_app (app_of command.entry)) }
+    ensures local { (fields_of command.entry).has_globals ≡ false
         → IfOk result (λ told. (fields_of told).has_globals ≡ false) }
 {
     let echo = Arg::new(alloc, "echo")

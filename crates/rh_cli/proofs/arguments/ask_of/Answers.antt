@@ -2,7 +2,7 @@ use Rattle.std.proofs.Common.{◌≡◌, ◌∙◌, ap, sym, option_map, Err, Bo
 use Rattle.std.proofs.lemmas.Result.{err_from_is_err_and}
 use Rattle.clap.specs.Words.{Text}
 use Rattle.rh_viewed_trace.specs.declared.telling.Telling.{Telling}
-use Rattle.rh_cli.specs.Ask.{with_file, telling_of, Options}
+use Rattle.rh_cli.specs.Ask.{with_file, telling_of, Options, Viewed}
 use Rattle.rh_cli.proofs.ClapMatches.{command_and_file_in-matches, AreMatched, explains_in-matches, viewed_in-matches}
 use Rattle.rh_cli.proofs.arguments.ask_of.Goals as goal
 
@@ -78,7 +78,7 @@ returns-clause-explained c =
 
 -- what is viewed by flags and files
 viewed_is : (telling : Telling) (echo json : Bool) (cycles history : Option Text) → telling ≡ telling_of echo json
-    → record { telling = telling_of echo json; cycles = cycles; history = history } ≡ record { telling = telling; cycles = cycles; history = history }
+    → ◌≡◌ {A = Viewed} (record { telling = telling_of echo json; cycles = cycles; history = history }) (record { telling = telling; cycles = cycles; history = history })
 viewed_is telling echo json cycles history is = ap (λ (t : Telling). record { telling = t; cycles = cycles; history = history }) (sym is)
 
 pub returns-clause-viewed : goal.returns-clause-viewed

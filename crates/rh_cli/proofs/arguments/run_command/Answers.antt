@@ -13,3 +13,6 @@ returns-clause-app c =
     let with_history : app_of c.in_ok-arg-2.field-0 ≡ with_rule (with_rule grown_app cycles_rule) history_rule =
     c.in_ok-arg-2.ensures.shape (search rules) ∙ ap₂ with_rule with_cycles history_is in
     IfOk-weaker c.told_command.result _ _ (λ r told. told ∙ ap told_app with_history) c.told_command.ensures.app
+
+pub returns-clause-local : goal.returns-clause-local
+returns-clause-local c = c.told_command.ensures.local (search rules)

@@ -1,4 +1,5 @@
-use Rattle.std.proofs.Common.{◌∙◌}
+use Rattle.std.proofs.Common.{ap₂, ◌∙◌}
+use Rattle.rh_viewed_trace.specs.Json.{json_dump}
 use Rattle.rh_cli.specs.Views.{json_counts}
 use Rattle.rh_cli.specs.Fault.{status_after}
 use Rattle.rh_cli.proofs.Counted.{counted}
@@ -8,4 +9,4 @@ pub returns-clause-concluded : goal.returns-clause-concluded
 returns-clause-concluded g c =
     let contents = g.O.Write.contents in
     counted json_counts c.send-sent.result (status_after c.conclude.result) c.args.graph.now c.as_bytes.result.now (contents c.args.out.now) (contents c.send-sent.new.writer) (contents c.flush-flushed.new.self)
-    (c.as_bytes.ensures ∙ c.put_json_dump.ensures) c.send-sent.ensures.ok c.send-sent.ensures.err c.flush-flushed.ensures.bytes c.conclude.ensures.status
+    (c.as_bytes.ensures ∙ c.put_json_dump.ensures ∙ ap₂ json_dump c.roots.ensures.value c.objects.ensures) c.send-sent.ensures.ok c.send-sent.ensures.err c.flush-flushed.ensures.bytes c.conclude.ensures.status

@@ -1,27 +1,27 @@
 use Rattle.rh_cli.specs.Fault.{status_after}
 use Rattle.rh_cli.proofs.Counted.{known_so}
-use Rattle.rh_cli.proofs.Viewed.{others_kept, unviewed}
+use Rattle.rh_cli.proofs.Viewed.{unviewed, viewed_check, viewed_count}
 use Rattle.rh_cli.proofs.viewed_driving.act_viewed.Goals as goal
 
 pub returns-in-Replay-clause-told : goal.returns-in-Replay-clause-told
 returns-in-Replay-clause-told g c =
-    let kept = others_kept (g.O.Write.contents c.args.out.now) (g.O.Write.contents c.view_report.new.out) (g.H.Write.contents c.args.history.now) (g.C.Write.contents c.args.cycles.now) in
-    known_so _ _ (g.R.Read.remaining c.args.reader.now) (λ input ends. (ends, kept)) c.view_report.ensures.told
+    known_so _ _ (g.R.Read.remaining c.args.reader.now)
+    (viewed_check c.args.telling c.args.subcommand (status_after c.view_report.result) (g.O.Write.contents c.args.out.now) (g.O.Write.contents c.view_report.new.out) (g.H.Write.contents c.args.history.now) (g.C.Write.contents c.args.cycles.now) c.in-Replay.is) c.view_report.ensures.told
 
 pub returns-in-Replay-clause-read : goal.returns-in-Replay-clause-read
 returns-in-Replay-clause-read g c =
     let given = c.view_report.ensures.read in
-    (given.0, given.1, given.2, others_kept (g.O.Write.contents c.args.out.now) (g.O.Write.contents c.view_report.new.out) (g.H.Write.contents c.args.history.now) (g.C.Write.contents c.args.cycles.now))
+    (given.0, given.1, viewed_check c.args.telling c.args.subcommand (status_after c.view_report.result) (g.O.Write.contents c.args.out.now) (g.O.Write.contents c.view_report.new.out) (g.H.Write.contents c.args.history.now) (g.C.Write.contents c.args.cycles.now) c.in-Replay.is given.0 given.2)
 
 pub returns-in-Dump-clause-told : goal.returns-in-Dump-clause-told
 returns-in-Dump-clause-told g c =
-    let kept = others_kept (g.O.Write.contents c.args.out.now) (g.O.Write.contents c.view_count.new.out) (g.H.Write.contents c.args.history.now) (g.C.Write.contents c.args.cycles.now) in
-    known_so _ _ (g.R.Read.remaining c.args.reader.now) (λ input ends. (ends, kept)) c.view_count.ensures.told
+    known_so _ _ (g.R.Read.remaining c.args.reader.now)
+    (viewed_count c.args.telling c.args.subcommand (status_after c.view_count.result) (g.O.Write.contents c.args.out.now) (g.O.Write.contents c.view_count.new.out) (g.H.Write.contents c.args.history.now) (g.C.Write.contents c.args.cycles.now) c.in-Dump.is) c.view_count.ensures.told
 
 pub returns-in-Dump-clause-read : goal.returns-in-Dump-clause-read
 returns-in-Dump-clause-read g c =
     let given = c.view_count.ensures.read in
-    (given.0, given.1, given.2, others_kept (g.O.Write.contents c.args.out.now) (g.O.Write.contents c.view_count.new.out) (g.H.Write.contents c.args.history.now) (g.C.Write.contents c.args.cycles.now))
+    (given.0, given.1, viewed_count c.args.telling c.args.subcommand (status_after c.view_count.result) (g.O.Write.contents c.args.out.now) (g.O.Write.contents c.view_count.new.out) (g.H.Write.contents c.args.history.now) (g.C.Write.contents c.args.cycles.now) c.in-Dump.is given.0 given.2)
 
 pub returns-in_default-clause-told : goal.returns-in_default-clause-told
 returns-in_default-clause-told g c =

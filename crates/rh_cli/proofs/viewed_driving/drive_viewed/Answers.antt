@@ -11,20 +11,20 @@ returns-in-Ok-clause-told g c = rw c.status.ensures c.in-Ok.ensures.told
 pub returns-in-Ok-clause-read : goal.returns-in-Ok-clause-read
 returns-in-Ok-clause-read g c = rw c.status.ensures c.in-Ok.ensures.read
 
-pub returns-in-Err-clause-told : goal.returns-in-Err-clause-told
-returns-in-Err-clause-told g c = rw c.tell_as-status.ensures c.in-Err.ensures.told
+pub returns-after-explains-clause-told : goal.returns-after-explains-clause-told
+returns-after-explains-clause-told g c = rw c.tell_as-status.ensures c.in-Err.ensures.told
 
-pub returns-in-Err-clause-read : goal.returns-in-Err-clause-read
-returns-in-Err-clause-read g c = rw c.tell_as-status.ensures c.in-Err.ensures.read
+pub returns-after-explains-clause-read : goal.returns-after-explains-clause-read
+returns-after-explains-clause-read g c = rw c.tell_as-status.ensures c.in-Err.ensures.read
 
 pub returns-in-Ok-clause-quiet : goal.returns-in-Ok-clause-quiet
 returns-in-Ok-clause-quiet g c = λ is. Keeps-same (g.E.Write.contents c.args.err.now)
 
-pub returns-in-Err-clause-quiet : goal.returns-in-Err-clause-quiet
-returns-in-Err-clause-quiet g c = λ is. absurd (late_is_told (c.args.ask.now.subcommand ≡ Replay) c.tell_as-status.result (status_of c.in-Err.fault) c.tell_as-status.ensures c.in-Err.ensures.late c.in-Err.ensures.check is)
+pub returns-after-explains-clause-quiet : goal.returns-after-explains-clause-quiet
+returns-after-explains-clause-quiet g c = λ is. absurd (late_is_told (c.args.ask.now.subcommand ≡ Replay) c.tell_as-status.result (status_of c.in-Err.fault) c.tell_as-status.ensures c.in-Err.ensures.late c.in-Err.ensures.check is)
 
 pub returns-in-Ok-clause-late : goal.returns-in-Ok-clause-late
 returns-in-Ok-clause-late g c = late_of_ending c.in-Ok.ending c.status.result c.status.ensures
 
-pub returns-in-Err-clause-late : goal.returns-in-Err-clause-late
-returns-in-Err-clause-late g c = late_of_fault c.tell_as-status.result (status_of c.in-Err.fault) c.tell_as-status.ensures c.in-Err.ensures.late
+pub returns-after-explains-clause-late : goal.returns-after-explains-clause-late
+returns-after-explains-clause-late g c = late_of_fault c.tell_as-status.result (status_of c.in-Err.fault) c.tell_as-status.ensures c.in-Err.ensures.late
