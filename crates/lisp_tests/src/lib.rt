@@ -1,0 +1,5 @@
+//! Tests of the language.
+#![tactic(auto)]
+
+#[cfg(test)]
+mod programs;

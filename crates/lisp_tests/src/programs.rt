@@ -1,0 +1,284 @@
+//! Programs, what they print, and where they stop.
+
+use refusing::RefusingAllocator;
+use rh_growing::GrowingHeap;
+use rh_lisp::{Fault, FaultKind, Outcome, Printed, Program, ReadKind};
+use rh_pace::{PacedHeap, Sizes};
+use std::alloc::Allocator;
+use std::rt::HostRuntime;
+
+/// Programs, and what they print: what another Scheme prints.
+const PROGRAMS: &[(&[u8], &[u8])] = &[
+    (b"(display (+ 1 2))", b"3"),
+    (
+        b"(write '(1 (2 . 3) \"a\\\"b\\\\c\\n\" #\\a #\\space #t () sym))",
+        b"(1 (2 . 3) \"a\\\"b\\\\c\\n\" #\\a #\\space #t () sym)",
+    ),
+    (
+        b"(define (loop n) (if (= n 0) 'done (loop (- n 1)))) (display (loop 3000))",
+        b"done",
+    ),
+    (
+        b"(define (f . l) l) (write (list (f) (f 1) (f 1 2))) (write (apply + 1 '(2 3)))",
+        b"(() (1) (1 2))6",
+    ),
+    (
+        b"(write (let* ((a 1) (b (+ a 1))) (let loop ((i 0) (l '())) (if (= i b) l (loop (+ i 1) (cons i l))))))",
+        b"(1 0)",
+    ),
+    (
+        b"(define k #f) (define n 0) (display (+ 1 (call/cc (lambda (c) (set! k c) 1)))) (set! n (+ n 1)) (if (< n 3) (k n))",
+        b"22",
+    ),
+    (
+        b"(write `(1 ,(+ 1 1) ,@(map (lambda (x) (* x x)) '(2 3)) 4))",
+        b"(1 2 4 9 4)",
+    ),
+    (
+        b"(define v (make-vector 3 0)) (vector-set! v 1 'x) (write v) (write (vector-length v)) (write '#(1 (2)))",
+        b"#(0 x 0)3#(1 (2))",
+    ),
+    (
+        b"(write (string-append \"ab\" \"cd\")) (write (string->list \"xy\")) (write (substring \"hello\" 1 3))",
+        b"\"abcd\"(#\\x #\\y)\"el\"",
+    ),
+    (
+        b"(write (do ((i 0 (+ i 1)) (s 0 (+ s i))) ((= i 5) s)))",
+        b"10",
+    ),
+    (
+        b"(write (case 3 ((1 2) 'low) ((3 4) 'high) (else 'none))) (write (cond ((assv 2 '((1 . a) (2 . b)))) (else 0)))",
+        b"high(2 . b)",
+    ),
+    (
+        b"(define (count) (define n 0) (lambda () (set! n (+ n 1)) n)) (define c (count)) (c) (display (c))",
+        b"2",
+    ),
+    (
+        b"(write (list (quotient -7 2) (remainder -7 2) (modulo -7 2) (max 3 9 4) (number->string -120)))",
+        b"(-3 -1 1 9 \"-120\")",
+    ),
+    (
+        b"(write (letrec ((even (lambda (n) (if (= n 0) #t (odd (- n 1))))) (odd (lambda (n) (if (= n 0) #f (even (- n 1)))))) (even 10)))",
+        b"#t",
+    ),
+    (
+        b"(write (and 1 2)) (write (or #f 3)) (write (not 1)) (when #t (display 'w)) (unless #t (display 'u))",
+        b"23#fw",
+    ),
+    (
+        b"(write (equal? '(1 #(2) \"x\") (list 1 (vector 2) (string #\\x)))) (write (eq? 'a 'a)) (write (memq 'c '(a b c d)))",
+        b"#t#t(c d)",
+    ),
+    (
+        b"(define (g k) (let ((r (call/cc (lambda (e) (for-each (lambda (x) (if (> x k) (e x))) '(1 5 9)) 'none)))) r)) (write (list (g 3) (g 20)))",
+        b"(5 none)",
+    ),
+    (
+        b"(define l (list 3 1 2)) (set-car! (cdr l) 'y) (write (reverse (append l '(z))))",
+        b"(z 2 y 3)",
+    ),
+    (
+        b"(define (f begin end) (cond ((< begin end) begin) (else end))) (display (f 1 2))",
+        b"1",
+    ),
+    (
+        b"(define (append a b) 'mine) (write (append 1 2)) (write (string-append \"a\" \"b\"))",
+        b"mine\"ab\"",
+    ),
+    (
+        b"(define (f cons append) `(,cons ,@(list append 3) 4)) (write (f 1 2))",
+        b"(1 2 3 4)",
+    ),
+    (
+        b"(define (f x) (car x)) (define old car) (define (car x) (old (old x))) (write (f '((1))))",
+        b"1",
+    ),
+];
+
+/// Programs that stop, and their messages.
+const STOPS: &[(&[u8], &[u8])] = &[
+    (b"(car 5)", b"p:1:1: car: not a pair"),
+    (
+        b"(display (+ 1 (cdr (quote ()))))",
+        b"p:1:15: cdr: not a pair",
+    ),
+    (b"(+ 1 'a)", b"p:1:1: +: not a number"),
+    (b"(quotient 7 0)", b"p:1:1: quotient: division by zero"),
+    (b"(* 1073741824 1073741824)", b"p:1:1: overflow"),
+    (
+        b"(vector-ref (vector 1 2) 2)",
+        b"p:1:1: vector-ref: out of range",
+    ),
+    (b"(string-length 'a)", b"p:1:1: string-length: not a string"),
+    (
+        b"(char->integer 5)",
+        b"p:1:1: char->integer: not a character",
+    ),
+    (b"\n unknown", b"p:2:2: unknown: unbound variable"),
+    (
+        b"(define (f x) x) (f 1 2)",
+        b"p:1:18: wrong number of arguments",
+    ),
+    (b"(\"no procedure\" 1)", b"p:1:1: not a procedure"),
+    (b"(make-vector -1 0)", b"p:1:1: make-vector: out of range"),
+    (b"(apply + 5)", b"p:1:1: apply: not a pair"),
+    (
+        b"(define c (list 1 2)) (set-cdr! (cdr c) c) (length c)",
+        b"p:1:44: steps spent",
+    ),
+    (
+        b"(define (keep l) (keep (cons l l))) (keep '())",
+        b"p:1:18: heap exhausted",
+    ),
+    (b"(display unknown)", b"p:1:10: unknown: unbound variable"),
+    (b"(set! unknown 1)", b"p:1:7: unknown: unbound variable"),
+    (b"(list-tail '(1 2) 3)", b"p:1:1: cdr: not a pair"),
+    (
+        b"(define (f x) (error \"bad:\" x 'y)) (display (f 1))",
+        b"p:1:15: bad: 1 y",
+    ),
+    (b"(+ 1 1152921504606846975 0)", b"p:1:1: overflow"),
+];
+
+/// Texts that are no programs, and their first faults.
+const FAULTS: &[(&[u8], &[u8])] = &[
+    (b"(display 1))", b"1:12: unexpected )"),
+    (b"(display ')", b"1:11: unexpected )"),
+    (b"(display 1", b"1:11: unfinished"),
+    (b"\n \"abc", b"2:2: unfinished"),
+    (b"'(1 . )", b"1:7: misplaced dot"),
+    (b"'(1 . 2 3)", b"1:9: misplaced dot"),
+    (b"'#(1 . 2)", b"1:6: misplaced dot"),
+    (b"1152921504606846976", b"1:1: number out of range"),
+    (b"#nosuch", b"1:1: no such datum"),
+    (b"(if)", b"1:1: bad form"),
+    (b"(quote 1 2)", b"1:1: bad form"),
+    (b"(define x 1 2)", b"1:1: bad form"),
+    (b"(display (let ((x)) x))", b"1:10: bad form"),
+    (b"(lambda (x 1) x)", b"1:1: not a name"),
+];
+
+/// About twice what lives in a program here.
+const SIZES: Sizes = Sizes {
+    words: 10_000,
+    biggest: 400,
+    ratio: 32,
+    owners: 2,
+    slots: 8,
+};
+
+/// What a program prints, and its message where it stops.
+fn printed<A: Allocator + Copy>(alloc: A, text: &[u8]) -> Option<(Vec<u8, A>, Vec<u8, A>)> {
+    let mut program = Program::new(alloc, text, 1_000, 400_000).ok()?;
+    let mut heap = GrowingHeap::new(alloc, 20_000).ok()?;
+    let outcome = program.run(&mut heap);
+    let printed = program.printed(alloc).ok()?;
+    let message = program.message(alloc, b"p", outcome, &printed).ok()?;
+    let Printed { output, .. } = printed;
+    Some((output, message))
+}
+
+/// What a program prints that finishes on a heap of one size, and how often that collected.
+fn printed_on_paced<A: Allocator + Copy>(alloc: A, text: &[u8]) -> Option<(Vec<u8, A>, u64)> {
+    let mut program = Program::new(alloc, text, 1_000, 400_000).ok()?;
+    let mut heap = PacedHeap::sized(alloc, SIZES).ok()?;
+    if program.run_on_paced(&mut heap) != Outcome::Finished {
+        return None;
+    }
+    let Printed { output, .. } = program.printed(alloc).ok()?;
+    Some((output, heap.stat().flips))
+}
+
+/// The fault of a text, in words.
+fn fault_of<A: Allocator + Copy>(alloc: A, text: &[u8]) -> Option<String<A>> {
+    match Program::new(alloc, text, 1_000, 400_000) {
+        Ok(_) => None,
+        Err(Fault { position, kind, .. }) => {
+            format!(in alloc; "{}:{}: {kind}", position.line, position.column).ok()
+        }
+    }
+}
+
+#[test]
+fn programs_print_what_another_scheme_prints(rt: HostRuntime) {
+    for (row, &(text, output)) in PROGRAMS.iter().enumerate() {
+        let (got, message) = printed(rt.alloc(), text).expect(&rt, "a program");
+        assert!(rt;
+            got.as_slice() == output,
+            "row {row}: {}",
+            got.escape_ascii()
+        );
+        assert!(rt; message.is_empty(), "row {row}: {}", message.escape_ascii());
+    }
+}
+
+#[test]
+fn programs_print_the_same_where_the_heap_keeps_its_size(rt: HostRuntime) {
+    let mut collected = false;
+    for (row, &(text, output)) in PROGRAMS.iter().enumerate() {
+        let (got, flips) = printed_on_paced(rt.alloc(), text).expect(&rt, "a program");
+        assert!(rt;
+            got.as_slice() == output,
+            "row {row}: {}",
+            got.escape_ascii()
+        );
+        collected = collected || 0 < flips;
+    }
+    assert!(rt; collected, "no heap collected");
+}
+
+#[test]
+fn programs_stop_where_their_messages_say(rt: HostRuntime) {
+    for (row, &(text, due)) in STOPS.iter().enumerate() {
+        let (_, message) = printed(rt.alloc(), text).expect(&rt, "a program");
+        assert!(rt;
+            message.as_slice() == due,
+            "row {row}: {}",
+            message.escape_ascii()
+        );
+    }
+}
+
+#[test]
+fn texts_that_are_no_programs_have_their_first_faults(rt: HostRuntime) {
+    for (row, &(text, due)) in FAULTS.iter().enumerate() {
+        let fault = fault_of(rt.alloc(), text).expect(&rt, "a fault");
+        assert!(rt; fault.as_str().as_bytes() == due, "row {row}: {fault}");
+    }
+}
+
+/// Whether a program is made exactly where the nth allocation isn't refused, and whether it was.
+fn is_made_unless_refused<A: Allocator + Copy>(alloc: A, nth: u64) -> (bool, bool) {
+    let memory = RefusingAllocator::new(alloc, nth);
+    let kind = match Program::new(
+        &memory,
+        b"(define (append a b) `(,a #(1) \"x\")) (append 1 2)",
+        9,
+        9,
+    ) {
+        Ok(_) => None,
+        Err(fault) => Some(fault.kind),
+    };
+    let is_refused = memory.has_refused();
+    let due = if is_refused {
+        Some(FaultKind::Read(ReadKind::OutOfMemory))
+    } else {
+        None
+    };
+    (kind == due, is_refused)
+}
+
+#[test]
+fn allocations_are_refused_further_and_further_on(rt: HostRuntime) {
+    let mut nth = 1u64;
+    for _ in 0..400u32 {
+        let (is_told, is_refused) = is_made_unless_refused(rt.alloc(), nth);
+        assert!(rt; is_told, "allocation {nth}");
+        if !is_refused {
+            break;
+        }
+        nth = nth.saturating_add(1 + nth / 16);
+    }
+    assert!(rt; 1_000 < nth, "{nth} allocations");
+}
