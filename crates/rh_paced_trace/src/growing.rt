@@ -45,8 +45,8 @@ pub fn growth_of(header: Header, requests: &[Request], at_most: u32) -> Growth
     }
 }
 
-/// A new heap that grows so. Of a growth there is no other fault than those of its limits and of
-/// its pace: the factor is the usual one, and the first line has no fault.
+/// A new heap that grows so, by the usual factor and from sizes that have no fault. Of such a growth
+/// there is no other fault than those of its limits and of its pace.
 ///
 /// # Errors
 ///
