@@ -46,8 +46,6 @@ where
         Err(ParseError::Fault(fault)) => return Err(SharedRunFault::Trace(fault)),
         Err(ParseError::OutOfMemory) => return Err(SharedRunFault::OutOfMemory),
     };
-    // Only for the proof: there are few lines.
-    let _ = trace.len();
     let header = trace.header();
     if let Some(fault) = line_fault(header.owners, trace.requests()) {
         return Err(SharedRunFault::Trace(fault));

@@ -1,7 +1,8 @@
-use Rattle.std.proofs.Common.{◌≡◌, None, Some, Err, ap, sym, ◌∙◌}
+use Rattle.std.proofs.Common.{◌≡◌, ◌<◌, List, length, None, Some, Err, ap, sym, subst, ◌∙◌}
 use Rattle.rh_mutator.specs.Config.{fault_of}
 use Rattle.rh_text.specs.lemmas.Appends.{Keeps-same}
 use Rattle.rh_syntax.specs.declared.line.Header.{Header}
+use Rattle.rh_syntax.specs.declared.request.Request.{Request}
 use Rattle.rh_trace.specs.Run.{config_of}
 use Rattle.rh_increment.specs.SharedConfig.{shared_fault_of}
 use Rattle.rh_shared_trace.specs.Lines.{line_fault}
@@ -9,6 +10,10 @@ use Rattle.rh_shared_trace.specs.Options.{shared_config_of}
 use Rattle.rh_shared_trace.specs.Run.{IsSharedRun, IsSharedTrace}
 use Rattle.rh_shared_trace.proofs.Ending.{ends-where_written, none-where}
 use Rattle.rh_shared_trace.proofs.running.run_input.Goals as goal
+
+pub line_fault-requires : goal.line_fault-requires
+line_fault-requires g c =
+    subst (λ (requests : List Request). length requests < 1048576) (sym c.requests.ensures) c.in-Ok.ensures.found.0.few
 
 pub returns-in-Err-Config-clause-ends : goal.returns-in-Err-Config-clause-ends
 returns-in-Err-Config-clause-ends g c =
