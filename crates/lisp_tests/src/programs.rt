@@ -94,6 +94,23 @@ const PROGRAMS: &[(&[u8], &[u8])] = &[
         b"(define (f x) (car x)) (define old car) (define (car x) (old (old x))) (write (f '((1))))",
         b"1",
     ),
+    (
+        b"(define (f x) (car x)) (set! car cdr) (write (f '(1 2)))",
+        b"(2)",
+    ),
+    (
+        b"(begin (define (append a b) 'mine)) (write (append 1 2)) (write (string-append \"a\" \"b\"))",
+        b"mine\"ab\"",
+    ),
+    (
+        b"(define a 1) (define (f) (begin (define a 2)) a) (write (f)) (write a)",
+        b"21",
+    ),
+    (b"(define (not x) 'mine) (write (not 1))", b"mine"),
+    (
+        b"(write (map + '(1 2) '(10 20) '(100 200 300))) (for-each (lambda (a b) (write (- a b))) '(5 6) '(1 2))",
+        b"(111 222)44",
+    ),
 ];
 
 /// Programs that stop, and their messages.
@@ -133,6 +150,11 @@ const STOPS: &[(&[u8], &[u8])] = &[
     ),
     (b"(display unknown)", b"p:1:10: unknown: unbound variable"),
     (b"(set! unknown 1)", b"p:1:7: unknown: unbound variable"),
+    (
+        b"(define (f . l) (define a b) (define b 1) a) (display (f 1 2 3))",
+        b"p:1:27: b: unbound variable",
+    ),
+    (b"(for-each display 5)", b"p:1:1: car: not a pair"),
     (b"(list-tail '(1 2) 3)", b"p:1:1: cdr: not a pair"),
     (
         b"(define (f x) (error \"bad:\" x 'y)) (display (f 1))",
@@ -156,6 +178,7 @@ const FAULTS: &[(&[u8], &[u8])] = &[
     (b"(quote 1 2)", b"1:1: bad form"),
     (b"(define x 1 2)", b"1:1: bad form"),
     (b"(display (let ((x)) x))", b"1:10: bad form"),
+    (b"(define (f) (if #t (define x 1)))", b"1:20: bad form"),
     (b"(lambda (x 1) x)", b"1:1: not a name"),
 ];
 
