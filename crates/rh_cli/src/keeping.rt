@@ -25,7 +25,18 @@ impl<R, A: Allocator> KeptReader<R, A> {
         }
     }
 
-    /// All bytes that it gave, or none where memory was refused for them.
+    /// A reader that gives the bytes of another, and keeps none.
+    pub fn passing(alloc: A, reader: R) -> KeptReader<R, A>
+        ensures { result.reader ≡ reader }
+    {
+        KeptReader {
+            reader,
+            kept: Vec::new(alloc),
+            is_whole: false,
+        }
+    }
+
+    /// All bytes that it gave, or none where it keeps none, or where memory was refused for them.
     pub fn kept(&self) -> Option<&[u8]> {
         if self.is_whole {
             Some(self.kept.as_slice())

@@ -293,7 +293,7 @@ where
     let (out, history, mut cycles) = outputs_of(rt, &ask.views)?;
     let mut out = gathering(rt.alloc(), out)?;
     let mut history = gathering(rt.alloc(), history)?;
-    let mut kept = KeptReader::new(rt.alloc(), reader);
+    let mut kept = kept_if(rt.alloc(), reader, explains);
     Ok(drive_viewed(
         threads,
         rt.alloc(),
@@ -305,6 +305,14 @@ where
         err,
         explains,
     ))
+}
+
+/// A reader of what this one gives, which keeps it where a fault is to be explained.
+fn kept_if<I: Read + Drop>(alloc: Global, reader: I, explains: bool) -> KeptReader<I, Global> {
+    if explains {
+        return KeptReader::new(alloc, reader);
+    }
+    KeptReader::passing(alloc, reader)
 }
 
 /// A writer that gathers what is written before the other writes it.
