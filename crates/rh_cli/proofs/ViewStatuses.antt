@@ -24,7 +24,7 @@ use Rattle.rh_paced_trace.specs.Run.{IsRun as IsPacedRun, sum_of}
 use Rattle.rh_cli.specs.Paced.{IsPacedStatus, paced_status}
 use Rattle.rh_cli.specs.Fault.{IsLateStatus, status_of}
 use Rattle.rh_cli.specs.Replay.{IsJudged, IsReplayStatus}
-use Rattle.rh_cli.specs.Views.{ConcludesViewed, IsViewStatus, ReportEnds, json_counts, told_report, view_status}
+use Rattle.rh_cli.specs.Views.{ConcludesViewed, IsViewStatus, ReportEnds, told_counts, told_report, view_status}
 use Rattle.rh_cli.specs.declared.ask.Subcommand.{Subcommand}
 use Rattle.rh_cli.specs.declared.ask.Subcommand.TheVariants.{Run, RunPaced, RunGrowing, Threads, Replay, Dump, Dot, Draw, Session, Completions}
 use Rattle.rh_cli.specs.declared.fault.LineFault.{LineFault}
@@ -95,7 +95,7 @@ viewed_late telling Run input status w c = late_of_three status (view_is_0_1_or_
 viewed_late telling (RunPaced mark) input status w c = late_of_three status (paced_is_0_1_or_3 c.0 status c.2)
 viewed_late telling (RunGrowing at_most) input status w c = late_of_three status (paced_is_0_1_or_3 c.0 status c.2)
 viewed_late telling Replay input status w c = late_of_four status (report_is_0_1_3_or_4 telling input c.0.0 status w.old w.new c.0.1 c.0.2)
-viewed_late telling Dump input status w c = late_of_three status (count_is_0_1_or_3 json_counts input c.0.0 status w.old w.new c.0.1 c.0.2)
+viewed_late telling Dump input status w c = late_of_three status (count_is_0_1_or_3 (told_counts telling) input c.0.0 status w.old w.new c.0.1 c.0.2)
 viewed_late telling (Threads replicators idle) input status w c = concludes_late (Threads replicators idle) input status w.old w.new c.0
 viewed_late telling Dot input status w c = concludes_late Dot input status w.old w.new c.0
 viewed_late telling (Draw line) input status w c = concludes_late (Draw line) input status w.old w.new c.0
@@ -139,5 +139,5 @@ pub viewed_replay_4 : (telling : Telling) (input : List ℕ) (w : Written) → C
 viewed_replay_4 telling input w c = report_is_4 telling input c.0.0 w.old w.new c.0.1 c.0.2
 
 pub viewed_dump_0 : (telling : Telling) (input : List ℕ) (w : Written) → ConcludesViewed telling Dump input 0 w
-    → (g : GraphState) × (graph_of_text input ≡ Ok g) × Appends w.old w.new (json_counts g)
-viewed_dump_0 telling input w c = count_is_0 json_counts input c.0.0 w.old w.new c.0.1 c.0.2
+    → (g : GraphState) × (graph_of_text input ≡ Ok g) × Appends w.old w.new (told_counts telling g)
+viewed_dump_0 telling input w c = count_is_0 (told_counts telling) input c.0.0 w.old w.new c.0.1 c.0.2

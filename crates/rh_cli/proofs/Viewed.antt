@@ -5,7 +5,7 @@ use Rattle.rh_viewed_trace.specs.Run.{Written}
 use Rattle.rh_viewed_trace.specs.declared.telling.Telling.{Telling}
 use Rattle.rh_cli.specs.Drive.{Concludes}
 use Rattle.rh_cli.specs.Count.{ConcludesDump}
-use Rattle.rh_cli.specs.Views.{ConcludesReport, ConcludesViewed, KeepsOthers, json_counts}
+use Rattle.rh_cli.specs.Views.{ConcludesReport, ConcludesViewed, KeepsOthers, told_counts}
 use Rattle.rh_cli.specs.declared.ask.Subcommand.{Subcommand}
 use Rattle.rh_cli.specs.declared.ask.Subcommand.TheVariants.{Run, RunPaced, RunGrowing, Threads, Replay, Dump, Dot, Draw, Session, Completions}
 
@@ -30,7 +30,7 @@ viewed_check telling subcommand status old new history cycles is input ends =
     subst (λ (s : Subcommand). ConcludesViewed telling s input status (told_alone old new history cycles)) (sym is) (ends, others_kept old new history cycles)
 
 pub viewed_count : (telling : Telling) (subcommand : Subcommand) (status : ℕ) (old new history cycles : Option (List ℕ)) → subcommand ≡ Dump
-    → (input : List ℕ) → ConcludesDump json_counts input status old new → ConcludesViewed telling subcommand input status (told_alone old new history cycles)
+    → (input : List ℕ) → ConcludesDump (told_counts telling) input status old new → ConcludesViewed telling subcommand input status (told_alone old new history cycles)
 viewed_count telling subcommand status old new history cycles is input ends =
     subst (λ (s : Subcommand). ConcludesViewed telling s input status (told_alone old new history cycles)) (sym is) (ends, others_kept old new history cycles)
 

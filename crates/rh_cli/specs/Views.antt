@@ -21,7 +21,7 @@ use Rattle.rh_cli.specs.declared.ask.Subcommand.{Subcommand}
 use Rattle.rh_cli.specs.declared.ask.Subcommand.TheVariants.{Run, RunPaced, RunGrowing, Replay, Dump}
 use Rattle.rh_cli.specs.declared.fault.LineFault.{LineFault}
 use Rattle.rh_cli.specs.declared.fault.LineFault.TheVariants as faults
-use Rattle.rh_cli.specs.Count.{ConcludesDump}
+use Rattle.rh_cli.specs.Count.{ConcludesDump, counts_line}
 use Rattle.rh_cli.specs.Drive.{Concludes}
 use Rattle.rh_cli.specs.Paced.{IsPacedStatus}
 use Rattle.rh_cli.specs.Replay.{IsJudged, IsReplayStatus}
@@ -99,6 +99,12 @@ ConcludesReport telling input status old new =
 abbrev pub json_counts : GraphState → List ℕ
 json_counts g = json_dump (length g.roots) (length g.objects)
 
+-- the counts of a graph, as they are told
+abbrev pub told_counts : Telling → GraphState → List ℕ
+told_counts Answers = counts_line
+told_counts Echo = counts_line
+told_counts Json = json_counts
+
 -- nothing was written but to the first writer
 abbrev pub KeepsOthers : Written → Type 0
 KeepsOthers w = Keeps w.history_old w.history_new × Keeps w.cycles_old w.cycles_new
@@ -114,6 +120,6 @@ ConcludesViewed telling (RunGrowing at_most) input status w =
 ConcludesViewed telling Replay input status w =
     ConcludesReport telling input status w.old w.new × KeepsOthers w
 ConcludesViewed telling Dump input status w =
-    ConcludesDump json_counts input status w.old w.new × KeepsOthers w
+    ConcludesDump (told_counts telling) input status w.old w.new × KeepsOthers w
 ConcludesViewed telling subcommand input status w =
     Concludes subcommand input status w.old w.new × KeepsOthers w

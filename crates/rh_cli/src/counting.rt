@@ -36,7 +36,7 @@ pub fn count<A: Allocator + Copy, R: Read, O: Write>(
 }
 
 /// The text becomes the line of a graph's counts.
-fn put_counts<A: Allocator>(text: &mut LineText, graph: &Graph<A>)
+pub(crate) fn put_counts<A: Allocator>(text: &mut LineText, graph: &Graph<A>)
     ensures { text.new ≡ counts_line graph.now }
 {
     text.clear();

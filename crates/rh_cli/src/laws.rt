@@ -40,7 +40,7 @@ ghost use Rattle.rh_cli.specs.Paced.{paced_status};
 ghost use Rattle.rh_cli.specs.Replay.{IsJudged};
 ghost use Rattle.rh_text.specs.RawLine.{lines_of};
 ghost use Rattle.rh_shell.specs.Session.{IsSession};
-ghost use Rattle.rh_cli.specs.Views.{json_counts, told_report, ConcludesViewed};
+ghost use Rattle.rh_cli.specs.Views.{told_counts, told_report, ConcludesViewed};
 ghost use Rattle.rh_viewed_trace.specs.declared.telling.Telling.{Telling as TellingOf};
 ghost use Rattle.rh_viewed_trace.specs.Cycles.{cycles_text};
 ghost use Rattle.rh_viewed_trace.specs.Run.{run_cycles, run_history, view_of_run, IsRun as IsViewedRun, Written};
@@ -252,7 +252,7 @@ pub fn what_is_viewed_ends_with_the_same_statuses()
     ensures dump { (telling : TellingOf) (input : List ℕ) (w : Written)
         → ConcludesViewed telling SubcommandOf.Dump input 0 w
         → (g : GraphState) × (graph_of_text input ≡ Ok g)
-        × Appends w.old w.new (json_counts g) }
+        × Appends w.old w.new (told_counts telling g) }
 {}
 
 /// Command lines, and what they ask: a subcommand and its file, where `-` is a file's name too. A

@@ -5,9 +5,9 @@ ghost use Rattle.std.specs.Io.KnownBytes.{Consumes};
 ghost use Rattle.rh_dump.specs.texts.Reading.{graph_of_text};
 ghost use Rattle.rh_cli.specs.Count.{ConcludesDump};
 ghost use Rattle.rh_cli.specs.Fault.{status_after, IsUsualFault};
-ghost use Rattle.rh_cli.specs.Views.{json_counts, told_report, ConcludesReport, ReportEnds};
+ghost use Rattle.rh_cli.specs.Views.{told_counts, told_report, ConcludesReport, ReportEnds};
 
-use crate::counting::conclude as conclude_count;
+use crate::counting::{conclude as conclude_count, put_counts};
 use crate::ending::Ending;
 use crate::fault::LineFault;
 use crate::replaying::conclude;
@@ -115,38 +115,56 @@ fn report_on<A: Allocator + Copy, O: Write>(
     }
 }
 
-/// Reads the dump that the reader gives, and writes how many roots and objects it has, as an object
-/// of JSON. A failed flush is a failed write.
+/// Reads the dump that the reader gives, and writes how many roots and objects it has, as it is to
+/// be told: as a line, or as an object of JSON. A failed flush is a failed write.
 pub(crate) fn view_count<A: Allocator + Copy, R: Read, O: Write>(
     alloc: A,
     reader: &mut R,
+    telling: Telling,
     out: &mut O,
 ) -> Result<Ending, LineFault>
-    ensures told { IfSome (R.remaining reader.old) (λ input. ConcludesDump json_counts input
-        (status_after result) (O.contents out.old) (O.contents out.new)) }
+    ensures told { IfSome (R.remaining reader.old) (λ input. ConcludesDump (told_counts telling)
+        input (status_after result) (O.contents out.old) (O.contents out.new)) }
     ensures read { (input : List ℕ)
         × Consumes (R.remaining reader.old) (R.remaining reader.new) input
-        × ConcludesDump json_counts input (status_after result) (O.contents out.old)
+        × ConcludesDump (told_counts telling) input (status_after result) (O.contents out.old)
         (O.contents out.new) }
     ensures late { IfErr result (λ fault. IsUsualFault fault) }
 {
     match read_dump(alloc, reader) {
-        Ok(graph) => write_count(&graph, out),
+        Ok(graph) => write_count(&graph, telling, out),
         Err(DumpReadError::Fault(fault)) => Err(LineFault::Dump(fault)),
         Err(DumpReadError::Read) => Err(LineFault::Read),
         Err(DumpReadError::OutOfMemory) => Err(LineFault::OutOfMemory),
     }
 }
 
-/// Writes the object of a graph's counts, and flushes it.
-fn write_count<A: Allocator, O: Write>(graph: &Graph<A>, out: &mut O) -> Result<Ending, LineFault>
+/// The text becomes the counts of a graph, as they are to be told.
+fn put_told_counts<A: Allocator>(text: &mut LineText, graph: &Graph<A>, telling: Telling)
+    ensures { text.new ≡ told_counts telling graph.now }
+{
+    match telling {
+        Telling::Answers => put_counts(text, graph),
+        Telling::Echo => put_counts(text, graph),
+        Telling::Json => {
+            put_json_dump(text, graph.roots() as usize, graph.objects() as usize);
+        }
+    }
+}
+
+/// Writes the counts of a graph, and flushes them.
+fn write_count<A: Allocator, O: Write>(
+    graph: &Graph<A>,
+    telling: Telling,
+    out: &mut O,
+) -> Result<Ending, LineFault>
     ensures concluded { (input : List ℕ) → graph_of_text input ≡ Ok graph.now
-        → ConcludesDump json_counts input (status_after result) (O.contents out.old)
+        → ConcludesDump (told_counts telling) input (status_after result) (O.contents out.old)
         (O.contents out.new) }
     ensures late { IfErr result (λ fault. IsUsualFault fault) }
 {
     let mut text = LineText::new();
-    put_json_dump(&mut text, graph.roots() as usize, graph.objects() as usize);
+    put_told_counts(&mut text, graph, telling);
     let sent = send(out, &mut IoLog::new(), text.as_bytes());
     let flushed = out.flush();
     conclude_count(sent, flushed.is_ok())

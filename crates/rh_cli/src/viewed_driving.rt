@@ -158,7 +158,7 @@ where
             view_run_by_growth(alloc, reader, at_most, telling, out, history, cycles)
         }
         Subcommand::Replay => view_report(alloc, reader, telling, out),
-        Subcommand::Dump => view_count(alloc, reader, out),
+        Subcommand::Dump => view_count(alloc, reader, telling, out),
         _ => act(rt, alloc, subcommand, reader, out),
     }
 }

@@ -1,4 +1,4 @@
-use Rattle.rh_cli.specs.Views.{json_counts}
+use Rattle.rh_cli.specs.Views.{told_counts}
 use Rattle.rh_cli.proofs.Counted.{known_so, fault_read, uncounted_fault, uncounted_read, uncounted_memory}
 use Rattle.rh_cli.proofs.Inputs.{any_input}
 use Rattle.rh_cli.proofs.reporting.view_count.Goals as goal
@@ -13,27 +13,27 @@ returns-in-Ok-clause-read g c =
 
 pub returns-in-Err-Fault-clause-told : goal.returns-in-Err-Fault-clause-told
 returns-in-Err-Fault-clause-told g c =
-    known_so _ _ (g.R.Read.remaining c.args.reader.now) (λ input read. uncounted_fault json_counts input c.in-Err-Fault.fault (g.O.Write.contents c.args.out.now) (fault_read c.in-Err-Fault.field-0 c.in-Err-Fault.fault input c.in-Err-Fault.field-0-is read)) c.in-Err-Fault.ensures.told
+    known_so _ _ (g.R.Read.remaining c.args.reader.now) (λ input read. uncounted_fault (told_counts c.args.telling) input c.in-Err-Fault.fault (g.O.Write.contents c.args.out.now) (fault_read c.in-Err-Fault.field-0 c.in-Err-Fault.fault input c.in-Err-Fault.field-0-is read)) c.in-Err-Fault.ensures.told
 
 pub returns-in-Err-Fault-clause-read : goal.returns-in-Err-Fault-clause-read
 returns-in-Err-Fault-clause-read g c =
     let given = c.in-Err-Fault.ensures.bytes in
-    (given.0, given.1, uncounted_fault json_counts given.0 c.in-Err-Fault.fault (g.O.Write.contents c.args.out.now) (fault_read c.in-Err-Fault.field-0 c.in-Err-Fault.fault given.0 c.in-Err-Fault.field-0-is given.2))
+    (given.0, given.1, uncounted_fault (told_counts c.args.telling) given.0 c.in-Err-Fault.fault (g.O.Write.contents c.args.out.now) (fault_read c.in-Err-Fault.field-0 c.in-Err-Fault.fault given.0 c.in-Err-Fault.field-0-is given.2))
 
 pub returns-in-Err-Read-clause-told : goal.returns-in-Err-Read-clause-told
 returns-in-Err-Read-clause-told g c =
-    any_input _ (g.R.Read.remaining c.args.reader.now) (λ input. uncounted_read json_counts input (g.O.Write.contents c.args.out.now))
+    any_input _ (g.R.Read.remaining c.args.reader.now) (λ input. uncounted_read (told_counts c.args.telling) input (g.O.Write.contents c.args.out.now))
 
 pub returns-in-Err-Read-clause-read : goal.returns-in-Err-Read-clause-read
 returns-in-Err-Read-clause-read g c =
     let given = c.read_dump.ensures.bytes in
-    (given.0, given.1, uncounted_read json_counts given.0 (g.O.Write.contents c.args.out.now))
+    (given.0, given.1, uncounted_read (told_counts c.args.telling) given.0 (g.O.Write.contents c.args.out.now))
 
 pub returns-in-Err-OutOfMemory-clause-told : goal.returns-in-Err-OutOfMemory-clause-told
 returns-in-Err-OutOfMemory-clause-told g c =
-    any_input _ (g.R.Read.remaining c.args.reader.now) (λ input. uncounted_memory json_counts input (g.O.Write.contents c.args.out.now))
+    any_input _ (g.R.Read.remaining c.args.reader.now) (λ input. uncounted_memory (told_counts c.args.telling) input (g.O.Write.contents c.args.out.now))
 
 pub returns-in-Err-OutOfMemory-clause-read : goal.returns-in-Err-OutOfMemory-clause-read
 returns-in-Err-OutOfMemory-clause-read g c =
     let given = c.read_dump.ensures.bytes in
-    (given.0, given.1, uncounted_memory json_counts given.0 (g.O.Write.contents c.args.out.now))
+    (given.0, given.1, uncounted_memory (told_counts c.args.telling) given.0 (g.O.Write.contents c.args.out.now))

@@ -1,6 +1,5 @@
-use Rattle.std.proofs.Common.{ap₂, ◌∙◌}
-use Rattle.rh_viewed_trace.specs.Json.{json_dump}
-use Rattle.rh_cli.specs.Views.{json_counts}
+use Rattle.std.proofs.Common.{◌∙◌}
+use Rattle.rh_cli.specs.Views.{told_counts}
 use Rattle.rh_cli.specs.Fault.{status_after}
 use Rattle.rh_cli.proofs.Counted.{counted}
 use Rattle.rh_cli.proofs.reporting.write_count.Goals as goal
@@ -8,5 +7,5 @@ use Rattle.rh_cli.proofs.reporting.write_count.Goals as goal
 pub returns-clause-concluded : goal.returns-clause-concluded
 returns-clause-concluded g c =
     let contents = g.O.Write.contents in
-    counted json_counts c.send-sent.result (status_after c.conclude.result) c.args.graph.now c.as_bytes.result.now (contents c.args.out.now) (contents c.send-sent.new.writer) (contents c.flush-flushed.new.self)
-    (c.as_bytes.ensures ∙ c.put_json_dump.ensures ∙ ap₂ json_dump c.roots.ensures.value c.objects.ensures) c.send-sent.ensures.ok c.send-sent.ensures.err c.flush-flushed.ensures.bytes c.conclude.ensures.status
+    counted (told_counts c.args.telling) c.send-sent.result (status_after c.conclude.result) c.args.graph.now c.as_bytes.result.now (contents c.args.out.now) (contents c.send-sent.new.writer) (contents c.flush-flushed.new.self)
+    (c.as_bytes.ensures ∙ c.put_told_counts.ensures) c.send-sent.ensures.ok c.send-sent.ensures.err c.flush-flushed.ensures.bytes c.conclude.ensures.status
