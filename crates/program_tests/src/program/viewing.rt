@@ -1,13 +1,15 @@
 //! What is asked for, seen in other ways: what goes to each of the writers.
 
+use crate::devices::Unflushed;
 use crate::expectations::{Row, expect_bytes, expect_equal, expect_prefix, expect_refusals};
 use crate::texts::{
     COLUMNS, RIGHT, STORED, STORED_HISTORY, TWO_FLIPS, TWO_FLIPS_ANSWERS, WHOLE_CYCLE,
     WHOLE_CYCLE_ANSWERS, WITHOUT_FIELDS, WRONG, WRONG_REPORT,
 };
-use refusing::{RefusingAllocator, refused_in_turn};
+use refusing::refused_in_turn;
 use rh_cli::{Ask, KeptReader, Subcommand, Telling, Views, drive_viewed};
 use std::alloc::Allocator;
+use std::io::{self, Write};
 use std::process::Abort;
 use std::sync::Wait;
 use std::thread::Threads;
@@ -217,6 +219,13 @@ const VIEWED: &[Viewed] = &[
     ),
     (
         Subcommand::Dump,
+        Telling::Echo,
+        b"rheap 2\nroots 1\n1.0 @0\nobjects 2\n@0 1 @1\n@1 0\nend\n",
+        0,
+        [b"roots 1 objects 2\n", b"", b"", b""],
+    ),
+    (
+        Subcommand::Dump,
         Telling::Json,
         b"rheap 2\nroots x\n",
         1,
@@ -244,7 +253,7 @@ where
     R: AllocGlobal + Abort + Threads + Wait + Sync,
     A: Allocator + Copy + Send,
 {
-    let mut reader = KeptReader::new(memory, text);
+    let mut reader = KeptReader::passing(memory, text);
     let mut out = Vec::new(rt.alloc());
     let mut history = Vec::new(rt.alloc());
     let mut cycles = Vec::new(rt.alloc());
@@ -322,34 +331,66 @@ fn each_cycle_has_its_line(rt: HostRuntime) {
     }
 }
 
-/// Whether memory was refused. That is told, and what was written is a prefix without a history; or
-/// it was for the copy of the input, and all is written.
-fn is_refused<R, A>(rt: &R, memory: &RefusingAllocator<A>) -> bool
+/// Runs a trace on these writers, of which a flush fails: that is a failed write.
+fn expect_write_fault<R, O, H, C>(rt: &R, out: &mut O, history: &mut H, cycles: &mut C)
 where
     R: AllocGlobal + Abort + Threads + Wait + Sync,
-    A: Allocator + Copy + Send + Sync,
+    O: Write,
+    H: Write,
+    C: Write,
+{
+    let mut reader = KeptReader::passing(rt.alloc(), STORED);
+    let mut err = Vec::new(rt.alloc());
+    let ask = told(Subcommand::Run, Telling::Json);
+    let status = drive_viewed(
+        rt,
+        rt.alloc(),
+        &ask,
+        &mut reader,
+        out,
+        history,
+        cycles,
+        &mut err,
+        false,
+    );
+    expect_equal(rt, status, 1);
+    expect_bytes(rt, &err, b"{\"fault\":\"write failed\"}\n");
+}
+
+#[test]
+fn a_failed_flush_of_each_writer_is_a_failed_write(rt: HostRuntime) {
+    expect_write_fault(&rt, &mut Unflushed, &mut io::sink(), &mut io::sink());
+    expect_write_fault(&rt, &mut io::sink(), &mut Unflushed, &mut io::sink());
+    expect_write_fault(&rt, &mut io::sink(), &mut io::sink(), &mut Unflushed);
+}
+
+/// Whether memory was refused. What is told is then a prefix, and no history is written.
+fn is_refused<R, A>(rt: &R, memory: A) -> bool
+where
+    R: AllocGlobal + Abort + Threads + Wait + Sync,
+    A: Allocator + Copy + Send,
 {
     let ask = told(Subcommand::Run, Telling::Json);
     let (status, written) = viewed(rt, memory, &ask, STORED);
     if status == 3 {
         expect_prefix(rt, STORED_JSON, &written.out);
         expect_equal(rt, written.history.len(), 0);
+        expect_prefix(rt, COLUMNS, &written.cycles);
         assert!(rt;
             written.err.starts_with(b"rheap: out of memory")
                 || written.err.starts_with(b"{\"fault\"")
         );
-    } else {
-        expect_equal(rt, status, 0);
-        expect_bytes(rt, &written.out, STORED_JSON);
-        expect_bytes(rt, &written.history, STORED_HISTORY);
+        return true;
     }
-    memory.has_refused()
+    expect_equal(rt, status, 0);
+    expect_bytes(rt, &written.out, STORED_JSON);
+    expect_bytes(rt, &written.history, STORED_HISTORY);
+    expect_bytes(rt, &written.cycles, COLUMNS);
+    false
 }
 
 #[test]
 fn each_allocation_of_a_view_is_refused_in_turn(rt: HostRuntime) {
-    let refused = refused_in_turn(rt.alloc(), |memory: &RefusingAllocator<_>| {
-        is_refused(&rt, memory)
-    });
+    let refused = refused_in_turn(rt.alloc(), |memory| is_refused(&rt, memory));
     expect_refusals(&rt, refused, 5);
 }
