@@ -74,9 +74,10 @@ Its pace is in time whatever lives, and its log as long as the pace asks for, so
 used. SpaceFull comes only once the heap has N words and these are too few, or where memory for
 more was refused; LogFull too, where N is at most 349000 times RATIO.
 
-A run can be seen in other ways, each beside the others; OUT is a file, or - for standard output in
-place of the answers:
-  --echo         each line's number, its text and its answer, with tabs between
+A run can be seen in other ways. --echo or --json, --history and --cycles can stand together, but
+standard output has one text alone. OUT is a file, or - for standard output in place of answers. It
+is emptied before FILE is read, also where a line has a fault: give it a file of its own.
+  --echo         of each line but the first its number, its text and its answer, with tabs between
   --json         objects of JSON, one a line; a fault is one too
   --history OUT  the commands that no limit refused, with their answers: `rheap replay` reads it
   --cycles OUT   a line of numbers for each cycle as it ends, with tabs between, and a head line
@@ -99,7 +100,7 @@ file's line comes after it, carets under the part that is wrong, and what may st
                  need N, WORDS is below N
   open failed    the file isn't there, or may not be read
   read failed    it is a folder, or its device failed
-  write failed   standard output is closed or full, or its device failed
+  write failed   standard output or an OUT is closed or full, can't be made, or its device failed
   too long       the file has more than 16777216 bytes
   out of memory  the status is 3
 
