@@ -4,3 +4,4 @@ mod Typed
 mod Runs
 mod Lines
 mod Taken
+mod Logged

@@ -95,6 +95,11 @@ pub stop_write : {X : Type 0} (e : Stop) (f : ShellFault) → f ≡ fault_of_sto
 stop_write stops.Write f is same = refl
 stop_write stops.OutOfMemory f is same = absurd cc
 
+-- a stop that is a failed write is the fault Write
+pub write_stop : {X Y : Type 0} (e : Stop) (f : ShellFault) → f ≡ fault_of_stop e → ◌≡◌ {A = Result X Stop} (Err e) (Err stops.Write) → ◌≡◌ {A = Result Y ShellFault} (Err f) (Err faults.Write)
+write_stop stops.Write f is same = ap Err is
+write_stop stops.OutOfMemory f is same = absurd cc
+
 -- what stopped stays so, whatever is typed after it
 stops_before : (typed more all before : List ℕ) (old new : Option (List ℕ)) → all ≡ typed ++ more → Stopped typed before old new → Stopped all before old new
 stops_before typed more all before old new is q = (q.0, λ rest. subst (λ (x : List ℕ). AnswersFirst x (before ++ q.0)) (sym (append_assoc typed more rest) ∙ ap (λ (x : List ℕ). x ++ rest) (sym is)) (q.1 (more ++ rest)), q.2)

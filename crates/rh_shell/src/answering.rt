@@ -2,7 +2,7 @@
 
 ghost use Rattle.std.specs.Prelude.{◌≡◌, ◌≤◌, List, ℕ, IsErrOf, OnOk, IfSome, None, false};
 ghost use Rattle.rh_core.specs.Config.{fault_of};
-ghost use Rattle.rh_text.specs.IoLog.{AreSpent};
+ghost use Rattle.rh_text.specs.IoLog.{AreSpent, AreSpentSince, MadeSince};
 ghost use Rattle.rh_trace.specs.Answers.{answered_text};
 ghost use Rattle.rh_trace.specs.Run.{config_of, request_step};
 ghost use Rattle.rh_shell.specs.Session.{own_of, IsAnswer, IsCounted, IsCyclesAnswer, IsDrawAnswer, IsHeapAnswer, IsOtherAnswer, SessionState, session_after, WritesSome};
@@ -29,8 +29,10 @@ const TITLE: &str = "The heap of the session";
 fn tell<W: io::Write>(writer: &mut W, writes: &mut IoLog, text: &[u8]) -> Result<(), Stop>
     requires { writes.old.failed ≡ false }
     ensures written { WritesSome text.now result (W.contents writer.old) (W.contents writer.new) }
-    ensures none_failed { OnOk result (writes.new.failed ≡ false) }
+    ensures none_failed { ¬ IsErrOf result Stop.Write → writes.new.failed ≡ false }
     ensures failed { IsErrOf result Stop.Write → AreSpent writes.new }
+    ensures spent { IsErrOf result Stop.Write → AreSpentSince writes.old writes.new }
+    ensures made { MadeSince 0 writes.old writes.new }
 {
     match send(writer, writes, text) {
         Ok(()) => Ok(()),
@@ -47,8 +49,10 @@ fn answer_cycles<A: Allocator + Copy, W: io::Write>(
     requires { writes.old.failed ≡ false }
     ensures told { (text : List ℕ) × IsCyclesAnswer playing.now text
         × WritesSome text result (W.contents writer.old) (W.contents writer.new) }
-    ensures none_failed { OnOk result (writes.new.failed ≡ false) }
+    ensures none_failed { ¬ IsErrOf result Stop.Write → writes.new.failed ≡ false }
     ensures failed { IsErrOf result Stop.Write → AreSpent writes.new }
+    ensures spent { IsErrOf result Stop.Write → AreSpentSince writes.old writes.new }
+    ensures made { MadeSince 0 writes.old writes.new }
 {
     let Some(playing) = playing else {
         let mut text = LineText::new();
@@ -116,8 +120,10 @@ fn answer_other<A: Allocator + Copy, W: io::Write, H: Host>(
         × IsOtherAnswer (own_of (record { bytes = line.now; ended = ended })) session.now.playing
         kind text
         × WritesSome text result (W.contents writer.old) (W.contents writer.new) }
-    ensures none_failed { OnOk result (writes.new.failed ≡ false) }
+    ensures none_failed { ¬ IsErrOf result Stop.Write → writes.new.failed ≡ false }
     ensures failed { IsErrOf result Stop.Write → AreSpent writes.new }
+    ensures spent { IsErrOf result Stop.Write → AreSpentSince writes.old writes.new }
+    ensures made { MadeSince 0 writes.old writes.new }
 {
     let mut text = LineText::new();
     match own_of(line, ended) {
@@ -154,8 +160,10 @@ fn begin<A: Allocator + Copy, W: io::Write>(
         × OnOk result (session.new ≡ next)
         × WritesSome text result (W.contents writer.old) (W.contents writer.new) }
     ensures counted { OnOk result (IsCounted session.new) }
-    ensures none_failed { OnOk result (writes.new.failed ≡ false) }
+    ensures none_failed { ¬ IsErrOf result Stop.Write → writes.new.failed ≡ false }
     ensures failed { IsErrOf result Stop.Write → AreSpent writes.new }
+    ensures spent { IsErrOf result Stop.Write → AreSpentSince writes.old writes.new }
+    ensures made { MadeSince 0 writes.old writes.new }
 {
     match Heap::new(alloc, config_of(header)) {
         Ok(heap) => {
@@ -188,8 +196,10 @@ fn answer_request<A: Allocator + Copy, W: io::Write>(
         × WritesSome (answered_text (request_step p.engine request.now).1) result
         (W.contents writer.old) (W.contents writer.new)) }
     ensures counted { OnOk result (IsCounted session.new) }
-    ensures none_failed { OnOk result (writes.new.failed ≡ false) }
+    ensures none_failed { ¬ IsErrOf result Stop.Write → writes.new.failed ≡ false }
     ensures failed { IsErrOf result Stop.Write → AreSpent writes.new }
+    ensures spent { IsErrOf result Stop.Write → AreSpentSince writes.old writes.new }
+    ensures made { MadeSince 0 writes.old writes.new }
 {
     let number = session.number;
     let mut summary = session.summary;
@@ -226,8 +236,10 @@ pub(crate) fn answer_line<A: Allocator + Copy, W: io::Write, H: Host>(
         × OnOk result (session.new ≡ next)
         × WritesSome text result (W.contents writer.old) (W.contents writer.new) }
     ensures counted { OnOk result (IsCounted session.new) }
-    ensures none_failed { OnOk result (writes.new.failed ≡ false) }
+    ensures none_failed { ¬ IsErrOf result Stop.Write → writes.new.failed ≡ false }
     ensures failed { IsErrOf result Stop.Write → AreSpent writes.new }
+    ensures spent { IsErrOf result Stop.Write → AreSpentSince writes.old writes.new }
+    ensures made { MadeSince 0 writes.old writes.new }
 {
     if session.playing.is_none() {
         return match header_or_fault(line, ended) {

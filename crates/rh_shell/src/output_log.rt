@@ -1,6 +1,6 @@
 //! The calls of a writer that is flushed, and whether one failed.
 
-ghost use Rattle.std.specs.Prelude.{◌≡◌, true, OnErr};
+ghost use Rattle.std.specs.Prelude.{◌≡◌, false, true, IsErrOf, OnErr};
 ghost use Rattle.std.specs.Io.KnownBytes.{Keeps};
 ghost use Rattle.rh_shell.specs.OutputLog.{no_output};
 
@@ -9,8 +9,7 @@ use rh_trace::Stop;
 use std::io;
 use std::marker::Model;
 
-/// A log of the calls of a writer: of its writes, and whether its last flush failed. Only a call
-/// changes it, and after a failed call a session makes none.
+/// A log of the calls of a writer: of its writes, and whether its last flush failed.
 #[derive(Drop)]
 pub struct OutputLog {
     /// The log of the writes.
@@ -51,6 +50,7 @@ impl OutputLog {
         ensures kept { Keeps (W.contents writer.old) (W.contents writer.new) }
         ensures writes { self.new.writes ≡ self.old.writes }
         ensures failed { OnErr result (self.new.flush_failed ≡ true) }
+        ensures fine { ¬ IsErrOf result Stop.Write → self.new.flush_failed ≡ false }
     {
         match writer.flush() {
             Ok(()) => {

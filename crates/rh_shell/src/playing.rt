@@ -1,7 +1,7 @@
 //! The heap of a session, and the cycles that ended on it.
 
 ghost use Rattle.std.specs.Prelude.{◌≡◌, ◌+◌, ◌<◌, ◌≤◌, ◌^◌, false, IsErrOf, OnOk};
-ghost use Rattle.rh_text.specs.IoLog.{AreSpent};
+ghost use Rattle.rh_text.specs.IoLog.{AreSpent, AreSpentSince, MadeSince};
 ghost use Rattle.rh_shell.specs.Session.{answered_step, new_playing, read_after, WritesSome};
 ghost use Rattle.rh_trace.specs.Answers.{answered_text};
 ghost use Rattle.rh_trace.specs.Run.{request_step, summary_with};
@@ -86,8 +86,10 @@ impl<A: Allocator + Copy> Playing<A> {
         ensures few_roots { summary.new.root_words ≤ summary.old.root_words + 2 ^ 32 }
         ensures written { WritesSome (answered_text (request_step self.old.engine request.now).1)
             result (W.contents writer.old) (W.contents writer.new) }
-        ensures none_failed { OnOk result (writes.new.failed ≡ false) }
+        ensures none_failed { ¬ IsErrOf result Stop.Write → writes.new.failed ≡ false }
         ensures failed { IsErrOf result Stop.Write → AreSpent writes.new }
+        ensures spent { IsErrOf result Stop.Write → AreSpentSince writes.old writes.new }
+        ensures made { MadeSince 0 writes.old writes.new }
     {
         let mut text = LineText::new();
         let played = play_request(

@@ -3,7 +3,8 @@ use Rattle.rh_trace.specs.declared.summary.Summary.{Summary}
 use Rattle.rh_shell.specs.declared.fault.ShellFault.{ShellFault}
 use Rattle.rh_shell.specs.declared.fault.ShellFault.TheVariants as faults
 use Rattle.rh_shell.specs.OutputLog.{IsSpent}
-use Rattle.rh_shell.proofs.Taken.{ends_empty, ends_open, ends_stopped, read_not, stop_no_read, stop_write}
+use Rattle.rh_shell.proofs.Taken.{ends_empty, ends_open, ends_stopped, read_not, stop_no_read, stop_write, write_stop}
+use Rattle.rh_shell.proofs.Logged.{spent_then}
 use Rattle.rh_shell.proofs.shell.end_session.Goals as goal
 
 pub returns-then-is_empty-clause-ends : goal.returns-then-is_empty-clause-ends
@@ -38,3 +39,15 @@ returns-in-Err-clause-no_read g c = λ e. stop_no_read c.in-Err.stop c.fault_of.
 
 pub returns-in-Err-clause-failed : goal.returns-in-Err-clause-failed
 returns-in-Err-clause-failed g c = λ e. c.in-Err.ensures.failed (ap Err (stop_write c.in-Err.stop c.fault_of.result c.fault_of.ensures e))
+
+pub returns-in-Ok-clause-spent : goal.returns-in-Ok-clause-spent
+returns-in-Ok-clause-spent g c = λ e. spent_then c.args.log.now c.take_line.new.log c.finish-in-Ok.new.log c.in-Ok.ensures.made (c.finish-in-Ok.ensures.spent e)
+
+pub returns-in-Err-clause-none_failed : goal.returns-in-Err-clause-none_failed
+returns-in-Err-clause-none_failed g c = λ other. c.in-Err.ensures.none_failed (λ e. other (write_stop c.in-Err.stop c.fault_of.result c.fault_of.ensures e))
+
+pub returns-in-Err-clause-none_unflushed : goal.returns-in-Err-clause-none_unflushed
+returns-in-Err-clause-none_unflushed g c = λ other. c.in-Err.ensures.none_unflushed (λ e. other (write_stop c.in-Err.stop c.fault_of.result c.fault_of.ensures e))
+
+pub returns-in-Err-clause-spent : goal.returns-in-Err-clause-spent
+returns-in-Err-clause-spent g c = λ e. c.in-Err.ensures.spent (ap Err (stop_write c.in-Err.stop c.fault_of.result c.fault_of.ensures e))

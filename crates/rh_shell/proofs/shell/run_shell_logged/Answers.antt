@@ -1,9 +1,11 @@
 use Rattle.std.proofs.Common.{ℕ, List, [], sym, subst}
 use Rattle.rh_trace.proofs.WrittenInTurn.{ok_no_error}
+use Rattle.rh_shell.specs.declared.fault.ShellFault.TheVariants as faults
 use Rattle.rh_shell.specs.Session.{SessionState}
 use Rattle.rh_shell.specs.Typing.{IsAfter}
-use Rattle.rh_shell.proofs.Taken.{ends_early, ends_late}
+use Rattle.rh_shell.proofs.Taken.{ends_early, ends_late, fault_moved}
 use Rattle.rh_shell.proofs.Typed.{IsAfter-none}
+use Rattle.rh_shell.proofs.Logged.{spent_then}
 use Rattle.rh_shell.proofs.shell.run_shell_logged.Goals as goal
 
 pub read_lines-requires-clause-begun : goal.read_lines-requires-clause-begun
@@ -30,3 +32,15 @@ returns-in-Ok-clause-read_failed g c = λ e. absurd (c.end_session.ensures.no_re
 
 pub returns-in-Ok-clause-no_read_failed : goal.returns-in-Ok-clause-no_read_failed
 returns-in-Ok-clause-no_read_failed g c = λ other. c.in-Ok.ensures.no_read_failed (λ e. ok_no_error _ _ e)
+
+pub returns-in-Ok-clause-writes_spent : goal.returns-in-Ok-clause-writes_spent
+returns-in-Ok-clause-writes_spent g c = λ e. spent_then c.args.log.now c.read_lines.new.log c.end_session.new.log c.in-Ok.ensures.made (c.end_session.ensures.spent e)
+
+pub returns-clause-no_write_failed : goal.returns-clause-no_write_failed
+returns-clause-no_write_failed g c = λ other. c.in-Err.ensures.none_failed (λ e. other (fault_moved c.in-Err.fault faults.Write e))
+
+pub returns-clause-no_flush_failed : goal.returns-clause-no_flush_failed
+returns-clause-no_flush_failed g c = λ other. c.in-Err.ensures.none_unflushed (λ e. other (fault_moved c.in-Err.fault faults.Write e))
+
+pub returns-clause-writes_spent : goal.returns-clause-writes_spent
+returns-clause-writes_spent g c = λ e. c.in-Err.ensures.spent (fault_moved c.in-Err.fault faults.Write e)

@@ -12,3 +12,6 @@ returns-in-Ok-clause-told g c =
 
 pub returns-in-Ok-clause-failed : goal.returns-in-Ok-clause-failed
 returns-in-Ok-clause-failed g c = λ e. inr (subst (λ (r : Result (Unit {0}) Stop). OnErr r (c.flush.new.self.flush_failed ≡ true)) e c.flush.ensures.failed)
+
+pub returns-in-Ok-clause-spent : goal.returns-in-Ok-clause-spent
+returns-in-Ok-clause-spent g c = λ e. inr (subst (λ (r : Result (Unit {0}) Stop). OnErr r (c.flush.new.self.flush_failed ≡ true)) e c.flush.ensures.failed)
