@@ -1,7 +1,7 @@
 -- How a session ends the program.
-use Rattle.std.proofs.Common.{◌≡◌, ℕ, List, [], ◌++◌, Option, Result, Ok, Err, IfSome, inl, inr, refl, sym, ap, ◌∙◌, append_assoc}
+use Rattle.std.proofs.Common.{◌≡◌, ℕ, ◌⊎◌, List, [], ◌++◌, Option, Result, Ok, Err, IfSome, inl, inr, refl, sym, ap, subst, ◌∙◌, append_assoc}
 use Rattle.std.proofs.lemmas.List.{append-nil}
-use Rattle.std.specs.Io.KnownBytes.{Appends, Consumes}
+use Rattle.std.specs.Io.KnownBytes.{Appends, Consumes, IsAtEnd}
 use Rattle.rh_text.specs.Output.{AppendsPrefix}
 use Rattle.rh_text.specs.lemmas.Appends.{Appends-then}
 use Rattle.rh_text.specs.RawLine.{RawLine, lines_of}
@@ -10,7 +10,7 @@ use Rattle.rh_trace.specs.declared.summary.Summary.{Summary}
 use Rattle.rh_shell.specs.declared.fault.ShellFault.{ShellFault}
 use Rattle.rh_shell.specs.declared.fault.ShellFault.TheVariants as shell_faults
 use Rattle.rh_shell.specs.Session.{IsSession}
-use Rattle.rh_shell.specs.Typing.{Ends, StopsWithin}
+use Rattle.rh_shell.specs.Typing.{AnswersEnded, AnswersFirst, Ends, StopsWithin}
 use Rattle.rh_cli.specs.Session.{ConcludesSession, IsSessionStatus}
 use Rattle.rh_cli.proofs.Inputs.{begun_input, whole_input}
 
@@ -28,10 +28,15 @@ WritesFirst known left old new =
     (typed : List ℕ) × (lines : List RawLine) × (others : List RawLine) × (text : List ℕ) × (summary : Summary)
     × Consumes known left typed × (lines_of typed ≡ lines ++ others) × IsSession lines text summary × AppendsPrefix old new text
 
+-- what answers the first lines, whatever is typed then, or at the end of the input
+first_answered : (typed text : List ℕ) (left : Option (List ℕ)) → AnswersEnded typed text ⊎ (IsAtEnd left × AnswersFirst typed text) → AnswersFirst typed text
+first_answered typed text left (inl first) = subst (λ (t : List ℕ). AnswersFirst t text) (append-nil typed) (first [])
+first_answered typed text left (inr first) = first.1
+
 -- so it is of a prefix of the answers to some lines
 within_first : (known left old new : Option (List ℕ)) → StopsWithin known left old new → WritesFirst known left old new
 within_first known left old new e =
-    let first = e.3 in
+    let first = first_answered e.0 e.1 left e.3 in
     let total = total_line first.2.summary in
     (e.0, first.0, first.1, e.1 ++ total, first.2.summary, e.2, first.3, (e.1, first.2, first.4, refl, refl), prefix_more old new e.1 total e.4)
 

@@ -163,7 +163,7 @@ ends_stopped typed before kept s t e f old new is h some q = stopped_by typed be
 
 module _ (input left : Option (List ℕ)) (old : Option (List ℕ)) where
   stops_within : (typed : List ℕ) (new : Option (List ℕ)) → Consumes input left typed → Stopped typed [] old new → StopsWithin input left old new
-  stops_within typed new c q = (typed, q.0, c, subst (λ (x : List ℕ). AnswersFirst x q.0) (append-nil typed) (q.1 []), q.2)
+  stops_within typed new c q = (typed, q.0, c, inl q.1, q.2)
 
   -- a line wasn't read or answered
   pub ends_early : (f : ShellFault) (typed kept : List ℕ) (s : SessionState) (new : Option (List ℕ)) → Consumes input left typed → Reads {X = Unit {0}} typed [] (Err f) kept s old new → Ends (Err f) input left old new
@@ -173,7 +173,7 @@ module _ (input left : Option (List ℕ)) (old : Option (List ℕ)) where
 
   module _ (typed kept : List ℕ) (s : SessionState) (now new : Option (List ℕ)) (c : Consumes input left typed) (end : IsAtEnd left) (h : Taken typed [] kept s old now) where
     some_answers : AnswersSome typed h.0 now new → StopsWithin input left old new
-    some_answers q = (typed, h.0 ++ q.0, c, (lines_of typed, [], q.1, sym (append-nil (lines_of typed)), q.2), prefix_after old now new h.0 q.0 h.2 q.3)
+    some_answers q = (typed, h.0 ++ q.0, c, inr (end, (lines_of typed, [], q.1, sym (append-nil (lines_of typed)), q.2)), prefix_after old now new h.0 q.0 h.2 q.3)
 
     -- at the end of the input
     pub ends_late : (r : Result Summary ShellFault) → EndsAfter typed h.0 r now new → Ends r input left old new

@@ -33,6 +33,11 @@ AnswersFirst typed text =
     (lines : List RawLine) × (others : List RawLine) × (t : SessionState)
     × (lines_of typed ≡ lines ++ others) × AreAnswers new_session lines text t
 
+-- this text answers first lines of what was typed, whatever is typed then: it has no answer to a
+-- line that isn't ended
+abbrev pub AnswersEnded : List ℕ → List ℕ → Type 0
+AnswersEnded typed text = (rest : List ℕ) → AnswersFirst (typed ++ rest) text
+
 -- All ended lines of what was typed are answered, after what was written before.
 abbrev pub Taken : List ℕ → List ℕ → List ℕ → SessionState → Option (List ℕ) → Option (List ℕ)
     → Type 0
@@ -42,8 +47,7 @@ Taken typed before kept s old new =
 -- Of some answers a prefix is written, after what was written before, whatever is typed then.
 abbrev pub Stopped : List ℕ → List ℕ → Option (List ℕ) → Option (List ℕ) → Type 0
 Stopped typed before old new =
-    (text : List ℕ) × ((rest : List ℕ) → AnswersFirst (typed ++ rest) (before ++ text))
-    × AppendsPrefix old new text
+    (text : List ℕ) × AnswersEnded typed (before ++ text) × AppendsPrefix old new text
 
 -- what was typed is taken, or answering it stopped
 abbrev pub Takes : {X : Type 0} → List ℕ → List ℕ → Result X Stop → List ℕ → SessionState
@@ -87,12 +91,14 @@ EndsAfter typed before (Err faults.Write) old new =
     AnswersSome typed before old new ⊎ TotalsSome typed before old new
 EndsAfter typed before (Err faults.OutOfMemory) old new = AnswersSome typed before old new
 
--- A session whose answering stopped: a prefix of the answers to the first lines is written.
+-- A session whose answering stopped: a prefix of the answers to the first lines is written. An
+-- answer to a line that isn't ended is among them only after the end of the input.
 abbrev pub StopsWithin : Option (List ℕ) → Option (List ℕ) → Option (List ℕ) → Option (List ℕ)
     → Type 0
 StopsWithin input left old new =
-    (typed : List ℕ) × (text : List ℕ)
-    × Consumes input left typed × AnswersFirst typed text × AppendsPrefix old new text
+    (typed : List ℕ) × (text : List ℕ) × Consumes input left typed
+    × (AnswersEnded typed text ⊎ (IsAtEnd left × AnswersFirst typed text))
+    × AppendsPrefix old new text
 
 -- A session that stopped at its total line: after the end of the input, with all lines answered.
 abbrev pub StopsAtTotal : Option (List ℕ) → Option (List ℕ) → Option (List ℕ)
