@@ -101,6 +101,33 @@ fault: Word: no such command; did you mean alloc?
 total commands 0 refused 0 flips 0 rootwords 0
 ";
 
+/// Lines with faults of their parts, one of 257 bytes, and sizes that make no heap.
+const KINDS: &[u8] = b"\
+heap 32 0 8 2 2
+heap 32 8 8 17 2
+heap 32 8 0 2 2
+heap 32 8 8 2 2
+xxxxxxxxxxxxxxxxxxxxxxxxxxxxxxxxxxxxxxxxxxxxxxxxxxxxxxxxxxxxxxxxxxxxxxxxxxxxxxxxxxxxxxxxxxxxxxxxx\
+xxxxxxxxxxxxxxxxxxxxxxxxxxxxxxxxxxxxxxxxxxxxxxxxxxxxxxxxxxxxxxxxxxxxxxxxxxxxxxxxxxxxxxxxxxxxxxxxx\
+xxxxxxxxxxxxxxxxxxxxxxxxxxxxxxxxxxxxxxxxxxxxxxxxxxxxxxxxxxxxxxx
+1 drop x
+1 alloc 1.0 y
+deal copies 1 T
+1 drop 5.0
+";
+
+const KINDS_ANSWERS: &[u8] = b"\
+fault: BadRatio: RATIO is out of its range: 1 to 64
+fault: BadRoots: OWNERS is out of its range: 1 to 16
+fault: BadLog: LOG is out of its range: 1 to 1048576
+fault: Long: a line has at most 256 bytes before its line end
+fault: Root: a root is due here: OWNER.SLOT as 1.0, two numbers from 0 to 4294967295
+fault: Number: a number is due here: digits without a leading zero, 0 to 4294967295
+fault: Tray: a tray is due here: a letter a to z, then at most 15 of a to z, 0 to 9 and _
+refused NoRoot
+total commands 1 refused 1 flips 0 rootwords 0
+";
+
 /// Rows: what is typed, and what is answered. Lines with faults change nothing.
 const SESSIONS: &[(&[u8], &[u8])] = &[
     (b"", b"total commands 0 refused 0 flips 0 rootwords 0\n"),
@@ -108,6 +135,7 @@ const SESSIONS: &[(&[u8], &[u8])] = &[
     (EARLY, EARLY_ANSWERS),
     (FAULTS, FAULTS_ANSWERS),
     (FILES, FILES_ANSWERS),
+    (KINDS, KINDS_ANSWERS),
 ];
 
 /// Ends the test unless a text is what was wanted, and shows both then.
