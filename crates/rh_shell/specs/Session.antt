@@ -132,8 +132,8 @@ abbrev pub IsCyclesAnswer : Option PlayingState → List ℕ → Type 0
 IsCyclesAnswer None text = IsFaultLine (kind_name kinds.Header) text
 IsCyclesAnswer (Some p) text = text ≡ cycles_header ++ p.told
 
--- that a picture was put into its file, or a fault: Header where there is no heap, Form where the
--- file's name is no text, File where it couldn't be written
+-- the fault Header where there is no heap, else that a picture was put into its file, or the fault
+-- Form or File; which of the three is only tested
 abbrev pub IsDrawAnswer : Option PlayingState → List ℕ → Type 0
 IsDrawAnswer None text = IsFaultLine (kind_name kinds.Header) text
 IsDrawAnswer (Some p) text =
