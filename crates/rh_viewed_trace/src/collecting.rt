@@ -1,10 +1,9 @@
 //! The lines of a trace of commands, played on heaps that collect by themselves.
 
-ghost use Rattle.std.specs.Prelude.{◌≡◌, true};
+ghost use Rattle.std.specs.Prelude.{◌≡◌};
 ghost use Rattle.rh_cycles.specs.Heaps.{after_step};
 ghost use Rattle.rh_growing.specs.Growing.{growing_step};
 ghost use Rattle.rh_pace.specs.Paced.{paced_step};
-ghost use Rattle.rh_trace.specs.Events.{is_command};
 ghost use Rattle.rh_viewed_trace.specs.Cycles.{first_read};
 ghost use Rattle.rh_viewed_trace.specs.Runs.{CommandSteps, total_at};
 
@@ -45,8 +44,6 @@ fn with_flips(counted: Summary, stat: &Stat) -> Summary
 impl<A: Allocator + Copy> Player<A, Cycles> for PacedHeap<A> {
     ghost Steps = { CommandSteps (λ (given : Unit {0}) s owner command. paced_step s owner command) };
 
-    ghost Plays = { λ request. is_command request ≡ true };
-
     ghost read = { λ s reader line entries. after_step reader s };
 
     ghost total = { λ s counted. total_at s counted };
@@ -64,8 +61,8 @@ impl<A: Allocator + Copy> Player<A, Cycles> for PacedHeap<A> {
         _entries: &mut EntryCounts,
         _told: &mut Vec<u8, A>,
     ) -> Result<(), OutOfMemory> {
-        // All requests that are played are commands.
-        unreachable!()
+        // Such a heap runs commands alone. Lines of other requests are told before anything is played.
+        Err(OutOfMemory)
     }
 
     fn ended(&self, reader: &mut Cycles, _line: u64, _entries: EntryCounts) -> Option<Cycle> {
@@ -79,8 +76,6 @@ impl<A: Allocator + Copy> Player<A, Cycles> for PacedHeap<A> {
 
 impl<A: Allocator + Copy> Player<A, Cycles> for GrowingHeap<A> {
     ghost Steps = { CommandSteps growing_step };
-
-    ghost Plays = { λ request. is_command request ≡ true };
 
     ghost read = { λ s reader line entries. after_step reader s.paced };
 
@@ -99,8 +94,8 @@ impl<A: Allocator + Copy> Player<A, Cycles> for GrowingHeap<A> {
         _entries: &mut EntryCounts,
         _told: &mut Vec<u8, A>,
     ) -> Result<(), OutOfMemory> {
-        // All requests that are played are commands.
-        unreachable!()
+        // Such a heap runs commands alone. Lines of other requests are told before anything is played.
+        Err(OutOfMemory)
     }
 
     fn ended(&self, reader: &mut Cycles, _line: u64, _entries: EntryCounts) -> Option<Cycle> {

@@ -1,6 +1,6 @@
 //! The lines of a trace, played, told, noted, and added up.
 
-ghost use Rattle.std.specs.Prelude.{◌≡◌, ◌⊎◌, ◌+◌, ◌≤◌, All, List, ℕ, length, false, IfOk, IsErrOf};
+ghost use Rattle.std.specs.Prelude.{◌≡◌, ◌⊎◌, ◌+◌, ◌≤◌, List, ℕ, length, false, IfOk, IsErrOf};
 ghost use Rattle.std.specs.Io.KnownBytes.{Appends, Keeps};
 ghost use Rattle.rh_text.specs.IoLog.{AreSpent};
 ghost use Rattle.rh_text.specs.Output.{AppendsLess, AppendsPrefix};
@@ -43,7 +43,6 @@ pub(crate) fn run_lines<
     writes: &mut IoLog,
 ) -> Result<Summary, Stop>
     requires none_failed { writes.old.failed ≡ false }
-    requires plays { All P.Plays requests.now }
     requires room { length recorder.old.history.calls + length requests.now
         ≤ recorder.old.limit }
     ensures done { IfOk result (λ summary. (seen : List Seen)

@@ -28,9 +28,6 @@ pub trait Player<A: Allocator + Copy, R> {
     /// A request takes one state to another, and this is answered.
     ghost Steps: { Self → RequestOf → Self → Answered → Type 0 };
 
-    /// A request that is played.
-    ghost Plays: { RequestOf → Type 0 };
-
     /// The reader once it read the state after a line, with the entries of its deal or give, and
     /// the cycle that ended at the line.
     ghost read: { Self → R → ℕ → EntryCountsOf → R × Option CycleOf };
@@ -62,7 +59,6 @@ pub trait Player<A: Allocator + Copy, R> {
         entries: &mut EntryCounts,
         told: &mut Vec<u8, A>,
     ) -> Result<(), OutOfMemory>
-        requires plays { Plays request.now }
         requires other { is_command request.now ≡ false }
         requires few_flips { summary.old.flips < 2 ^ 63 }
         requires few_root_words { summary.old.root_words < 2 ^ 127 }
@@ -87,8 +83,6 @@ pub trait Player<A: Allocator + Copy, R> {
 impl<A: Allocator + Copy> Player<A, CycleReader> for Engine<A> {
     ghost Steps = { λ s request t answered. (t ≡ (request_step s request).0)
         × (answered ≡ (request_step s request).1) };
-
-    ghost Plays = { λ request. Unit {0} };
 
     ghost read = { λ s reader line entries.
         read_step reader (reading_after s line entries) };

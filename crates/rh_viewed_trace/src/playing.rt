@@ -1,6 +1,6 @@
 //! The lines of a trace, played one after the other, told and noted.
 
-ghost use Rattle.std.specs.Prelude.{◌≡◌, ◌+◌, ◌<◌, ◌≤◌, ◌^◌, ◌++◌, All, List, ℕ, not, length, false, IfOk, IfErr, IsErrOf, OnOk, OnErr};
+ghost use Rattle.std.specs.Prelude.{◌≡◌, ◌+◌, ◌<◌, ◌≤◌, ◌^◌, ◌++◌, List, ℕ, not, length, false, IfOk, IfErr, IsErrOf, OnOk, OnErr};
 ghost use Rattle.std.specs.Io.KnownBytes.{Appends};
 ghost use Rattle.rh_mutator.specs.Commands.{is_limit_answer};
 ghost use Rattle.rh_text.specs.IoLog.{AreSpent};
@@ -98,7 +98,6 @@ fn play_line<A: Allocator + Copy, R, P: Player<A, R>>(
     recorder: &mut Recorder<A>,
     told: &mut Vec<u8, A>,
 ) -> Result<EntryCounts, OutOfMemory>
-    requires plays { P.Plays request.now }
     requires room { length recorder.old.history.calls < recorder.old.limit }
     requires few_commands { summary.old.commands < 2 ^ 63 }
     requires few_refused { summary.old.refused < 2 ^ 63 }
@@ -166,7 +165,6 @@ pub(crate) fn play<A: Allocator + Copy, R, P: Player<A, R>, W: io::Write, C: io:
     writes: &mut IoLog,
 ) -> Result<Summary, Stop>
     requires none_failed { writes.old.failed ≡ false }
-    requires plays { All P.Plays requests.now }
     requires room { length recorder.old.history.calls + length requests.now
         ≤ recorder.old.limit }
     ensures done { IfOk result (λ counted. (seen : List Seen)

@@ -68,12 +68,6 @@ recorder_for-requires-clause-sizes g c =
     let sizes : fault_of (config_of script.header) ≡ None = sym (ap fault_of (c.config_of.ensures ∙ ap config_of c.header.ensures)) ∙ sym c.fault.ensures ∙ c.in_default-fault.is in
     ap (λ (h : Header). fault_of (config_of h)) c.header-3.ensures ∙ sizes
 
-pub run_lines-requires-clause-plays : goal.run_lines-requires-clause-plays
-run_lines-requires-clause-plays g c =
-    let script = c.in-Ok.trace in
-    let none : other_fault 2 script.requests ≡ None = sym (ap (other_fault 2) c.requests.ensures) ∙ sym c.other_fault.ensures ∙ c.in_default.is in
-    subst AreCommands (sym c.requests-3.ensures) ((c.the_first_line_that_is_no_command_is_told.ensures.none script.requests).0 none)
-
 pub run_lines-requires-clause-room : goal.run_lines-requires-clause-room
 run_lines-requires-clause-room g c =
     let none = ap (λ (h : HistoryState). length h.calls) c.in-Ok-recorder_for.ensures.history in

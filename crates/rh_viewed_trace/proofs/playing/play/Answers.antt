@@ -25,9 +25,6 @@ loop-request-init g c = record {
   none_failed = c.in_ok-send.ensures.none_failed;
 }
 
-pub play_line-requires-clause-plays : goal.play_line-requires-clause-plays
-play_line-requires-clause-plays g c = subst g.P.Player.Plays (sym c.request-item.is) (All-get_or g.P.Player.Plays c.args.requests.now c.loop-request.request-index c.request-item.result c.loop-request-test.true c.requires.plays)
-
 pub returns-in_err-send-clause-stopped : goal.returns-in_err-send-clause-stopped
 returns-in_err-send-clause-stopped g c =
     let p = err_from_is_err_and c.from_residual.result c.from_residual.ensures.1 in

@@ -21,9 +21,6 @@ recorder_for-requires-clause-sizes g c =
     let config_is : c.config_of-config.result ≡ config_of script.header = c.config_of-config.ensures ∙ ap config_of c.header.ensures in
     ap (λ (h : Header). fault_of (config_of h)) c.header-2.ensures ∙ sym (ap fault_of config_is) ∙ sym c.fault.ensures ∙ c.in_default.is
 
-pub run_lines-requires-clause-plays : goal.run_lines-requires-clause-plays
-run_lines-requires-clause-plays g c = λ i request within. tt
-
 pub run_lines-requires-clause-room : goal.run_lines-requires-clause-room
 run_lines-requires-clause-room g c =
     let none = ap (λ (h : HistoryState). length h.calls) c.in-Ok-recorder_for.ensures.history in
