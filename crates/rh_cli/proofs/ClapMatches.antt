@@ -1,5 +1,5 @@
 -- What clap's matches hold, as far as a request is read from them.
-use Rattle.std.proofs.Common.{◌≡◌, ◌≢◌, ◌⊎◌, inl, inr, List, Option, Some, None, Result, option_map, ap, sym, subst, codes, true, refl, ◌∙◌}
+use Rattle.std.proofs.Common.{◌≡◌, ◌≢◌, ◌⊎◌, inl, inr, List, Option, Some, None, Result, option_map, ap, sym, subst, codes, Bool, true, false, refl, ◌∙◌}
 use Rattle.clap.specs.Words.{App, FailsBy, HasKind, Kinds, Row, Text, fault_of, is_simple_and_free, kind_of, first_of, first_value, found_of, rows_of, subcommand_rows_of, is_simple, HasMatchesOf, subcommand_name_of, subcommand_of, takes}
 use Rattle.clap.specs.declared.error.Error.{Error as ClapError}
 use Rattle.clap.specs.declared.error.kind.ErrorKind.{ErrorKind}
@@ -7,9 +7,11 @@ use Rattle.clap.specs.declared.error.kind.ErrorKind.TheVariants.{OutOfMemory}
 use Rattle.clap.specs.declared.parser.matches.ArgMatches.{ArgMatches}
 use Rattle.clap.specs.declared.parser.matches.ArgMatches.TheViews.{out-ArgMatches, out-SubCommand}
 use Rattle.std.specs.Box.{box_value}
+use Rattle.std.specs.Str.{bytes_eq}
+use Rattle.std.proofs.lemmas.Slice.Eq.{bytes_eq-Decides}
 use Rattle.clap.proofs.WalkLemmas.{first_value-rows}
 use Rattle.clap.proofs.OnLiterals.{clap_on_literals}
-use Rattle.rh_cli.specs.Ask.{command_and_file_in, command_and_file_of, command_asked, error_kinds, viewed_by, viewed_in, viewed_of, explains_in, explains_of, is_set, options_in, with_file, rheap_app, is_taken, Options}
+use Rattle.rh_cli.specs.Ask.{command_and_file_in, command_and_file_of, command_asked, error_kinds, viewed_by, viewed_in, viewed_of, explains_in, explains_of, is_set, options_in, with_file, rheap_app, rheap_app_for, names_command, first_word, is_taken, Options}
 use Rattle.rh_cli.specs.Fault.{IsClapFault}
 use Rattle.rh_cli.specs.declared.fault.LineFault.{LineFault}
 use Rattle.rh_cli.specs.declared.fault.LineFault.TheVariants as faults
@@ -117,46 +119,81 @@ viewed_in-matches m n values given name rows matched =
     let entered = rows_are (λ b. (out-SubCommand (box_value b)).name.now) (λ b. rows_of (found_of (out-SubCommand (box_value b)).matches)) (out-ArgMatches m).subcommand n (rows_of found) name rows in
     ap viewed_in entered ∙ ap viewed_by (held_options (rows_of found) given (held_by_matches values given matched))
 
-is_simple_line : is_simple rheap_app ≡ true
+by_equality : (P : Text → Type 0) (word : Text) (name : Text) (b : Bool) → (b ≡ true → word ≡ name) → P name → (b ≡ false → P word) → P word
+by_equality P word name true same here there = subst P (sym (same refl)) here
+by_equality P word name false same here there = there refl
+
+-- what holds of a text that the word may be holds of the word, if it does where the word differs
+by_word : (P : Text → Type 0) (word : Text) (name : Text) → P name → (bytes_eq word name ≡ false → P word) → P word
+by_word P word name here there = by_equality P word name (bytes_eq word name) (bytes_eq-Decides word name).0 here there
+
+-- what holds for the name of each command, and for a word that names none, holds for each word
+for_words : (P : Text → Type 0) → P (codes "run") → P (codes "threads") → P (codes "replay") → P (codes "dump") → P (codes "draw") → P (codes "shell") → P (codes "completions")
+    → ((word : Text) → names_command word ≡ false → P word) → (word : Text) → P word
+for_words P run threads replay dump draw shell completions other word =
+    by_word P word (codes "run") run (λ not_run.
+    by_word P word (codes "threads") threads (λ not_threads.
+    by_word P word (codes "replay") replay (λ not_replay.
+    by_word P word (codes "dump") dump (λ not_dump.
+    by_word P word (codes "draw") draw (λ not_draw.
+    by_word P word (codes "shell") shell (λ not_shell.
+    by_word P word (codes "completions") completions (λ not_completions.
+    other word (rw not_run (rw not_threads (rw not_replay (rw not_dump (rw not_draw (rw not_shell not_completions)))))))))))))
+
+abbrev IsSimpleFor : Text → Type 0
+IsSimpleFor word = is_simple (rheap_app_for word) ≡ true
+
+simple_for_others : (word : Text) → names_command word ≡ false → IsSimpleFor word
 unfolding clap_on_literals
-is_simple_line = refl
+simple_for_others word is = rw is refl
+
+is_simple_line : (word : Text) → IsSimpleFor word
+unfolding clap_on_literals
+is_simple_line = for_words IsSimpleFor refl refl refl refl refl refl refl simple_for_others
 
 -- what the matches hold is what clap's parse of the arguments holds
-pub command_and_file_of-matches : (a : App) (arguments : List Text) (m : ArgMatches) → a ≡ rheap_app → HasMatchesOf a arguments m → command_and_file_of arguments ≡ command_and_file_in (subcommand_rows_of m)
+pub command_and_file_of-matches : (a : App) (arguments : List Text) (m : ArgMatches) → a ≡ rheap_app arguments → HasMatchesOf a arguments m → command_and_file_of arguments ≡ command_and_file_in (subcommand_rows_of m)
 unfolding command_and_file_of
 command_and_file_of-matches a arguments m is h =
-    let entered = (h (ap is_simple is ∙ is_simple_line)).1 in
+    let entered = (h (ap is_simple is ∙ is_simple_line (first_word arguments))).1 in
     ap command_and_file_in (sym (entered ∙ ap (λ (x : App). subcommand_of x arguments) is))
 
 -- so it is with explanations
-pub explains_of-matches : (a : App) (arguments : List Text) (m : ArgMatches) → a ≡ rheap_app → HasMatchesOf a arguments m → explains_of arguments ≡ explains_in (subcommand_rows_of m)
+pub explains_of-matches : (a : App) (arguments : List Text) (m : ArgMatches) → a ≡ rheap_app arguments → HasMatchesOf a arguments m → explains_of arguments ≡ explains_in (subcommand_rows_of m)
 unfolding explains_of
 explains_of-matches a arguments m is h =
-    let entered = (h (ap is_simple is ∙ is_simple_line)).1 in
+    let entered = (h (ap is_simple is ∙ is_simple_line (first_word arguments))).1 in
     ap explains_in (sym (entered ∙ ap (λ (x : App). subcommand_of x arguments) is))
 
 -- and with views
-pub viewed_of-matches : (a : App) (arguments : List Text) (m : ArgMatches) → a ≡ rheap_app → HasMatchesOf a arguments m → viewed_of arguments ≡ viewed_in (subcommand_rows_of m)
+pub viewed_of-matches : (a : App) (arguments : List Text) (m : ArgMatches) → a ≡ rheap_app arguments → HasMatchesOf a arguments m → viewed_of arguments ≡ viewed_in (subcommand_rows_of m)
 unfolding viewed_of
 viewed_of-matches a arguments m is h =
-    let entered = (h (ap is_simple is ∙ is_simple_line)).1 in
+    let entered = (h (ap is_simple is ∙ is_simple_line (first_word arguments))).1 in
     ap viewed_in (sym (entered ∙ ap (λ (x : App). subcommand_of x arguments) is))
 
 -- arguments that clap takes are taken by the same command line under another name
-pub taken-app : (a : App) (arguments : List Text) → a ≡ rheap_app → is_taken arguments ≡ true → takes a arguments ≡ true
+pub taken-app : (a : App) (arguments : List Text) → a ≡ rheap_app arguments → is_taken arguments ≡ true → takes a arguments ≡ true
 unfolding is_taken
 taken-app a arguments is taken = ap (λ (x : App). takes x arguments) is ∙ taken
 
-is_free_line : is_simple_and_free rheap_app ≡ true
+abbrev IsFreeFor : Text → Type 0
+IsFreeFor word = is_simple_and_free (rheap_app_for word) ≡ true
+
+free_for_others : (word : Text) → names_command word ≡ false → IsFreeFor word
 unfolding clap_on_literals
-is_free_line = refl
+free_for_others word is = rw is refl
+
+is_free_line : (word : Text) → IsFreeFor word
+unfolding clap_on_literals
+is_free_line = for_words IsFreeFor refl refl refl refl refl refl refl free_for_others
 
 -- a parse of the same command line under another name ends as these kinds of error say
-pub fails_by_error_kinds : {T : Type 0} (a : App) (arguments : List Text) (r : Result T ClapError) → a ≡ rheap_app
+pub fails_by_error_kinds : {T : Type 0} (a : App) (arguments : List Text) (r : Result T ClapError) → a ≡ rheap_app arguments
     → (is_simple_and_free a ≡ true → FailsBy (fault_of a arguments) r) → FailsBy (error_kinds arguments) r
 unfolding error_kinds
 fails_by_error_kinds a arguments r is fails =
-    subst (λ (x : App). FailsBy (fault_of x arguments) r) is (fails (ap is_simple_and_free is ∙ is_free_line))
+    subst (λ (x : App). FailsBy (fault_of x arguments) r) is (fails (ap is_simple_and_free is ∙ is_free_line (first_word arguments)))
 
 is_want_of_memory : (kind : ErrorKind) → (kind ≡ OutOfMemory) ⊎ (kind ≢ OutOfMemory)
 is_want_of_memory OutOfMemory = inl refl

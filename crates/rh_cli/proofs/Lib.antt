@@ -12,4 +12,5 @@ pub mod ThreadsHistory
 pub mod ViewStatuses
 pub mod Viewed
 pub mod ViewsFlushed
+pub mod Wholes
 pub mod WorkedCounts

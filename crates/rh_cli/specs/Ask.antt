@@ -1,5 +1,5 @@
 -- The command line of the program, as clap knows it.
-use Rattle.std.specs.Prelude.{ℕ, ◌+◌, nat_le, nat_lt, List, Bool, true, false, if◌then◌else◌, Option, Some, None, Result, Ok, Err, codes}
+use Rattle.std.specs.Prelude.{ℕ, ◌+◌, nat_le, nat_lt, List, [], ◌∷◌, Bool, true, false, if◌then◌else◌, Option, Some, None, Result, Ok, Err, codes}
 use Rattle.std.specs.Str.{bytes_eq}
 use Rattle.rh_text.specs.Number.{number_of}
 use Rattle.clap.specs.declared.builder.action.ArgAction.TheVariants.{SetTrue}
@@ -115,16 +115,52 @@ rheap_top =
     let new = new_app (codes "rheap")
     in record new { top = record new.top { has_version = true; subcommand_required = true } }
 
--- the program with its commands
-abbrev pub rheap_app : App
-rheap_app =
-    let with_run = with_subcommand rheap_top run_app.top
-    in let with_threads = with_subcommand with_run threads_app.top
-    in let with_replay = with_subcommand with_threads replay_app.top
-    in let with_dump = with_subcommand with_replay dump_app.top
-    in let with_draw = with_subcommand with_dump draw_app.top
+-- the first word after the program's name; empty where there is none
+abbrev pub first_word : List Text → Text
+first_word [] = []
+first_word (name ∷ []) = []
+first_word (name ∷ word ∷ words) = word
+
+-- whether a word is the name of a command
+abbrev pub names_command : Text → Bool
+names_command word =
+    if bytes_eq word (codes "run") then true
+    else (if bytes_eq word (codes "threads") then true
+    else (if bytes_eq word (codes "replay") then true
+    else (if bytes_eq word (codes "dump") then true
+    else (if bytes_eq word (codes "draw") then true
+    else (if bytes_eq word (codes "shell") then true
+    else bytes_eq word (codes "completions"))))))
+
+-- whether the command of this name has its options where the word is the first: it names that
+-- command, or none
+abbrev pub has_options : Text → Text → Bool
+has_options word name = if names_command word then bytes_eq word name else true
+
+-- a command where the word is the first: whole, or its name alone
+abbrev pub command_for : Text → Text → App → App
+command_for word name whole = if has_options word name then whole else new_app name
+
+-- the program with its commands, where the word is the first
+abbrev pub rheap_app_for : Text → App
+rheap_app_for word =
+    let run = command_for word (codes "run") run_app
+    in let threads = command_for word (codes "threads") threads_app
+    in let replay = command_for word (codes "replay") replay_app
+    in let dump = command_for word (codes "dump") dump_app
+    in let draw = command_for word (codes "draw") draw_app
+    in let completions = command_for word (codes "completions") completions_app
+    in let with_run = with_subcommand rheap_top run.top
+    in let with_threads = with_subcommand with_run threads.top
+    in let with_replay = with_subcommand with_threads replay.top
+    in let with_dump = with_subcommand with_replay dump.top
+    in let with_draw = with_subcommand with_dump draw.top
     in let with_shell = with_subcommand with_draw shell_app.top
-    in with_subcommand with_shell completions_app.top
+    in with_subcommand with_shell completions.top
+
+-- the program with its commands, where these are the arguments
+abbrev pub rheap_app : List Text → App
+rheap_app arguments = rheap_app_for (first_word arguments)
 
 -- whether the value of the flag says that it was set
 abbrev pub is_set : Option Text → Bool
@@ -337,7 +373,7 @@ explains_in (Some found) = is_set (options_in found.1).explain
 
 -- whether clap's parse of the arguments does
 unfoldable pub explains_of : List Text → Bool
-explains_of arguments = explains_in (subcommand_of rheap_app arguments)
+explains_of arguments = explains_in (subcommand_of (rheap_app arguments) arguments)
 
 -- how a parse says that what is done is viewed
 abbrev pub viewed_in : Option (Text × List Row) → Viewed
@@ -346,19 +382,19 @@ viewed_in (Some found) = viewed_by (options_in found.1)
 
 -- how clap's parse of the arguments does
 unfoldable pub viewed_of : List Text → Viewed
-viewed_of arguments = viewed_in (subcommand_of rheap_app arguments)
+viewed_of arguments = viewed_in (subcommand_of (rheap_app arguments) arguments)
 
 -- the command and the file that clap's parse of the arguments holds
 unfoldable pub command_and_file_of : List Text → Result (Subcommand × Text) LineFault
-command_and_file_of arguments = command_and_file_in (subcommand_of rheap_app arguments)
+command_and_file_of arguments = command_and_file_in (subcommand_of (rheap_app arguments) arguments)
 
 -- whether clap takes the arguments
 unfoldable pub is_taken : List Text → Bool
-is_taken arguments = takes rheap_app arguments
+is_taken arguments = takes (rheap_app arguments) arguments
 
 -- the kinds of error that clap's parse of the arguments may end with; none where it doesn't fail
 unfoldable pub error_kinds : List Text → Kinds
-error_kinds arguments = fault_of rheap_app arguments
+error_kinds arguments = fault_of (rheap_app arguments) arguments
 
 -- the command and the file of a request
 abbrev pub command_and_file : Ask → Subcommand × Text
