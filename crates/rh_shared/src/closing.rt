@@ -1,7 +1,6 @@
 //! Closing a shared heap: the mutators' shares are compared with the history.
 
 ghost use Rattle.std.specs.Prelude.{◌≡◌, ◌↔◌, ◌≤◌, IfOk, IfErr, IsTrue, IfSome, IfNone, Some, length, slice_get};
-ghost use Rattle.rh_shared.specs.Answers.{IsUnderLock};
 ghost use Rattle.rh_shared.specs.Kept.{IsKept};
 ghost use Rattle.rh_shared.specs.Shares.{HasShares, IsFirstDifference, IsLeastStranger, IsOneEach, WhyNotClosed, calls_of, calls_together, have_owners_below, lesser_stranger, mutator_count, share_of};
 
@@ -84,7 +83,6 @@ fn why_not_closed<A: Allocator + Copy>(
     kept: &Kept<A>,
     mutators: &[Mutator<A>],
 ) -> Option<CloseError>
-    requires { IsUnderLock kept.now }
     ensures closed { IfNone result
         (IsOneEach kept.now.collector.heap.mutators.roots.owners mutators.now
         × HasShares mutators.now kept.now.recorder.history.calls) }

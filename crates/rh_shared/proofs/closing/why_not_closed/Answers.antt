@@ -15,8 +15,8 @@ returns-in-Some-least_stranger-clause-why g c =
     let calls = c.calls-calls.result.now in
     let kept = c.args.kept.now in
     let owners_are : owners ≡ kept.collector.heap.mutators.roots.owners =
-    ap (λ (d : Config). d.owners) c.config-owners.ensures.config ∙ ap (λ (h : HeapState). h.mutators.config.owners) c.heap.ensures.heap
-    ∙ sym c.requires.heap.heap.mutators.owners in
+    ap (λ (d : Config). d.owners) c.config-owners.ensures.config ∙ sym c.config-owners.ensures.heap.mutators.owners
+    ∙ ap (λ (h : HeapState). h.mutators.roots.owners) c.heap.ensures.heap in
     let calls_are : calls ≡ kept.recorder.history.calls = c.calls-calls.ensures.calls ∙ ap (λ (h : HistoryState). h.calls) c.history.ensures.history in
     let each : IsOneEach owners ms = c.if-not-is_one_each.ensures.0 refl in
     let differs = stranger-differs owners c.in-Some-least_stranger.owner ms calls each (λ o within. c.loop-owner.invariant o (omega (arith, within, c.loop-owner-test.false))) c.in-Some-least_stranger.ensures in (
@@ -31,8 +31,8 @@ returns-in-None-clause-closed g c =
     let calls = c.calls-calls.result.now in
     let kept = c.args.kept.now in
     let owners_are : owners ≡ kept.collector.heap.mutators.roots.owners =
-    ap (λ (d : Config). d.owners) c.config-owners.ensures.config ∙ ap (λ (h : HeapState). h.mutators.config.owners) c.heap.ensures.heap
-    ∙ sym c.requires.heap.heap.mutators.owners in
+    ap (λ (d : Config). d.owners) c.config-owners.ensures.config ∙ sym c.config-owners.ensures.heap.mutators.owners
+    ∙ ap (λ (h : HeapState). h.mutators.roots.owners) c.heap.ensures.heap in
     let calls_are : calls ≡ kept.recorder.history.calls = c.calls-calls.ensures.calls ∙ ap (λ (h : HistoryState). h.calls) c.history.ensures.history in
     let each : IsOneEach owners ms = c.if-not-is_one_each.ensures.0 refl in
     let same : HasShares ms calls = stranger-none owners ms calls each (λ o within. c.loop-owner.invariant o (omega (arith, within, c.loop-owner-test.false))) c.in-None.ensures in
@@ -45,8 +45,8 @@ returns-in-Some-clause-why g c =
     let calls = c.calls-calls.result.now in
     let kept = c.args.kept.now in
     let owners_are : owners ≡ kept.collector.heap.mutators.roots.owners =
-    ap (λ (d : Config). d.owners) c.config-owners.ensures.config ∙ ap (λ (h : HeapState). h.mutators.config.owners) c.heap.ensures.heap
-    ∙ sym c.requires.heap.heap.mutators.owners in
+    ap (λ (d : Config). d.owners) c.config-owners.ensures.config ∙ sym c.config-owners.ensures.heap.mutators.owners
+    ∙ ap (λ (h : HeapState). h.mutators.roots.owners) c.heap.ensures.heap in
     let calls_are : calls ≡ kept.recorder.history.calls = c.calls-calls.ensures.calls ∙ ap (λ (h : HistoryState). h.calls) c.history.ensures.history in
     let each : IsOneEach owners ms = c.if-not-is_one_each.ensures.0 refl in
     let differs : HistoryDiffersAt ms calls c.loop-owner.owner c.in-Some.at = record { differs = c.in-Some.ensures.differs; least = c.loop-owner.invariant } in (
