@@ -1,0 +1,13 @@
+//! Programs of the small Scheme, from a reader to a writer.
+#![tactic(auto)]
+
+mod fault;
+mod heaps;
+mod limits;
+mod reading;
+mod running;
+
+pub use fault::LispFault;
+pub use limits::{HeapWords, Limits, MAX_OUTPUT, MAX_TEXT_BYTES, MOST_STEPS};
+pub use rh_lisp::{Fault, FaultKind, Outcome, Program, Source};
+pub use running::{Ended, program_of, run_lisp, run_program};
