@@ -3,7 +3,7 @@ _rheap() {
     local word=${COMP_WORDS[COMP_CWORD]} before=${COMP_WORDS[COMP_CWORD - 1]} options= valued=
     COMPREPLY=()
     if [ "$COMP_CWORD" = 1 ]; then
-        mapfile -t COMPREPLY < <(compgen -W 'run threads replay dump draw shell completions help -h --help -V --version' -- "$word")
+        mapfile -t COMPREPLY < <(compgen -W 'run threads replay dump draw shell lisp completions help -h --help -V --version' -- "$word")
         return
     fi
     case ${COMP_WORDS[1]} in
@@ -13,9 +13,10 @@ _rheap() {
     dump) options='--explain --dot --json -h --help' valued='' ;;
     draw) options='--explain --line -h --help' valued='--line' ;;
     shell) options='-h --help' valued='' ;;
+    lisp) options='--heap --grow --steps -h --help' valued='--heap --grow --steps' ;;
     completions) options='-h --help' valued='' ;;
     help)
-        mapfile -t COMPREPLY < <(compgen -W 'run threads replay dump draw shell completions' -- "$word")
+        mapfile -t COMPREPLY < <(compgen -W 'run threads replay dump draw shell lisp completions' -- "$word")
         return
         ;;
     *) return ;;

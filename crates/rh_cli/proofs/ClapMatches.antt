@@ -37,6 +37,8 @@ pub record AreHeld (rows : List Row) (given : Options) : Type 0 where
   pub dot : given.dot ≡ first_of (codes "dot") rows
   pub explain : given.explain ≡ first_of (codes "explain") rows
   pub line : given.line ≡ first_of (codes "line") rows
+  pub heap : given.heap ≡ first_of (codes "heap") rows
+  pub steps : given.steps ≡ first_of (codes "steps") rows
   pub shell : given.shell ≡ first_of (codes "SHELL") rows
   pub cycles : given.cycles ≡ first_of (codes "cycles") rows
   pub history : given.history ≡ first_of (codes "history") rows
@@ -54,6 +56,8 @@ pub record AreMatched (values : ArgMatches) (given : Options) : Type 0 where
   pub dot : given.dot ≡ first_value (found_of values) (codes "dot")
   pub explain : given.explain ≡ first_value (found_of values) (codes "explain")
   pub line : given.line ≡ first_value (found_of values) (codes "line")
+  pub heap : given.heap ≡ first_value (found_of values) (codes "heap")
+  pub steps : given.steps ≡ first_value (found_of values) (codes "steps")
   pub shell : given.shell ≡ first_value (found_of values) (codes "SHELL")
   pub cycles : given.cycles ≡ first_value (found_of values) (codes "cycles")
   pub history : given.history ≡ first_value (found_of values) (codes "history")
@@ -72,6 +76,8 @@ held_by_matches values given m =
       dot = m.dot ∙ first_value-rows found (codes "dot");
       explain = m.explain ∙ first_value-rows found (codes "explain");
       line = m.line ∙ first_value-rows found (codes "line");
+      heap = m.heap ∙ first_value-rows found (codes "heap");
+      steps = m.steps ∙ first_value-rows found (codes "steps");
       shell = m.shell ∙ first_value-rows found (codes "SHELL");
       cycles = m.cycles ∙ first_value-rows found (codes "cycles");
       history = m.history ∙ first_value-rows found (codes "history");
@@ -82,7 +88,7 @@ held_by_matches values given m =
 
 held_options : (rows : List Row) (given : Options) → AreHeld rows given → options_in rows ≡ given
 held_options rows given held =
-    sym (rw held.paced (rw held.mark (rw held.grow (rw held.replicators (rw held.idle (rw held.dot (rw held.explain (rw held.line (rw held.shell (rw held.cycles (rw held.history (rw held.echo (rw held.json (rw held.file refl))))))))))))))
+    sym (rw held.paced (rw held.mark (rw held.grow (rw held.replicators (rw held.idle (rw held.dot (rw held.explain (rw held.line (rw held.heap (rw held.steps (rw held.shell (rw held.cycles (rw held.history (rw held.echo (rw held.json (rw held.file refl))))))))))))))))
 
 -- what options of the same matches hold
 from_values : (rows : List Row) (n : Text) (given : Options) → AreHeld rows given
@@ -128,17 +134,18 @@ by_word : (P : Text → Type 0) (word : Text) (name : Text) → P name → (byte
 by_word P word name here there = by_equality P word name (bytes_eq word name) (bytes_eq-Decides word name).0 here there
 
 -- what holds for the name of each command, and for a word that names none, holds for each word
-for_words : (P : Text → Type 0) → P (codes "run") → P (codes "threads") → P (codes "replay") → P (codes "dump") → P (codes "draw") → P (codes "shell") → P (codes "completions")
+for_words : (P : Text → Type 0) → P (codes "run") → P (codes "threads") → P (codes "replay") → P (codes "dump") → P (codes "draw") → P (codes "shell") → P (codes "lisp") → P (codes "completions")
     → ((word : Text) → names_command word ≡ false → P word) → (word : Text) → P word
-for_words P run threads replay dump draw shell completions other word =
+for_words P run threads replay dump draw shell lisp completions other word =
     by_word P word (codes "run") run (λ not_run.
     by_word P word (codes "threads") threads (λ not_threads.
     by_word P word (codes "replay") replay (λ not_replay.
     by_word P word (codes "dump") dump (λ not_dump.
     by_word P word (codes "draw") draw (λ not_draw.
     by_word P word (codes "shell") shell (λ not_shell.
+    by_word P word (codes "lisp") lisp (λ not_lisp.
     by_word P word (codes "completions") completions (λ not_completions.
-    other word (rw not_run (rw not_threads (rw not_replay (rw not_dump (rw not_draw (rw not_shell not_completions)))))))))))))
+    other word (rw not_run (rw not_threads (rw not_replay (rw not_dump (rw not_draw (rw not_shell (rw not_lisp not_completions)))))))))))))))
 
 abbrev IsSimpleFor : Text → Type 0
 IsSimpleFor word = is_simple (rheap_app_for word) ≡ true
@@ -149,7 +156,7 @@ simple_for_others word is = rw is refl
 
 is_simple_line : (word : Text) → IsSimpleFor word
 unfolding clap_on_literals
-is_simple_line = for_words IsSimpleFor refl refl refl refl refl refl refl simple_for_others
+is_simple_line = for_words IsSimpleFor refl refl refl refl refl refl refl refl simple_for_others
 
 -- what the matches hold is what clap's parse of the arguments holds
 pub command_and_file_of-matches : (a : App) (arguments : List Text) (m : ArgMatches) → a ≡ rheap_app arguments → HasMatchesOf a arguments m → command_and_file_of arguments ≡ command_and_file_in (subcommand_rows_of m)
@@ -186,7 +193,7 @@ free_for_others word is = rw is refl
 
 is_free_line : (word : Text) → IsFreeFor word
 unfolding clap_on_literals
-is_free_line = for_words IsFreeFor refl refl refl refl refl refl refl free_for_others
+is_free_line = for_words IsFreeFor refl refl refl refl refl refl refl refl free_for_others
 
 -- a parse of the same command line under another name ends as these kinds of error say
 pub fails_by_error_kinds : {T : Type 0} (a : App) (arguments : List Text) (r : Result T ClapError) → a ≡ rheap_app arguments

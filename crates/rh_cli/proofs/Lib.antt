@@ -4,6 +4,7 @@ pub mod Drawn
 pub mod Flushed
 pub mod Inputs
 pub mod Reported
+pub mod LispStatuses
 pub mod Sessions
 pub mod SharedStatuses
 pub mod StatusLaws

@@ -1,5 +1,5 @@
 -- What the statuses say of how a subcommand ended.
-use Rattle.std.proofs.Common.{◌≡◌, ◌≢◌, ◌⊎◌, ◌↔◌, inl, inr, ℕ, Bool, List, Option, Result, Ok, Err, refl, sym, ap, ◌∙◌, arith}
+use Rattle.std.proofs.Common.{◌≡◌, ◌≢◌, ◌⊎◌, ◌↔◌, inl, inr, ℕ, Bool, List, Option, Some, Result, Ok, Err, refl, sym, ap, ◌∙◌, arith}
 use Rattle.std.specs.Io.KnownBytes.{Appends, Keeps}
 use Rattle.clap.specs.Words.{kind_of}
 use Rattle.clap.specs.declared.error.Error.{Error as ClapError}
@@ -34,6 +34,12 @@ use Rattle.rh_paced_trace.specs.Growing.{EndsGrowing, IsGrowingRun, growing_text
 use Rattle.rh_cli.specs.Paced.{ConcludesGrowing, ConcludesPaced, IsPacedStatus, paced_status}
 use Rattle.rh_paced_trace.specs.declared.fault.PacedFault.{PacedFault}
 use Rattle.rh_paced_trace.specs.declared.fault.PacedFault.TheVariants as paced_faults
+use Rattle.rh_cli.proofs.LispStatuses.{lisp_is_0, lisp_is_0_1_or_3, lisp_is_3}
+use Rattle.rh_lisp_run.specs.Run.{IsNewMachine, IsRun as IsLispRun}
+use Rattle.rh_lisp_run.specs.declared.limits.Limits.{Limits}
+use Rattle.rh_lisp.specs.Printed.{output_text}
+use Rattle.rh_lisp.specs.Program.{ProgramState}
+use Rattle.rh_machine.specs.declared.ending.Ending.TheVariants.{Halted}
 use Rattle.rh_cli.proofs.SharedStatuses.{shared_is_0_1_3_or_4, shared_is_4}
 use Rattle.rh_cli.specs.Replay.{IsJudged, IsReplayStatus, ReplayEnds}
 use Rattle.rh_text.specs.RawLine.{lines_of}
@@ -43,7 +49,7 @@ use Rattle.rh_shell.specs.declared.fault.ShellFault.TheVariants as shell_faults
 use Rattle.rh_cli.specs.Session.{IsSessionStatus, SessionEnds, session_status}
 use Rattle.rh_cli.specs.declared.ask.Shell.{Shell}
 use Rattle.rh_cli.specs.declared.ask.Subcommand.{Subcommand}
-use Rattle.rh_cli.specs.declared.ask.Subcommand.TheVariants.{Run, RunPaced, RunGrowing, Threads, Replay, Dump, Dot, Draw, Session, Completions}
+use Rattle.rh_cli.specs.declared.ask.Subcommand.TheVariants.{Run, RunPaced, RunGrowing, Threads, Replay, Dump, Dot, Draw, Session, Lisp, Completions}
 use Rattle.rh_cli.specs.declared.ending.Ending.{Ending}
 use Rattle.rh_cli.specs.declared.ending.Ending.TheVariants.{Done, WrongHistory}
 use Rattle.rh_cli.specs.declared.fault.LineFault.{LineFault}
@@ -90,6 +96,10 @@ memory_is_3 faults.Grow = (λ is. absurd (omega (arith, is)), λ is. cc)
 memory_is_3 faults.Replicators = (λ is. absurd (omega (arith, is)), λ is. cc)
 memory_is_3 faults.Idle = (λ is. absurd (omega (arith, is)), λ is. cc)
 memory_is_3 faults.Views = (λ is. absurd (omega (arith, is)), λ is. cc)
+memory_is_3 faults.Words = (λ is. absurd (omega (arith, is)), λ is. cc)
+memory_is_3 faults.Steps = (λ is. absurd (omega (arith, is)), λ is. cc)
+memory_is_3 (faults.Program kind) = (λ is. absurd (omega (arith, is)), λ is. cc)
+memory_is_3 faults.Stopped = (λ is. absurd (omega (arith, is)), λ is. cc)
 memory_is_3 faults.Shell = (λ is. absurd (omega (arith, is)), λ is. cc)
 memory_is_3 faults.Line = (λ is. absurd (omega (arith, is)), λ is. cc)
 memory_is_3 faults.NoLine = (λ is. absurd (omega (arith, is)), λ is. cc)
@@ -122,6 +132,10 @@ differs_is_4 faults.Grow = (λ is. absurd (omega (arith, is)), λ is. cc)
 differs_is_4 faults.Replicators = (λ is. absurd (omega (arith, is)), λ is. cc)
 differs_is_4 faults.Idle = (λ is. absurd (omega (arith, is)), λ is. cc)
 differs_is_4 faults.Views = (λ is. absurd (omega (arith, is)), λ is. cc)
+differs_is_4 faults.Words = (λ is. absurd (omega (arith, is)), λ is. cc)
+differs_is_4 faults.Steps = (λ is. absurd (omega (arith, is)), λ is. cc)
+differs_is_4 (faults.Program kind) = (λ is. absurd (omega (arith, is)), λ is. cc)
+differs_is_4 faults.Stopped = (λ is. absurd (omega (arith, is)), λ is. cc)
 differs_is_4 faults.Shell = (λ is. absurd (omega (arith, is)), λ is. cc)
 differs_is_4 faults.Line = (λ is. absurd (omega (arith, is)), λ is. cc)
 differs_is_4 faults.NoLine = (λ is. absurd (omega (arith, is)), λ is. cc)
@@ -142,8 +156,8 @@ differs_is_4 faults.HistoryDiffers = (λ is. refl, λ is. refl)
 -- a fault with 2 is one of the command line
 pub only_the_line_is_2 : (fault : LineFault) → status_of fault ≡ 2
     → (fault ≡ faults.NoText) ⊎ ((fault ≡ faults.Incomplete) ⊎ ((fault ≡ faults.Mark) ⊎ ((fault ≡ faults.Grow) ⊎ ((fault ≡ faults.Replicators)
-    ⊎ ((fault ≡ faults.Idle) ⊎ ((fault ≡ faults.Line) ⊎ ((fault ≡ faults.Shell) ⊎ ((fault ≡ faults.Views) ⊎ ((error : ClapError) × (fault ≡ faults.Arguments error))))))))))
-only_the_line_is_2 (faults.Arguments error) is = inr (inr (inr (inr (inr (inr (inr (inr (inr (error, refl)))))))))
+    ⊎ ((fault ≡ faults.Idle) ⊎ ((fault ≡ faults.Line) ⊎ ((fault ≡ faults.Shell) ⊎ ((fault ≡ faults.Views) ⊎ ((fault ≡ faults.Words) ⊎ ((fault ≡ faults.Steps) ⊎ ((error : ClapError) × (fault ≡ faults.Arguments error))))))))))))
+only_the_line_is_2 (faults.Arguments error) is = inr (inr (inr (inr (inr (inr (inr (inr (inr (inr (inr (error, refl)))))))))))
 only_the_line_is_2 faults.NoText is = inl refl
 only_the_line_is_2 faults.Incomplete is = inr (inl refl)
 only_the_line_is_2 faults.Mark is = inr (inr (inl refl))
@@ -153,6 +167,10 @@ only_the_line_is_2 faults.Idle is = inr (inr (inr (inr (inr (inl refl)))))
 only_the_line_is_2 faults.Line is = inr (inr (inr (inr (inr (inr (inl refl))))))
 only_the_line_is_2 faults.Shell is = inr (inr (inr (inr (inr (inr (inr (inl refl)))))))
 only_the_line_is_2 faults.Views is = inr (inr (inr (inr (inr (inr (inr (inr (inl refl))))))))
+only_the_line_is_2 faults.Words is = inr (inr (inr (inr (inr (inr (inr (inr (inr (inl refl)))))))))
+only_the_line_is_2 faults.Steps is = inr (inr (inr (inr (inr (inr (inr (inr (inr (inr (inl refl))))))))))
+only_the_line_is_2 (faults.Program kind) is = absurd (omega (arith, is))
+only_the_line_is_2 faults.Stopped is = absurd (omega (arith, is))
 only_the_line_is_2 faults.NoLine is = absurd (omega (arith, is))
 only_the_line_is_2 (faults.Trace fault) is = absurd (omega (arith, is))
 only_the_line_is_2 (faults.History fault) is = absurd (omega (arith, is))
@@ -184,6 +202,10 @@ only_help_is_0 faults.Grow is = absurd (omega (arith, is))
 only_help_is_0 faults.Replicators is = absurd (omega (arith, is))
 only_help_is_0 faults.Idle is = absurd (omega (arith, is))
 only_help_is_0 faults.Views is = absurd (omega (arith, is))
+only_help_is_0 faults.Words is = absurd (omega (arith, is))
+only_help_is_0 faults.Steps is = absurd (omega (arith, is))
+only_help_is_0 (faults.Program kind) is = absurd (omega (arith, is))
+only_help_is_0 faults.Stopped is = absurd (omega (arith, is))
 only_help_is_0 faults.Shell is = absurd (omega (arith, is))
 only_help_is_0 faults.Line is = absurd (omega (arith, is))
 only_help_is_0 faults.NoLine is = absurd (omega (arith, is))
@@ -454,6 +476,13 @@ pub concludes_session_0 : (input : List ℕ) (old new : Option (List ℕ)) → C
     → (text : List ℕ) × (summary : Summary) × IsSession (lines_of input) text summary × Appends old new text
 concludes_session_0 input old new c = session_is_0 c.0 input old new c.1 c.2
 
+pub concludes_lisp_0 : (limits : Limits) (input : List ℕ) (old new : Option (List ℕ)) → Concludes (Lisp limits) input 0 old new
+    → (begun : ProgramState) × (ended : ProgramState) × IsNewMachine limits.steps begun.machine × IsLispRun begun ended × (ended.machine.ended ≡ Some Halted) × Appends old new (output_text ended)
+concludes_lisp_0 limits input old new c = lisp_is_0 c.0 limits.steps input old new c.1 c.2
+
+pub concludes_lisp_3 : (limits : Limits) (input : List ℕ) (old new : Option (List ℕ)) → Concludes (Lisp limits) input 3 old new → Keeps old new
+concludes_lisp_3 limits input old new c = lisp_is_3 c.0 limits.steps input old new c.1 c.2
+
 pub concludes_late : (subcommand : Subcommand) (input : List ℕ) (status : ℕ) (old new : Option (List ℕ)) → Concludes subcommand input status old new → IsLateStatus status
 concludes_late Run input status old new c = late_of_three status (run_is_0_1_or_3 c.0 status c.2)
 concludes_late (RunPaced mark) input status old new c = late_of_three status (paced_is_0_1_or_3 c.0 status c.2)
@@ -463,6 +492,7 @@ concludes_late Replay input status old new c = late_of_four status (replay_is_0_
 concludes_late Dump input status old new c = late_of_three status (count_is_0_1_or_3 counts_line input c.0 status old new c.1 c.2)
 concludes_late Dot input status old new c = late_of_three status (count_is_0_1_or_3 dot_text input c.0 status old new c.1 c.2)
 concludes_late Session input status old new c = late_of_three status (session_is_0_1_or_3 c.0 status c.2)
+concludes_late (Lisp limits) input status old new c = late_of_three status (lisp_is_0_1_or_3 c.0 status c.2)
 concludes_late (Completions shell) input status old new c = late_of_three status (sent_is_0_1_or_3 c.0 status c.2)
 concludes_late (Draw line) input status old new c = late_of_three status (draw_is_0_1_or_3 c.0 status old new c.1 c.2)
 
@@ -503,6 +533,7 @@ concludes_4 Replay input old new c = inl (refl, replay_is_4 input c.0 old new c.
 concludes_4 Dump input old new c = absurd (not_2_or_4 4 4 (inr refl) (count_is_0_1_or_3 counts_line input c.0 4 old new c.1 c.2) refl)
 concludes_4 Dot input old new c = absurd (not_2_or_4 4 4 (inr refl) (count_is_0_1_or_3 dot_text input c.0 4 old new c.1 c.2) refl)
 concludes_4 Session input old new c = absurd (not_2_or_4 4 4 (inr refl) (session_is_0_1_or_3 c.0 4 c.2) refl)
+concludes_4 (Lisp limits) input old new c = absurd (not_2_or_4 4 4 (inr refl) (lisp_is_0_1_or_3 c.0 4 c.2) refl)
 concludes_4 (Completions shell) input old new c = absurd (not_2_or_4 4 4 (inr refl) (sent_is_0_1_or_3 c.0 4 c.2) refl)
 concludes_4 (Draw line) input old new c = absurd (not_2_or_4 4 4 (inr refl) (draw_is_0_1_or_3 c.0 4 old new c.1 c.2) refl)
 

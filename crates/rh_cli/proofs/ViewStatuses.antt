@@ -26,7 +26,7 @@ use Rattle.rh_cli.specs.Fault.{IsLateStatus, status_of}
 use Rattle.rh_cli.specs.Replay.{IsJudged, IsReplayStatus}
 use Rattle.rh_cli.specs.Views.{ConcludesViewed, IsViewStatus, ReportEnds, told_counts, told_report, view_status}
 use Rattle.rh_cli.specs.declared.ask.Subcommand.{Subcommand}
-use Rattle.rh_cli.specs.declared.ask.Subcommand.TheVariants.{Run, RunPaced, RunGrowing, Threads, Replay, Dump, Dot, Draw, Session, Completions}
+use Rattle.rh_cli.specs.declared.ask.Subcommand.TheVariants.{Run, RunPaced, RunGrowing, Threads, Replay, Dump, Dot, Draw, Session, Lisp, Completions}
 use Rattle.rh_cli.specs.declared.fault.LineFault.{LineFault}
 use Rattle.rh_cli.specs.declared.fault.LineFault.TheVariants as faults
 use Rattle.rh_cli.proofs.StatusLaws.{concludes_late, count_is_0, count_is_0_1_or_3, late_of_four, late_of_three, paced_fault_is_1_or_3, paced_is_0_1_or_3}
@@ -99,6 +99,7 @@ viewed_late telling Dump input status w c = late_of_three status (count_is_0_1_o
 viewed_late telling (Threads replicators idle) input status w c = concludes_late (Threads replicators idle) input status w.old w.new c.0
 viewed_late telling Dot input status w c = concludes_late Dot input status w.old w.new c.0
 viewed_late telling (Draw line) input status w c = concludes_late (Draw line) input status w.old w.new c.0
+viewed_late telling (Lisp limits) input status w c = concludes_late (Lisp limits) input status w.old w.new c.0
 viewed_late telling Session input status w c = concludes_late Session input status w.old w.new c.0
 viewed_late telling (Completions shell) input status w c = concludes_late (Completions shell) input status w.old w.new c.0
 

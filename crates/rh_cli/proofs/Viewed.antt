@@ -7,7 +7,7 @@ use Rattle.rh_cli.specs.Drive.{Concludes}
 use Rattle.rh_cli.specs.Count.{ConcludesDump}
 use Rattle.rh_cli.specs.Views.{ConcludesReport, ConcludesViewed, KeepsOthers, told_counts}
 use Rattle.rh_cli.specs.declared.ask.Subcommand.{Subcommand}
-use Rattle.rh_cli.specs.declared.ask.Subcommand.TheVariants.{Run, RunPaced, RunGrowing, Threads, Replay, Dump, Dot, Draw, Session, Completions}
+use Rattle.rh_cli.specs.declared.ask.Subcommand.TheVariants.{Run, RunPaced, RunGrowing, Threads, Replay, Dump, Dot, Draw, Session, Lisp, Completions}
 
 -- where the first writer was and is, and nothing was written to the others
 abbrev pub told_alone : Option (List ℕ) → Option (List ℕ) → Option (List ℕ) → Option (List ℕ) → Written
@@ -46,5 +46,6 @@ unviewed telling Dump status old new history cycles run paced growing replay dum
 unviewed telling (Threads replicators idle) status old new history cycles run paced growing replay dump input ends = (ends, others_kept old new history cycles)
 unviewed telling Dot status old new history cycles run paced growing replay dump input ends = (ends, others_kept old new history cycles)
 unviewed telling (Draw line) status old new history cycles run paced growing replay dump input ends = (ends, others_kept old new history cycles)
+unviewed telling (Lisp limits) status old new history cycles run paced growing replay dump input ends = (ends, others_kept old new history cycles)
 unviewed telling Session status old new history cycles run paced growing replay dump input ends = (ends, others_kept old new history cycles)
 unviewed telling (Completions shell) status old new history cycles run paced growing replay dump input ends = (ends, others_kept old new history cycles)

@@ -1,11 +1,14 @@
 -- The command line of the program, as clap knows it.
-use Rattle.std.specs.Prelude.{ℕ, ◌+◌, nat_le, nat_lt, List, [], ◌∷◌, Bool, true, false, if◌then◌else◌, Option, Some, None, Result, Ok, Err, codes}
+use Rattle.std.specs.Prelude.{ℕ, ◌+◌, ◌-◌, ◌^◌, nat_le, nat_lt, List, [], ◌∷◌, Bool, true, false, if◌then◌else◌, Option, Some, None, Result, Ok, Err, codes}
+use Rattle.std.specs.Option.{option_map}
 use Rattle.std.specs.Str.{bytes_eq}
 use Rattle.rh_text.specs.Number.{number_of}
 use Rattle.clap.specs.declared.builder.action.ArgAction.TheVariants.{SetTrue}
 use Rattle.clap.specs.Words.{App, Kinds, Row, Rule, Text, new_app, new_rule, with_rule, with_subcommand, subcommand_of, fault_of, first_of, takes}
 use Rattle.rh_cli.specs.declared.ask.Subcommand.{Subcommand}
-use Rattle.rh_cli.specs.declared.ask.Subcommand.TheVariants.{Run, RunPaced, RunGrowing, Threads, Replay, Dump, Dot, Draw, Session, Completions}
+use Rattle.rh_cli.specs.declared.ask.Subcommand.TheVariants.{Run, RunPaced, RunGrowing, Threads, Replay, Dump, Dot, Draw, Session, Lisp, Completions}
+use Rattle.rh_lisp_run.specs.declared.limits.HeapWords.{HeapWords}
+use Rattle.rh_lisp_run.specs.declared.limits.HeapWords.TheVariants.{UpTo, Just}
 use Rattle.rh_cli.specs.declared.ask.Shell.TheVariants.{Bash, Zsh, Fish}
 use Rattle.rh_viewed_trace.specs.declared.telling.Telling.{Telling}
 use Rattle.rh_viewed_trace.specs.declared.telling.Telling.TheVariants.{Answers, Echo, Json}
@@ -97,6 +100,19 @@ line_rule = record (new_rule (codes "line")) { long = Some (codes "line"); value
 abbrev pub draw_app : App
 draw_app = with_rule (file_app (codes "draw")) line_rule
 
+-- the options of `lisp`, each with a value, beside that of a heap that grows
+abbrev pub heap_rule : Rule
+heap_rule = record (new_rule (codes "heap")) { long = Some (codes "heap"); value_names = 1 }
+
+abbrev pub steps_rule : Rule
+steps_rule = record (new_rule (codes "steps")) { long = Some (codes "steps"); value_names = 1 }
+
+-- the command `lisp`: a file, and these options
+abbrev pub lisp_app : App
+lisp_app =
+    with_rule (with_rule (with_rule (with_rule (new_app (codes "lisp")) file_rule) heap_rule)
+    grow_rule) steps_rule
+
 -- the command `shell`: no file
 abbrev pub shell_app : App
 shell_app = new_app (codes "shell")
@@ -130,7 +146,8 @@ names_command word =
     else (if bytes_eq word (codes "dump") then true
     else (if bytes_eq word (codes "draw") then true
     else (if bytes_eq word (codes "shell") then true
-    else bytes_eq word (codes "completions"))))))
+    else (if bytes_eq word (codes "lisp") then true
+    else bytes_eq word (codes "completions")))))))
 
 -- whether the command of this name has its options where the word is the first: it names that
 -- command, or none
@@ -149,6 +166,7 @@ rheap_app_for word =
     in let replay = command_for word (codes "replay") replay_app
     in let dump = command_for word (codes "dump") dump_app
     in let draw = command_for word (codes "draw") draw_app
+    in let lisp = command_for word (codes "lisp") lisp_app
     in let completions = command_for word (codes "completions") completions_app
     in let with_run = with_subcommand rheap_top run.top
     in let with_threads = with_subcommand with_run threads.top
@@ -156,7 +174,8 @@ rheap_app_for word =
     in let with_dump = with_subcommand with_replay dump.top
     in let with_draw = with_subcommand with_dump draw.top
     in let with_shell = with_subcommand with_draw shell_app.top
-    in with_subcommand with_shell completions.top
+    in let with_lisp = with_subcommand with_shell lisp.top
+    in with_subcommand with_lisp completions.top
 
 -- the program with its commands, where these are the arguments
 abbrev pub rheap_app : List Text → App
@@ -226,6 +245,29 @@ abbrev pub draw_asked : Option Text → Result Subcommand LineFault
 draw_asked None = Ok (Draw None)
 draw_asked (Some text) = draw_at (number_of text)
 
+-- the heap of a program: one that grows, to at most 16,777,216 words where it isn't said, or one of
+-- so many words; not both
+abbrev pub heap_words : Option Text → Option Text → Option HeapWords
+heap_words None None = Some (UpTo 16777216)
+heap_words None (Some text) = option_map UpTo (number_of text)
+heap_words (Some text) None = option_map Just (number_of text)
+heap_words (Some text) (Some other) = None
+
+-- the steps of a program: 2^64 - 1 where it isn't said
+abbrev pub steps_given : Option Text → Option ℕ
+steps_given None = Some (2 ^ 64 - 1)
+steps_given (Some text) = number_of text
+
+-- a program on such a heap with so many steps, or the fault of the first that is none
+abbrev pub lisp_with : Option HeapWords → Option ℕ → Result Subcommand LineFault
+lisp_with None steps = Err faults.Words
+lisp_with (Some heap) None = Err faults.Steps
+lisp_with (Some heap) (Some steps) = Ok (Lisp (record { heap = heap; steps = steps }))
+
+-- the program that is asked for: its heap of one size, or its heap that grows, and its steps
+abbrev pub lisp_asked : Option Text → Option Text → Option Text → Result Subcommand LineFault
+lisp_asked heap grow steps = lisp_with (heap_words heap grow) (steps_given steps)
+
 -- the completions for the shell of this name, or the fault where there are none
 abbrev pub completions_for : Text → Result Subcommand LineFault
 completions_for name =
@@ -249,6 +291,8 @@ pub record Options : Type 0 where
   pub dot : Option Text
   pub explain : Option Text
   pub line : Option Text
+  pub heap : Option Text
+  pub steps : Option Text
   pub shell : Option Text
   pub cycles : Option Text
   pub history : Option Text
@@ -271,8 +315,9 @@ command_named name given =
     else (if bytes_eq name (codes "dump") then Ok (dump_asked (is_set given.dot))
     else (if bytes_eq name (codes "draw") then draw_asked given.line
     else (if bytes_eq name (codes "shell") then Ok Session
+    else (if bytes_eq name (codes "lisp") then lisp_asked given.heap given.grow given.steps
     else (if bytes_eq name (codes "completions") then completions_asked given.shell
-    else Err faults.Incomplete))))))
+    else Err faults.Incomplete)))))))
 
 -- 1 where this holds
 abbrev pub once : Bool → ℕ
@@ -351,6 +396,8 @@ options_in rows = record {
   dot = first_of (codes "dot") rows;
   explain = first_of (codes "explain") rows;
   line = first_of (codes "line") rows;
+  heap = first_of (codes "heap") rows;
+  steps = first_of (codes "steps") rows;
   shell = first_of (codes "SHELL") rows;
   cycles = first_of (codes "cycles") rows;
   history = first_of (codes "history") rows;

@@ -14,8 +14,9 @@ arguments_status DisplayHelp = 0
 arguments_status DisplayVersion = 0
 arguments_status kind = 2
 
--- 0 done, 1 a fault in the file, sizes that make no heap, no pace, no such line, or a failed open, read or write, 2
--- the command line, 3 memory or a thread was refused, 4 a history that differs
+-- 0 done, 1 a fault in the file or an error of a program, sizes that make no heap, no pace, no such
+-- line, or a failed open, read or write, 2 the command line, 3 memory or a thread was refused, 4 a
+-- history that differs
 abbrev pub status_of : LineFault → ℕ
 status_of (faults.Arguments error) = arguments_status (kind_of error)
 status_of faults.NoText = 2
@@ -27,6 +28,8 @@ status_of faults.Idle = 2
 status_of faults.Line = 2
 status_of faults.Shell = 2
 status_of faults.Views = 2
+status_of faults.Words = 2
+status_of faults.Steps = 2
 status_of (faults.Trace fault) = 1
 status_of (faults.History fault) = 1
 status_of (faults.Dump fault) = 1
@@ -34,6 +37,8 @@ status_of (faults.Heap fault) = 1
 status_of (faults.Shared fault) = 1
 status_of faults.Limits = 1
 status_of faults.NoLine = 1
+status_of (faults.Program kind) = 1
+status_of faults.Stopped = 1
 status_of (faults.Pace why) = 1
 status_of faults.Open = 1
 status_of faults.Read = 1
@@ -65,6 +70,8 @@ IsArgumentsFault faults.Idle = ⊤
 IsArgumentsFault faults.Line = ⊤
 IsArgumentsFault faults.Shell = ⊤
 IsArgumentsFault faults.Views = ⊤
+IsArgumentsFault faults.Words = ⊤
+IsArgumentsFault faults.Steps = ⊤
 IsArgumentsFault faults.OutOfMemory = ⊤
 IsArgumentsFault fault = ⊥
 
@@ -86,6 +93,8 @@ IsEarlyFault faults.Idle = ⊤
 IsEarlyFault faults.Line = ⊤
 IsEarlyFault faults.Shell = ⊤
 IsEarlyFault faults.Views = ⊤
+IsEarlyFault faults.Words = ⊤
+IsEarlyFault faults.Steps = ⊤
 IsEarlyFault faults.Open = ⊤
 IsEarlyFault faults.OutOfMemory = ⊤
 IsEarlyFault fault = ⊥

@@ -3,6 +3,7 @@ pub mod Count
 pub mod Draw
 pub mod Drive
 pub mod Fault
+pub mod Lisp
 pub mod Paced
 pub mod Replay
 pub mod Session

@@ -10,6 +10,7 @@ ghost use Rattle.rh_cli.specs.declared.ask.Ask.{Ask};
 use crate::ask::{Ask, Shell, Subcommand, Views};
 use crate::fault::LineFault;
 use crate::help;
+use crate::lisp_arguments::{lisp_asked, lisp_command};
 use crate::version::VERSION;
 use clap::error::ErrorKind;
 use clap::{Arg, ArgAction, ArgMatches, Command};
@@ -38,6 +39,8 @@ struct Options<'a> {
     dot: Option<&'a str>,
     explain: Option<&'a str>,
     line: Option<&'a str>,
+    heap: Option<&'a str>,
+    steps: Option<&'a str>,
     shell: Option<&'a str>,
     cycles: Option<&'a str>,
     history: Option<&'a str>,
@@ -62,6 +65,7 @@ fn command_line<'a>(alloc: Global, word: &str) -> Result<Command<'a>, AllocError
         .subcommand(dump_command(alloc, word)?)?
         .subcommand(draw_command(alloc, word)?)?
         .subcommand(shell_command(alloc))?
+        .subcommand(lisp_command(alloc, word)?)?
         .subcommand(completions_command(alloc, word)?)
 }
 
@@ -238,7 +242,7 @@ fn completions_command<'a>(alloc: Global, word: &str) -> Result<Command<'a>, All
 }
 
 /// The command of this name without its options, as clap knows it.
-fn named_command<'a>(alloc: Global, name: &'a str, about: &'a str) -> Command<'a>
+pub(crate) fn named_command<'a>(alloc: Global, name: &'a str, about: &'a str) -> Command<'a>
     ensures app { app_of result ≡ new_app name.entry.now }
     ensures local { (fields_of result).has_globals ≡ false }
 {
@@ -247,7 +251,7 @@ fn named_command<'a>(alloc: Global, name: &'a str, about: &'a str) -> Command<'a
 
 /// Whether the command of this name has its options, where the word is the first. It has them if
 /// the word names it, or no command.
-fn has_options(word: &str, name: &str) -> bool
+pub(crate) fn has_options(word: &str, name: &str) -> bool
     ensures { result ≡ has_options word.now name.now }
 {
     if names_command(word) {
@@ -276,6 +280,9 @@ fn names_command(word: &str) -> bool
         return true;
     }
     if word == "shell" {
+        return true;
+    }
+    if word == "lisp" {
         return true;
     }
     word == "completions"
@@ -325,7 +332,9 @@ fn file_command<'a>(
 /// `--paced`, or with a value that is no number below 2^32; `Grow` where it has `--grow` without
 /// `--paced` or beside `--mark`, or with a value that is no such number; `Replicators` and then
 /// `Idle` where `threads` has such an option with a value that is no number up to 8, or up to
-/// 65,535; `Line` where `draw` has `--line` with a value that is no number from 1 below 2^32;
+/// 65,535; `Words` and then `Steps` where `lisp` has both `--heap` and `--grow`, or such an option
+/// or `--steps` with a value that is no number below 2^32; `Line` where `draw` has `--line` with a
+/// value that is no number from 1 below 2^32;
 /// `Shell` where `completions` is asked for another shell than bash, zsh and fish; `Views` where
 /// two texts are for standard output, two for one file, or one for the file that is read;
 /// `OutOfMemory` where memory was refused.
@@ -420,6 +429,8 @@ fn ask_of<'a>(matches: &ArgMatches<'a>) -> Result<Ask<'a>, LineFault>
         dot: values.get_str("dot"),
         explain: values.get_str("explain"),
         line: values.get_str("line"),
+        heap: values.get_str("heap"),
+        steps: values.get_str("steps"),
         shell: values.get_str("SHELL"),
         cycles: values.get_str("cycles"),
         history: values.get_str("history"),
@@ -506,6 +517,8 @@ fn output_texts(given: &Options<'_>) -> u32
       dot = option_map (λ t. t.now) given.now.dot;
       explain = option_map (λ t. t.now) given.now.explain;
       line = option_map (λ t. t.now) given.now.line;
+      heap = option_map (λ t. t.now) given.now.heap;
+      steps = option_map (λ t. t.now) given.now.steps;
       shell = option_map (λ t. t.now) given.now.shell;
       cycles = option_map (λ t. t.now) given.now.cycles;
       history = option_map (λ t. t.now) given.now.history;
@@ -546,6 +559,8 @@ fn is_crossed(given: &Options<'_>) -> bool
       dot = option_map (λ t. t.now) given.now.dot;
       explain = option_map (λ t. t.now) given.now.explain;
       line = option_map (λ t. t.now) given.now.line;
+      heap = option_map (λ t. t.now) given.now.heap;
+      steps = option_map (λ t. t.now) given.now.steps;
       shell = option_map (λ t. t.now) given.now.shell;
       cycles = option_map (λ t. t.now) given.now.cycles;
       history = option_map (λ t. t.now) given.now.history;
@@ -575,6 +590,8 @@ fn command_asked(name: &str, given: Options<'_>) -> Result<Subcommand, LineFault
       dot = option_map (λ t. t.now) given.entry.dot;
       explain = option_map (λ t. t.now) given.entry.explain;
       line = option_map (λ t. t.now) given.entry.line;
+      heap = option_map (λ t. t.now) given.entry.heap;
+      steps = option_map (λ t. t.now) given.entry.steps;
       shell = option_map (λ t. t.now) given.entry.shell;
       cycles = option_map (λ t. t.now) given.entry.cycles;
       history = option_map (λ t. t.now) given.entry.history;
@@ -604,6 +621,8 @@ fn command_named(name: &str, given: Options<'_>) -> Result<Subcommand, LineFault
       dot = option_map (λ t. t.now) given.entry.dot;
       explain = option_map (λ t. t.now) given.entry.explain;
       line = option_map (λ t. t.now) given.entry.line;
+      heap = option_map (λ t. t.now) given.entry.heap;
+      steps = option_map (λ t. t.now) given.entry.steps;
       shell = option_map (λ t. t.now) given.entry.shell;
       cycles = option_map (λ t. t.now) given.entry.cycles;
       history = option_map (λ t. t.now) given.entry.history;
@@ -630,6 +649,9 @@ fn command_named(name: &str, given: Options<'_>) -> Result<Subcommand, LineFault
     }
     if name == "shell" {
         return Ok(Subcommand::Session);
+    }
+    if name == "lisp" {
+        return lisp_asked(given.heap, given.grow, given.steps);
     }
     if name == "completions" {
         return completions_asked(given.shell);

@@ -1,5 +1,6 @@
 //! What the program is asked to do.
 
+use rh_lisp_run::Limits;
 use rh_viewed_trace::Telling;
 
 /// A shell that completes command lines.
@@ -77,6 +78,11 @@ pub enum Subcommand {
     },
     /// Answer the lines of a session as they are typed.
     Session,
+    /// Run the program of the small Scheme in it.
+    Lisp {
+        /// What the program may take.
+        limits: Limits,
+    },
     /// Write the completions for a shell. There is no file.
     Completions {
         /// The shell.

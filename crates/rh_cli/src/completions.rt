@@ -7,7 +7,7 @@ _rheap() {
     local word=${COMP_WORDS[COMP_CWORD]} before=${COMP_WORDS[COMP_CWORD - 1]} options= valued=
     COMPREPLY=()
     if [ \"$COMP_CWORD\" = 1 ]; then
-        mapfile -t COMPREPLY < <(compgen -W 'run threads replay dump draw shell completions help -h --help -V --version' -- \"$word\")
+        mapfile -t COMPREPLY < <(compgen -W 'run threads replay dump draw shell lisp completions help -h --help -V --version' -- \"$word\")
         return
     fi
     case ${COMP_WORDS[1]} in
@@ -17,9 +17,10 @@ _rheap() {
     dump) options='--explain --dot --json -h --help' valued='' ;;
     draw) options='--explain --line -h --help' valued='--line' ;;
     shell) options='-h --help' valued='' ;;
+    lisp) options='--heap --grow --steps -h --help' valued='--heap --grow --steps' ;;
     completions) options='-h --help' valued='' ;;
     help)
-        mapfile -t COMPREPLY < <(compgen -W 'run threads replay dump draw shell completions' -- \"$word\")
+        mapfile -t COMPREPLY < <(compgen -W 'run threads replay dump draw shell lisp completions' -- \"$word\")
         return
         ;;
     *) return ;;
@@ -64,6 +65,7 @@ command)
         'dump:Reads a dump, and prints how many roots and objects it has'
         'draw:Draws the heap of a trace after one of its lines, in SVG'
         'shell:Answers the lines of a trace as they are typed, and draws the heap'
+        'lisp:Runs a program of a small Scheme, and prints what it puts out'
         'completions:Prints completions of the program'\\''s command lines for a shell'
         'help:Print this message or the help of the given subcommand(s)'
     )
@@ -120,12 +122,20 @@ argument)
             '(- *)'{-h,--help}'[Print help]' \\
             && return
         ;;
+    lisp)
+        _arguments \\
+            '--heap=[Each of its spaces has so many words, and keeps them]:WORDS: ' \\
+            '--grow=[Each of its spaces grows to at most so many words; 16777216 if it isn'\\''t said]:WORDS: ' \\
+            '--steps=[The instructions that the program may do; without it more than any does]:N: ' \\
+            '(- *)'{-h,--help}'[Print help]' \\
+            '1:FILE:_files'
+        ;;
     completions)
         _arguments \\
             '(- *)'{-h,--help}'[Print help]' \\
             '1:SHELL:(bash zsh fish)'
         ;;
-    help) _values 'command' run threads replay dump draw shell completions ;;
+    help) _values 'command' run threads replay dump draw shell lisp completions ;;
     esac
     ;;
 esac
@@ -140,11 +150,12 @@ complete -c rheap -n __fish_use_subcommand -f -a replay -d 'Checks a history aga
 complete -c rheap -n __fish_use_subcommand -f -a dump -d 'Reads a dump, and prints how many roots and objects it has'
 complete -c rheap -n __fish_use_subcommand -f -a draw -d 'Draws the heap of a trace after one of its lines, in SVG'
 complete -c rheap -n __fish_use_subcommand -f -a shell -d 'Answers the lines of a trace as they are typed, and draws the heap'
+complete -c rheap -n __fish_use_subcommand -f -a lisp -d 'Runs a program of a small Scheme, and prints what it puts out'
 complete -c rheap -n __fish_use_subcommand -f -a completions -d 'Prints completions of the program\\'s command lines for a shell'
 complete -c rheap -n __fish_use_subcommand -f -a help -d 'Print this message or the help of the given subcommand(s)'
 complete -c rheap -n '__fish_use_subcommand' -s h -l help -d 'Print help'
 complete -c rheap -n '__fish_use_subcommand' -s V -l version -d 'Print version'
-complete -c rheap -n '__fish_seen_subcommand_from help' -f -a 'run threads replay dump draw shell completions'
+complete -c rheap -n '__fish_seen_subcommand_from help' -f -a 'run threads replay dump draw shell lisp completions'
 complete -c rheap -n '__fish_seen_subcommand_from run' -l explain -d 'Shows the part of a line that is wrong, and says what may stand there'
 complete -c rheap -n '__fish_seen_subcommand_from run' -l paced -d 'Runs a trace of commands alone, on a heap that collects by itself'
 complete -c rheap -n '__fish_seen_subcommand_from run' -l mark -x -d 'With --paced: a cycle begins where fewer than N words are free'
@@ -171,6 +182,10 @@ complete -c rheap -n '__fish_seen_subcommand_from draw' -l line -x -d 'The line 
 complete -c rheap -n '__fish_seen_subcommand_from draw' -s h -l help -d 'Print help'
 complete -c rheap -n '__fish_seen_subcommand_from shell' -s h -l help -d 'Print help'
 complete -c rheap -n '__fish_seen_subcommand_from shell' -f
+complete -c rheap -n '__fish_seen_subcommand_from lisp' -l heap -x -d 'Each of its spaces has so many words, and keeps them'
+complete -c rheap -n '__fish_seen_subcommand_from lisp' -l grow -x -d 'Each of its spaces grows to at most so many words; 16777216 if it isn\\'t said'
+complete -c rheap -n '__fish_seen_subcommand_from lisp' -l steps -x -d 'The instructions that the program may do; without it more than any does'
+complete -c rheap -n '__fish_seen_subcommand_from lisp' -s h -l help -d 'Print help'
 complete -c rheap -n '__fish_seen_subcommand_from completions' -s h -l help -d 'Print help'
 complete -c rheap -n '__fish_seen_subcommand_from completions' -f -a 'bash zsh fish'
 ";

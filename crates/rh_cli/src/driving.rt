@@ -15,6 +15,7 @@ use crate::drawing::draw;
 use crate::ending::Ending;
 use crate::fault::LineFault;
 use crate::graphing::print_graph;
+use crate::lisp::run_program;
 use crate::pacing::{run_by_growth, run_by_mark};
 use crate::replaying::replay;
 use crate::running::run;
@@ -29,7 +30,8 @@ use std::thread::Threads;
 /// which is flushed at the end, and one line on failure to `err`. Answers the status that the
 /// program ends with: 0 where it is done, 4 for a wrong history or, of `threads`, one that differs,
 /// 3 where memory or a thread was refused, and else 1. It waits for the threads of `threads`. A
-/// session has no prompt, and no file for a picture. It has no views: `drive_viewed` has.
+/// session has no prompt, and no file for a picture. A program that stops is told without its place:
+/// `drive_lisp` has it. It has no views: `drive_viewed` has.
 pub fn drive<T, A, R, O, E>(
     rt: &T,
     alloc: A,
@@ -99,6 +101,7 @@ where
         Subcommand::Dot => print_graph(alloc, reader, out),
         Subcommand::Draw { line } => draw(alloc, reader, out, line),
         Subcommand::Session => converse(alloc, reader, out, &mut Alone),
+        Subcommand::Lisp { limits } => run_program(alloc, reader, out, limits),
         Subcommand::Completions { shell } => print_completions(shell, out),
     }
 }

@@ -6,6 +6,7 @@ ghost use Rattle.rh_cli.specs.Fault.{status_of};
 
 use rh_core::ConfigFault;
 use rh_dump::DumpFault;
+use rh_lisp_run::FaultKind;
 use rh_pace::PaceError;
 use rh_replay::HistoryFault;
 use rh_shared::SharedFault;
@@ -49,6 +50,13 @@ pub enum LineFault {
     /// or two are for one file.
     #[error("rheap: --echo, --json, --dot and OUT - can't stand together, and OUT is a file of its own")]
     Views,
+    /// `--heap` and `--grow` of `lisp` stand together, or the value of one isn't a number of words, 0
+    /// to 4,294,967,295.
+    #[error("rheap: --heap or --grow needs a number of words, 0 to 4294967295, and not both stand")]
+    Words,
+    /// The value of `--steps` isn't a number, 0 to 4,294,967,295.
+    #[error("rheap: --steps needs a number of steps, 0 to 4294967295")]
+    Steps,
     /// The file is no trace.
     #[error("rheap: {0}")]
     Trace(TraceFault),
@@ -64,14 +72,20 @@ pub enum LineFault {
     /// No shared heap is made with the replicators that were asked for.
     #[error("rheap: heap: {0}")]
     Shared(SharedFault),
-    /// The most words that a heap may have are fewer than those that its trace asks for, or more
-    /// than there can be.
+    /// The most words that a heap may have are fewer than those that its trace asks for, or that a
+    /// program's begins with, or more than there can be.
     #[error("rheap: grow: BadLimits")]
     Limits,
     /// The trace has no line of the number that was asked for.
     #[error("rheap: draw: NoLine")]
     NoLine,
-    /// No pace keeps up in a heap of these sizes with what a trace asks for.
+    /// The file is no program of the small Scheme. `drive_lisp` tells where.
+    #[error("rheap: program: {0}")]
+    Program(FaultKind),
+    /// The program in the file stopped before its end. `drive_lisp` tells where and why.
+    #[error("rheap: the program stopped")]
+    Stopped,
+    /// No pace keeps up in a heap of these sizes with what a trace asks for, or a program.
     #[error("rheap: pace: {0}")]
     Pace(PaceError),
     /// The file can't be opened.
@@ -89,7 +103,7 @@ pub enum LineFault {
     /// of a text for Graphviz, didn't come to its end, or the last flush failed.
     #[error("rheap: write failed")]
     Write,
-    /// The trace or the history has more than 16,777,216 bytes.
+    /// The trace or the history has more than 16,777,216 bytes, or the program more than 1,048,576.
     #[error("rheap: too long")]
     TooLong,
     /// Memory was refused, or a thread.
@@ -109,6 +123,7 @@ impl LineFault {
             LineFault::Arguments(_) | LineFault::NoText | LineFault::Incomplete => 2,
             LineFault::Mark | LineFault::Grow | LineFault::Replicators | LineFault::Idle => 2,
             LineFault::Line | LineFault::Shell | LineFault::Views => 2,
+            LineFault::Words | LineFault::Steps => 2,
             LineFault::OutOfMemory => 3,
             LineFault::HistoryDiffers => 4,
             _ => 1,

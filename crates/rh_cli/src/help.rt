@@ -301,6 +301,63 @@ Statuses:
 
 Lines and answers are described in docs/formats.md.";
 
+/// What the help of `lisp` ends with.
+pub const LISP: &str = "\
+The file is a program of a small Scheme, a part of R7RS. It runs on a heap that collects by itself,
+and prints the same on each heap that is large enough.
+
+Values      whole numbers from -2^60 to 2^60 - 1, booleans, characters of a byte, symbols, pairs,
+            strings, vectors, procedures
+Forms       define lambda if cond case and or when unless let, named let, let* letrec do begin set!
+            quote quasiquote
+Numbers     + - * quotient remainder modulo = < <= > >= abs max min zero? positive? negative? even?
+            odd? number? number->string
+Lists       cons car cdr set-car! set-cdr! pair? null? list list? length append reverse list-tail
+            list-ref memq memv member assq assv assoc map for-each apply
+Others      eq? eqv? equal? not boolean? symbol? procedure? call/cc, what reads and makes characters,
+            strings and vectors, display write newline error
+
+What differs from R7RS: numbers are whole, and what passes them is an error. Vectors and strings
+have at most 4094 elements. There are no macros, no ports, no dynamic-wind, and no `=>`; comments
+begin with `;`. A continuation that is entered again finds the variables of its function as they are.
+docs/lisp.md has the rest.
+
+What the program prints is written once it has ended, at most 1048576 characters and names. It has
+no input. A name that it defines or sets is its own, and the procedures of the language go on
+without it.
+
+  --heap WORDS  each space of the heap has so many words; where they are too few for what lives, the
+                program ends by `heap exhausted`
+  --grow WORDS  each space begins small and grows to at most so many words, from 8618 to 16777216;
+                without --heap it is so, up to 16777216
+  --steps N     the instructions that the program may do; without it none is missed
+
+Statuses:
+  0  the program came to its end
+  1  it has a fault or stopped, no heap has so many words, or the file can't be opened or read, or a
+     write failed
+  2  the command line isn't understood
+  3  memory was refused
+
+A program that stops has printed what it printed before, and standard error has one line, as
+`FILE:3:15: car: not a pair`, with the line and the column of the form that was done. Where that is
+in a procedure of the language, the place is that of the program's last call. So are told
+
+  unbound variable, not a pair, not a number, not a procedure, not a vector, not a string,
+  not a character, wrong number of arguments, too many arguments, out of range, division by zero,
+  overflow, heap exhausted, steps spent, too much output, and the text that `error` was given
+
+A text that is no program is told in the same way, before anything runs:
+
+  unexpected ), unfinished, misplaced dot, number out of range, no such datum, bad form, not a name,
+  too many globals, too many variables, program too long
+
+On other failures standard error has one line, as `rheap: open failed`; of the heap
+  grow: BadLimits         WORDS of --grow is too few or above 16777216
+  pace: TooSmall need N   WORDS of --heap is below N
+  heap: BadSpace          WORDS of --heap is above 16777216
+The file has at most 1048576 bytes, or is too long.";
+
 /// What the help of `completions` ends with.
 pub const COMPLETIONS: &str = "\
 The text is a script of that shell. It completes the commands, their options and names of files:

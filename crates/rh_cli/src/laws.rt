@@ -1,6 +1,6 @@
 //! Laws of the definitions alone. Each function does nothing: its contract is the law.
 
-ghost use Rattle.std.specs.Prelude.{◌≡◌, ◌≢◌, ◌≤◌, ◌⊎◌, ◌↔◌, ℕ, ◌++◌, Bool, List, [], ◌∷◌, length, Option, Some, None, Result, Ok, Err, IsTrue, false, codes, decimal};
+ghost use Rattle.std.specs.Prelude.{◌≡◌, ◌≢◌, ◌≤◌, ◌-◌, ◌^◌, ◌⊎◌, ◌↔◌, ℕ, ◌++◌, Bool, List, [], ◌∷◌, length, Option, Some, None, Result, Ok, Err, IsTrue, false, codes, decimal};
 ghost use Rattle.std.specs.List.{AllByRecursion, flat_map};
 ghost use Rattle.std.specs.Io.KnownBytes.{Appends, Keeps};
 ghost use Rattle.clap.specs.Words.{kind_of};
@@ -45,6 +45,12 @@ ghost use Rattle.rh_viewed_trace.specs.declared.telling.Telling.{Telling as Tell
 ghost use Rattle.rh_viewed_trace.specs.Cycles.{cycles_text};
 ghost use Rattle.rh_viewed_trace.specs.Run.{run_cycles, run_history, view_of_run, IsRun as IsViewedRun, Written};
 ghost use Rattle.rh_viewed_trace.specs.Ways.{IsTold, growing_answered, growing_cycles, paced_answered, paced_cycles};
+ghost use Rattle.rh_lisp.specs.Printed.{output_text as lisp_text};
+ghost use Rattle.rh_lisp.specs.Program.{ProgramState};
+ghost use Rattle.rh_machine.specs.declared.ending.Ending.TheVariants.{Halted};
+ghost use Rattle.rh_lisp_run.specs.Run.{IsNewMachine, IsRun as IsLispRun};
+ghost use Rattle.rh_lisp_run.specs.declared.limits.Limits.{Limits as LimitsOf};
+ghost use Rattle.rh_lisp_run.specs.declared.limits.HeapWords.{HeapWords as HeapWordsOf};
 ghost use Rattle.rh_cli.specs.declared.ask.Shell.{Shell as ShellOf};
 ghost use Rattle.rh_cli.specs.declared.ask.Subcommand.{Subcommand as SubcommandOf};
 ghost use Rattle.rh_cli.specs.declared.ending.Ending.{Ending as EndingOf};
@@ -64,7 +70,8 @@ use std::alloc::Global;
 /// 0 says that all was done: a run answered its whole trace, a paced run its whole trace of
 /// commands at its pace, a growing run its whole trace of commands, the history of one in threads
 /// is written, a history is legal and its report is written, or the counts of a dump's graph are,
-/// or its text for Graphviz, or a picture, or completions, or the whole text of a session.
+/// or its text for Graphviz, or a picture, or completions, or the whole text of a session, or what
+/// a program of the small Scheme printed that finished.
 pub fn status_0_says_done()
     ensures run { (input : List ℕ) (old new : Option (List ℕ))
         → Concludes SubcommandOf.Run input 0 old new
@@ -99,6 +106,11 @@ pub fn status_0_says_done()
         → Concludes SubcommandOf.Session input 0 old new
         → (text : List ℕ) × (summary : SummaryOf) × IsSession (lines_of input) text summary
         × Appends old new text }
+    ensures lisp { (limits : LimitsOf) (input : List ℕ) (old new : Option (List ℕ))
+        → Concludes (SubcommandOf.Lisp limits) input 0 old new
+        → (begun : ProgramState) × (ended : ProgramState)
+        × IsNewMachine limits.steps begun.machine × IsLispRun begun ended
+        × (ended.machine.ended ≡ Some Halted) × Appends old new (lisp_text ended) }
     ensures completions { (shell : ShellOf) (input : List ℕ) (old new : Option (List ℕ))
         → Concludes (SubcommandOf.Completions shell) input 0 old new
         → (text : List ℕ) × Appends old new text }
@@ -149,7 +161,8 @@ pub fn status_2_says_that_the_command_line_is_not_understood()
         → (fault ≡ FaultOf.NoText) ⊎ ((fault ≡ FaultOf.Incomplete) ⊎ ((fault ≡ FaultOf.Mark)
         ⊎ ((fault ≡ FaultOf.Grow) ⊎ ((fault ≡ FaultOf.Replicators) ⊎ ((fault ≡ FaultOf.Idle)
         ⊎ ((fault ≡ FaultOf.Line) ⊎ ((fault ≡ FaultOf.Shell) ⊎ ((fault ≡ FaultOf.Views)
-        ⊎ ((error : ClapError) × (fault ≡ FaultOf.Arguments error)))))))))) }
+        ⊎ ((fault ≡ FaultOf.Words) ⊎ ((fault ≡ FaultOf.Steps)
+        ⊎ ((error : ClapError) × (fault ≡ FaultOf.Arguments error)))))))))))) }
     ensures no_text { status_of FaultOf.NoText ≡ 2 }
     ensures incomplete { status_of FaultOf.Incomplete ≡ 2 }
     ensures mark { status_of FaultOf.Mark ≡ 2 }
@@ -159,6 +172,8 @@ pub fn status_2_says_that_the_command_line_is_not_understood()
     ensures line { status_of FaultOf.Line ≡ 2 }
     ensures shell { status_of FaultOf.Shell ≡ 2 }
     ensures views { status_of FaultOf.Views ≡ 2 }
+    ensures words { status_of FaultOf.Words ≡ 2 }
+    ensures steps { status_of FaultOf.Steps ≡ 2 }
     // What clap refuses has 2, unless it asks for help or the version, which is no mistake.
     ensures asked { (error : ClapError)
         → (kind_of error ≡ DisplayHelp) ⊎ (kind_of error ≡ DisplayVersion)
@@ -195,6 +210,8 @@ pub fn status_3_says_want_of_memory()
         → Concludes (SubcommandOf.Draw line) input 3 old new → Keeps old new }
     ensures completions { (shell : ShellOf) (input : List ℕ) (old new : Option (List ℕ))
         → Concludes (SubcommandOf.Completions shell) input 3 old new → Keeps old new }
+    ensures lisp { (limits : LimitsOf) (input : List ℕ) (old new : Option (List ℕ))
+        → Concludes (SubcommandOf.Lisp limits) input 3 old new → Keeps old new }
 {}
 
 /// 4 says that a history is wrong, and that the whole report on it is written; or, of a run in
@@ -283,6 +300,23 @@ pub fn worked_command_lines()
         ≡ is_taken (codes "rheap" ∷ codes "run" ∷ codes "x" ∷ codes "--line=7" ∷ []) }
     ensures session { command_and_file_of (codes "rheap" ∷ codes "shell" ∷ [])
         ≡ Ok (SubcommandOf.Session, codes "-") }
+    ensures lisp { command_and_file_of (codes "rheap" ∷ codes "lisp" ∷ codes "x" ∷ [])
+        ≡ Ok (
+          SubcommandOf.Lisp (record {
+            heap = HeapWordsOf.UpTo 16777216;
+            steps = 2 ^ 64 - 1;
+          }),
+          codes "x",
+        ) }
+    ensures lisp_heap { command_and_file_of (codes "rheap" ∷ codes "lisp" ∷ codes "--heap"
+        ∷ codes "9000" ∷ codes "--steps=7" ∷ codes "x" ∷ [])
+        ≡ Ok (SubcommandOf.Lisp (record { heap = HeapWordsOf.Just 9000; steps = 7 }), codes "x") }
+    ensures lisp_heaps { command_and_file_of (codes "rheap" ∷ codes "lisp" ∷ codes "x"
+        ∷ codes "--heap=9000" ∷ codes "--grow=9000" ∷ []) ≡ Err FaultOf.Words }
+    ensures lisp_steps { command_and_file_of (codes "rheap" ∷ codes "lisp" ∷ codes "x"
+        ∷ codes "--steps=many" ∷ []) ≡ Err FaultOf.Steps }
+    ensures lisp_mark { false
+        ≡ is_taken (codes "rheap" ∷ codes "lisp" ∷ codes "x" ∷ codes "--mark=7" ∷ []) }
     ensures session_file { false ≡ is_taken (codes "rheap" ∷ codes "shell" ∷ codes "x" ∷ []) }
     ensures plain { viewed_of (codes "rheap" ∷ codes "run" ∷ codes "x" ∷ [])
         ≡ record { telling = TellingOf.Answers; cycles = None; history = None } }

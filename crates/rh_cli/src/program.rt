@@ -16,6 +16,7 @@ use crate::driving::{drive, show, tell};
 use crate::explaining::drive_explained;
 use crate::fault::LineFault;
 use crate::keeping::KeptReader;
+use crate::lisp::play_lisp;
 use crate::outputs::outputs_of;
 use crate::viewed_driving::{drive_viewed, tell_as};
 use std::alloc::Global;
@@ -171,6 +172,9 @@ where
 {
     if let Subcommand::Session = ask.subcommand {
         return hold_session(rt, err, terminals.input);
+    }
+    if let Subcommand::Lisp { limits } = ask.subcommand {
+        return play_lisp(rt, ask.file, limits, err);
     }
     let explains = terminals.error || ask.explain;
     if !ask.views.is_plain() {
@@ -330,7 +334,7 @@ pub(crate) fn gathering<W: Write + Drop>(
 }
 
 /// The file of this name, to read it.
-fn opened<R: Files>(rt: &R, name: &str) -> Result<R::File, LineFault>
+pub(crate) fn opened<R: Files>(rt: &R, name: &str) -> Result<R::File, LineFault>
     ensures { IfErr result (λ fault. fault ≡ LineFault.Open) }
 {
     match File::open(rt, name) {
@@ -340,7 +344,7 @@ fn opened<R: Files>(rt: &R, name: &str) -> Result<R::File, LineFault>
 }
 
 /// Whether a file's name says standard input.
-fn is_standard_input(file: &str) -> bool
+pub(crate) fn is_standard_input(file: &str) -> bool
     ensures { IsTrue result ↔ (file.now ≡ codes "-") }
 {
     file == "-"

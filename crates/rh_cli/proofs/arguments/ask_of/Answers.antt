@@ -18,14 +18,16 @@ returns-in_err-subcommand-clause-none c =
       dot = option_map (λ t. t.now) c.get_str-6.result;
       explain = option_map (λ t. t.now) c.get_str-7.result;
       line = option_map (λ t. t.now) c.get_str-8.result;
-      shell = option_map (λ t. t.now) c.get_str-9.result;
-      cycles = option_map (λ t. t.now) c.get_str-10.result;
-      history = option_map (λ t. t.now) c.get_str-11.result;
-      echo = option_map (λ t. t.now) c.get_str-12.result;
-      json = option_map (λ t. t.now) c.get_str-13.result;
-      file = option_map (λ t. t.now) c.get_str-14.result;
+      heap = option_map (λ t. t.now) c.get_str-9.result;
+      steps = option_map (λ t. t.now) c.get_str-10.result;
+      shell = option_map (λ t. t.now) c.get_str-11.result;
+      cycles = option_map (λ t. t.now) c.get_str-12.result;
+      history = option_map (λ t. t.now) c.get_str-13.result;
+      echo = option_map (λ t. t.now) c.get_str-14.result;
+      json = option_map (λ t. t.now) c.get_str-15.result;
+      file = option_map (λ t. t.now) c.get_str-16.result;
     } in
-    let matched : AreMatched values given = record { paced = c.get_str.ensures; mark = c.get_str-2.ensures; grow = c.get_str-3.ensures; replicators = c.get_str-4.ensures; idle = c.get_str-5.ensures; dot = c.get_str-6.ensures; explain = c.get_str-7.ensures; line = c.get_str-8.ensures; shell = c.get_str-9.ensures; cycles = c.get_str-10.ensures; history = c.get_str-11.ensures; echo = c.get_str-12.ensures; json = c.get_str-13.ensures; file = c.get_str-14.ensures } in
+    let matched : AreMatched values given = record { paced = c.get_str.ensures; mark = c.get_str-2.ensures; grow = c.get_str-3.ensures; replicators = c.get_str-4.ensures; idle = c.get_str-5.ensures; dot = c.get_str-6.ensures; explain = c.get_str-7.ensures; line = c.get_str-8.ensures; heap = c.get_str-9.ensures; steps = c.get_str-10.ensures; shell = c.get_str-11.ensures; cycles = c.get_str-12.ensures; history = c.get_str-13.ensures; echo = c.get_str-14.ensures; json = c.get_str-15.ensures; file = c.get_str-16.ensures } in
     let e = command_and_file_in-matches c.args.matches.now c.in-Some.name.now values given c.in-Some.ensures.name c.in-Some.ensures.rows matched in
     let named = ap (λ r. with_file r given.file) (sym c.in_err-subcommand.ensures.asked) in
     let p = err_from_is_err_and c.from_residual.result c.from_residual.ensures.1 in
@@ -43,14 +45,16 @@ returns-clause-found c =
       dot = option_map (λ t. t.now) c.get_str-6.result;
       explain = option_map (λ t. t.now) c.get_str-7.result;
       line = option_map (λ t. t.now) c.get_str-8.result;
-      shell = option_map (λ t. t.now) c.get_str-9.result;
-      cycles = option_map (λ t. t.now) c.get_str-10.result;
-      history = option_map (λ t. t.now) c.get_str-11.result;
-      echo = option_map (λ t. t.now) c.get_str-12.result;
-      json = option_map (λ t. t.now) c.get_str-13.result;
-      file = option_map (λ t. t.now) c.get_str-14.result;
+      heap = option_map (λ t. t.now) c.get_str-9.result;
+      steps = option_map (λ t. t.now) c.get_str-10.result;
+      shell = option_map (λ t. t.now) c.get_str-11.result;
+      cycles = option_map (λ t. t.now) c.get_str-12.result;
+      history = option_map (λ t. t.now) c.get_str-13.result;
+      echo = option_map (λ t. t.now) c.get_str-14.result;
+      json = option_map (λ t. t.now) c.get_str-15.result;
+      file = option_map (λ t. t.now) c.get_str-16.result;
     } in
-    let matched : AreMatched values given = record { paced = c.get_str.ensures; mark = c.get_str-2.ensures; grow = c.get_str-3.ensures; replicators = c.get_str-4.ensures; idle = c.get_str-5.ensures; dot = c.get_str-6.ensures; explain = c.get_str-7.ensures; line = c.get_str-8.ensures; shell = c.get_str-9.ensures; cycles = c.get_str-10.ensures; history = c.get_str-11.ensures; echo = c.get_str-12.ensures; json = c.get_str-13.ensures; file = c.get_str-14.ensures } in
+    let matched : AreMatched values given = record { paced = c.get_str.ensures; mark = c.get_str-2.ensures; grow = c.get_str-3.ensures; replicators = c.get_str-4.ensures; idle = c.get_str-5.ensures; dot = c.get_str-6.ensures; explain = c.get_str-7.ensures; line = c.get_str-8.ensures; heap = c.get_str-9.ensures; steps = c.get_str-10.ensures; shell = c.get_str-11.ensures; cycles = c.get_str-12.ensures; history = c.get_str-13.ensures; echo = c.get_str-14.ensures; json = c.get_str-15.ensures; file = c.get_str-16.ensures } in
     let e = command_and_file_in-matches c.args.matches.now c.in-Some.name.now values given c.in-Some.ensures.name c.in-Some.ensures.rows matched in
     rw c.file_or_input-file.ensures (e ∙ ap (λ r. with_file r given.file) (sym c.in_ok-subcommand.ensures.asked))
 
@@ -66,14 +70,16 @@ returns-clause-explained c =
       dot = option_map (λ t. t.now) c.get_str-6.result;
       explain = option_map (λ t. t.now) c.get_str-7.result;
       line = option_map (λ t. t.now) c.get_str-8.result;
-      shell = option_map (λ t. t.now) c.get_str-9.result;
-      cycles = option_map (λ t. t.now) c.get_str-10.result;
-      history = option_map (λ t. t.now) c.get_str-11.result;
-      echo = option_map (λ t. t.now) c.get_str-12.result;
-      json = option_map (λ t. t.now) c.get_str-13.result;
-      file = option_map (λ t. t.now) c.get_str-14.result;
+      heap = option_map (λ t. t.now) c.get_str-9.result;
+      steps = option_map (λ t. t.now) c.get_str-10.result;
+      shell = option_map (λ t. t.now) c.get_str-11.result;
+      cycles = option_map (λ t. t.now) c.get_str-12.result;
+      history = option_map (λ t. t.now) c.get_str-13.result;
+      echo = option_map (λ t. t.now) c.get_str-14.result;
+      json = option_map (λ t. t.now) c.get_str-15.result;
+      file = option_map (λ t. t.now) c.get_str-16.result;
     } in
-    let matched : AreMatched values given = record { paced = c.get_str.ensures; mark = c.get_str-2.ensures; grow = c.get_str-3.ensures; replicators = c.get_str-4.ensures; idle = c.get_str-5.ensures; dot = c.get_str-6.ensures; explain = c.get_str-7.ensures; line = c.get_str-8.ensures; shell = c.get_str-9.ensures; cycles = c.get_str-10.ensures; history = c.get_str-11.ensures; echo = c.get_str-12.ensures; json = c.get_str-13.ensures; file = c.get_str-14.ensures } in
+    let matched : AreMatched values given = record { paced = c.get_str.ensures; mark = c.get_str-2.ensures; grow = c.get_str-3.ensures; replicators = c.get_str-4.ensures; idle = c.get_str-5.ensures; dot = c.get_str-6.ensures; explain = c.get_str-7.ensures; line = c.get_str-8.ensures; heap = c.get_str-9.ensures; steps = c.get_str-10.ensures; shell = c.get_str-11.ensures; cycles = c.get_str-12.ensures; history = c.get_str-13.ensures; echo = c.get_str-14.ensures; json = c.get_str-15.ensures; file = c.get_str-16.ensures } in
     explains_in-matches c.args.matches.now c.in-Some.name.now values given c.in-Some.ensures.name c.in-Some.ensures.rows matched ∙ sym c.is_set-explain.ensures
 
 -- what is viewed by flags and files
@@ -93,12 +99,14 @@ returns-clause-viewed c =
       dot = option_map (λ t. t.now) c.get_str-6.result;
       explain = option_map (λ t. t.now) c.get_str-7.result;
       line = option_map (λ t. t.now) c.get_str-8.result;
-      shell = option_map (λ t. t.now) c.get_str-9.result;
-      cycles = option_map (λ t. t.now) c.get_str-10.result;
-      history = option_map (λ t. t.now) c.get_str-11.result;
-      echo = option_map (λ t. t.now) c.get_str-12.result;
-      json = option_map (λ t. t.now) c.get_str-13.result;
-      file = option_map (λ t. t.now) c.get_str-14.result;
+      heap = option_map (λ t. t.now) c.get_str-9.result;
+      steps = option_map (λ t. t.now) c.get_str-10.result;
+      shell = option_map (λ t. t.now) c.get_str-11.result;
+      cycles = option_map (λ t. t.now) c.get_str-12.result;
+      history = option_map (λ t. t.now) c.get_str-13.result;
+      echo = option_map (λ t. t.now) c.get_str-14.result;
+      json = option_map (λ t. t.now) c.get_str-15.result;
+      file = option_map (λ t. t.now) c.get_str-16.result;
     } in
-    let matched : AreMatched values given = record { paced = c.get_str.ensures; mark = c.get_str-2.ensures; grow = c.get_str-3.ensures; replicators = c.get_str-4.ensures; idle = c.get_str-5.ensures; dot = c.get_str-6.ensures; explain = c.get_str-7.ensures; line = c.get_str-8.ensures; shell = c.get_str-9.ensures; cycles = c.get_str-10.ensures; history = c.get_str-11.ensures; echo = c.get_str-12.ensures; json = c.get_str-13.ensures; file = c.get_str-14.ensures } in
+    let matched : AreMatched values given = record { paced = c.get_str.ensures; mark = c.get_str-2.ensures; grow = c.get_str-3.ensures; replicators = c.get_str-4.ensures; idle = c.get_str-5.ensures; dot = c.get_str-6.ensures; explain = c.get_str-7.ensures; line = c.get_str-8.ensures; heap = c.get_str-9.ensures; steps = c.get_str-10.ensures; shell = c.get_str-11.ensures; cycles = c.get_str-12.ensures; history = c.get_str-13.ensures; echo = c.get_str-14.ensures; json = c.get_str-15.ensures; file = c.get_str-16.ensures } in
     viewed_in-matches c.args.matches.now c.in-Some.name.now values given c.in-Some.ensures.name c.in-Some.ensures.rows matched ∙ search rules

@@ -2,7 +2,7 @@ use Rattle.std.proofs.Common.{ap, ap₂, codes, true, ◌≡◌, ◌∙◌}
 use Rattle.std.proofs.lemmas.Result.{IfOk-weaker}
 use Rattle.clap.specs.Words.{App, Shape, Text, app_of, new_app, with_subcommand}
 use Rattle.clap.specs.Simple.{app_of_fields, on_top}
-use Rattle.rh_cli.specs.Ask.{command_for, rheap_top, run_app, threads_app, replay_app, dump_app, draw_app, shell_app}
+use Rattle.rh_cli.specs.Ask.{command_for, rheap_top, run_app, threads_app, replay_app, dump_app, draw_app, shell_app, lisp_app}
 use Rattle.rh_cli.proofs.arguments.command_line.Goals as goal
 
 abbrev versioned : App → App
@@ -33,6 +33,9 @@ to_draw word = with_subcommand (to_dump word) (command_for word (codes "draw") d
 abbrev to_shell : Text → App
 to_shell word = with_subcommand (to_draw word) shell_app.top
 
+abbrev to_lisp : Text → App
+to_lisp word = with_subcommand (to_shell word) (command_for word (codes "lisp") lisp_app).top
+
 pub returns : goal.returns
 returns c =
     let new_is : app_of c.about.result ≡ new_app (codes "rheap") = ap app_of_fields c.about.ensures ∙ c.new.ensures.app in
@@ -51,5 +54,7 @@ returns c =
     c.in_ok-subcommand-5.ensures.shape c.in_ok-draw_command.ensures.local ∙ ap₂ with_subcommand dump_is (ap top_of c.in_ok-draw_command.ensures.app) in
     let shell_is : app_of c.in_ok-subcommand-6.field-0 ≡ to_shell c.args.word.now =
     c.in_ok-subcommand-6.ensures.shape c.shell_command.ensures.local ∙ ap₂ with_subcommand draw_is (ap top_of c.shell_command.ensures.app) in
-    IfOk-weaker c.subcommand-7.result _ _
-    (λ r added. added.shape c.in_ok-completions_command.ensures.local ∙ ap₂ with_subcommand shell_is (ap top_of c.in_ok-completions_command.ensures.app)) c.subcommand-7.ensures
+    let lisp_is : app_of c.in_ok-subcommand-7.field-0 ≡ to_lisp c.args.word.now =
+    c.in_ok-subcommand-7.ensures.shape c.in_ok-lisp_command.ensures.local ∙ ap₂ with_subcommand shell_is (ap top_of c.in_ok-lisp_command.ensures.app) in
+    IfOk-weaker c.subcommand-8.result _ _
+    (λ r added. added.shape c.in_ok-completions_command.ensures.local ∙ ap₂ with_subcommand lisp_is (ap top_of c.in_ok-completions_command.ensures.app)) c.subcommand-8.ensures

@@ -41,3 +41,9 @@ returns-clause-shell c = refl
 
 pub returns-clause-views : goal.returns-clause-views
 returns-clause-views c = refl
+
+pub returns-clause-words : goal.returns-clause-words
+returns-clause-words c = refl
+
+pub returns-clause-steps : goal.returns-clause-steps
+returns-clause-steps c = refl

@@ -1,4 +1,4 @@
-use Rattle.rh_cli.proofs.StatusLaws.{memory_is_3, run_memory_is_3, concludes_paced_3, concludes_growing_3, concludes_run_3, concludes_replay_3, concludes_dump_3, concludes_dot_3, concludes_draw_3, concludes_completions_3, paced_memory_is_3}
+use Rattle.rh_cli.proofs.StatusLaws.{memory_is_3, run_memory_is_3, concludes_paced_3, concludes_growing_3, concludes_run_3, concludes_replay_3, concludes_dump_3, concludes_dot_3, concludes_draw_3, concludes_completions_3, concludes_lisp_3, paced_memory_is_3}
 use Rattle.rh_cli.proofs.SharedStatuses.{concludes_shared_3}
 use Rattle.rh_cli.proofs.laws.status_3_says_want_of_memory.Goals as goal
 
@@ -37,3 +37,6 @@ returns-clause-draw c = concludes_draw_3
 
 pub returns-clause-completions : goal.returns-clause-completions
 returns-clause-completions c = concludes_completions_3
+
+pub returns-clause-lisp : goal.returns-clause-lisp
+returns-clause-lisp c = concludes_lisp_3

@@ -200,3 +200,23 @@ returns-clause-plain c = refl
 pub returns-clause-viewed : goal.returns-clause-viewed
 unfolding viewed_of clap_on_literals
 returns-clause-viewed c = refl
+
+pub returns-clause-lisp : goal.returns-clause-lisp
+unfolding command_and_file_of number_of digits clap_on_literals
+returns-clause-lisp c = refl
+
+pub returns-clause-lisp_heap : goal.returns-clause-lisp_heap
+unfolding command_and_file_of number_of digits clap_on_literals
+returns-clause-lisp_heap c = refl
+
+pub returns-clause-lisp_heaps : goal.returns-clause-lisp_heaps
+unfolding command_and_file_of number_of digits clap_on_literals
+returns-clause-lisp_heaps c = refl
+
+pub returns-clause-lisp_steps : goal.returns-clause-lisp_steps
+unfolding command_and_file_of number_of digits clap_on_literals
+returns-clause-lisp_steps c = refl
+
+pub returns-clause-lisp_mark : goal.returns-clause-lisp_mark
+unfolding is_taken clap_on_literals
+returns-clause-lisp_mark c = refl

@@ -1,0 +1,83 @@
+-- What the statuses say of how a program of the small Scheme ended.
+use Rattle.std.proofs.Common.{◌≡◌, ◌⊎◌, inl, inr, ℕ, List, Option, Some, Result, Ok, Err, refl, ◌∙◌, arith}
+use Rattle.std.specs.Io.KnownBytes.{Appends, Keeps}
+use Rattle.rh_lisp.specs.Printed.{output_text}
+use Rattle.rh_lisp.specs.Program.{ProgramState}
+use Rattle.rh_machine.specs.declared.ending.Ending.TheVariants.{Halted}
+use Rattle.rh_lisp.specs.declared.outcome.Outcome.{Outcome}
+use Rattle.rh_lisp.specs.declared.outcome.Outcome.TheVariants.{Finished, Stopped}
+use Rattle.rh_lisp_run.specs.Run.{IsNewMachine, IsRun, LispEnds}
+use Rattle.rh_lisp_run.specs.declared.fault.LispFault.{LispFault}
+use Rattle.rh_lisp_run.specs.declared.fault.LispFault.TheVariants as lisp_faults
+use Rattle.rh_cli.specs.Fault.{IsLateStatus}
+use Rattle.rh_cli.specs.Lisp.{ConcludesLisp, IsLispStatus, lisp_status}
+
+lisp_fault_is_1_or_3 : (fault : LispFault) → (lisp_status fault ≡ 1) ⊎ (lisp_status fault ≡ 3)
+lisp_fault_is_1_or_3 lisp_faults.Read = inl refl
+lisp_fault_is_1_or_3 lisp_faults.Long = inl refl
+lisp_fault_is_1_or_3 (lisp_faults.Text fault) = inl refl
+lisp_fault_is_1_or_3 lisp_faults.Limits = inl refl
+lisp_fault_is_1_or_3 (lisp_faults.Pace why) = inl refl
+lisp_fault_is_1_or_3 (lisp_faults.Heap fault) = inl refl
+lisp_fault_is_1_or_3 lisp_faults.Write = inl refl
+lisp_fault_is_1_or_3 lisp_faults.OutOfMemory = inr refl
+
+pub lisp_is_0_1_or_3 : (outcome : Result Outcome LispFault) (status : ℕ) → IsLispStatus outcome status → (status ≡ 0) ⊎ ((status ≡ 1) ⊎ (status ≡ 3))
+lisp_is_0_1_or_3 (Ok Finished) status is = inl is
+lisp_is_0_1_or_3 (Ok (Stopped problem source position)) status is = inr (inl is)
+lisp_is_0_1_or_3 (Err fault) status is = inr (rw is (lisp_fault_is_1_or_3 fault))
+
+pub lisp_fault_is_not_0 : (fault : LispFault) → 0 ≡ lisp_status fault → ⊥
+lisp_fault_is_not_0 fault is = elim (lisp_fault_is_1_or_3 fault) [ inl one ↦ omega (arith, is ∙ one) | inr three ↦ omega (arith, is ∙ three) ]
+
+pub lisp_is_0 : (outcome : Result Outcome LispFault) (steps : ℕ) (input : List ℕ) (old new : Option (List ℕ)) → LispEnds (λ o. o) steps input outcome old new → IsLispStatus outcome 0
+    → (begun : ProgramState) × (ended : ProgramState) × IsNewMachine steps begun.machine × IsRun begun ended × (ended.machine.ended ≡ Some Halted) × Appends old new (output_text ended)
+lisp_is_0 (Ok Finished) steps input old new ends is =
+    let run = ends.1 in
+    (run.0, run.1, run.2, run.3, run.4.0 refl, run.5)
+lisp_is_0 (Ok (Stopped problem source position)) steps input old new ends is = absurd (omega (arith, is))
+lisp_is_0 (Err fault) steps input old new ends is = absurd (lisp_fault_is_not_0 fault is)
+
+-- where memory was refused, nothing was written
+pub lisp_is_3 : (outcome : Result Outcome LispFault) (steps : ℕ) (input : List ℕ) (old new : Option (List ℕ)) → LispEnds (λ o. o) steps input outcome old new → IsLispStatus outcome 3 → Keeps old new
+lisp_is_3 (Ok Finished) steps input old new ends is = absurd (omega (arith, is))
+lisp_is_3 (Ok (Stopped problem source position)) steps input old new ends is = absurd (omega (arith, is))
+lisp_is_3 (Err lisp_faults.Read) steps input old new ends is = absurd (omega (arith, is))
+lisp_is_3 (Err lisp_faults.Long) steps input old new ends is = absurd (omega (arith, is))
+lisp_is_3 (Err (lisp_faults.Text fault)) steps input old new ends is = absurd (omega (arith, is))
+lisp_is_3 (Err lisp_faults.Limits) steps input old new ends is = absurd (omega (arith, is))
+lisp_is_3 (Err (lisp_faults.Pace why)) steps input old new ends is = absurd (omega (arith, is))
+lisp_is_3 (Err (lisp_faults.Heap fault)) steps input old new ends is = absurd (omega (arith, is))
+lisp_is_3 (Err lisp_faults.Write) steps input old new ends is = absurd (omega (arith, is))
+lisp_is_3 (Err lisp_faults.OutOfMemory) steps input old new ends is = ends
+
+-- how a run ended, of which more is known
+abbrev pub outcome_in : {X : Type 0} → (X → Outcome) → Result X LispFault → Result Outcome LispFault
+outcome_in outcome_of (Ok x) = Ok (outcome_of x)
+outcome_in outcome_of (Err fault) = Err fault
+
+ends_as_outcome : {X : Type 0} (outcome_of : X → Outcome) (steps : ℕ) (input : List ℕ) (r : Result X LispFault) (old new : Option (List ℕ))
+    → LispEnds outcome_of steps input r old new → LispEnds (λ o. o) steps input (outcome_in outcome_of r) old new
+ends_as_outcome outcome_of steps input (Ok x) old new ends = ends
+ends_as_outcome outcome_of steps input (Err lisp_faults.Read) old new ends = ends
+ends_as_outcome outcome_of steps input (Err lisp_faults.Long) old new ends = ends
+ends_as_outcome outcome_of steps input (Err (lisp_faults.Text fault)) old new ends = ends
+ends_as_outcome outcome_of steps input (Err lisp_faults.Limits) old new ends = ends
+ends_as_outcome outcome_of steps input (Err (lisp_faults.Pace why)) old new ends = ends
+ends_as_outcome outcome_of steps input (Err (lisp_faults.Heap fault)) old new ends = ends
+ends_as_outcome outcome_of steps input (Err lisp_faults.Write) old new ends = ends
+ends_as_outcome outcome_of steps input (Err lisp_faults.OutOfMemory) old new ends = ends
+
+-- a run with this status concludes so
+pub lisp_concludes : {X : Type 0} (outcome_of : X → Outcome) (steps : ℕ) (r : Result X LispFault) (status : ℕ) (old new : Option (List ℕ)) → IsLispStatus (outcome_in outcome_of r) status
+    → (input : List ℕ) → LispEnds outcome_of steps input r old new → ConcludesLisp steps input status old new
+lisp_concludes outcome_of steps r status old new is input ends = (outcome_in outcome_of r, ends_as_outcome outcome_of steps input r old new ends, is)
+
+-- its status is one of those that come once the command line is understood
+pub lisp_late : (outcome : Result Outcome LispFault) (status : ℕ) → IsLispStatus outcome status → IsLateStatus status
+lisp_late outcome status is =
+    elim (lisp_is_0_1_or_3 outcome status is) [
+      | inl zero ↦ rw zero (omega (arith), λ two. omega (arith, two))
+      | inr (inl one) ↦ rw one (omega (arith), λ two. omega (arith, two))
+      | inr (inr three) ↦ rw three (omega (arith), λ two. omega (arith, two))
+    ]

@@ -1,0 +1,44 @@
+-- How running a program of the small Scheme ends the program.
+use Rattle.std.specs.Prelude.{◌≡◌, ℕ, Option, List, Result, Ok, Err}
+use Rattle.rh_lisp.specs.declared.outcome.Outcome.{Outcome}
+use Rattle.rh_lisp.specs.declared.outcome.Outcome.TheVariants.{Finished, Stopped}
+use Rattle.rh_lisp_run.specs.Run.{LispEnds}
+use Rattle.rh_lisp_run.specs.declared.fault.LispFault.{LispFault}
+use Rattle.rh_lisp_run.specs.declared.fault.LispFault.TheVariants as lisp_faults
+use Rattle.rh_cli.specs.declared.fault.LineFault.{LineFault}
+use Rattle.rh_cli.specs.declared.fault.LineFault.TheVariants as faults
+
+-- the status after a fault of such a run: 3 for want of memory, else 1
+abbrev pub lisp_status : LispFault → ℕ
+lisp_status lisp_faults.Read = 1
+lisp_status lisp_faults.Long = 1
+lisp_status (lisp_faults.Text fault) = 1
+lisp_status lisp_faults.Limits = 1
+lisp_status (lisp_faults.Pace why) = 1
+lisp_status (lisp_faults.Heap fault) = 1
+lisp_status lisp_faults.Write = 1
+lisp_status lisp_faults.OutOfMemory = 3
+
+-- the fault of the program that its is told as
+abbrev pub lisp_told_as : LispFault → LineFault
+lisp_told_as lisp_faults.Read = faults.Read
+lisp_told_as lisp_faults.Long = faults.TooLong
+lisp_told_as (lisp_faults.Text fault) = faults.Program fault.kind
+lisp_told_as lisp_faults.Limits = faults.Limits
+lisp_told_as (lisp_faults.Pace why) = faults.Pace why
+lisp_told_as (lisp_faults.Heap fault) = faults.Heap fault
+lisp_told_as lisp_faults.Write = faults.Write
+lisp_told_as lisp_faults.OutOfMemory = faults.OutOfMemory
+
+-- the status after such a run: 0 where the program finished, 1 where it stopped
+abbrev pub IsLispStatus : Result Outcome LispFault → ℕ → Type 0
+IsLispStatus (Ok Finished) status = status ≡ 0
+IsLispStatus (Ok (Stopped problem source position)) status = status ≡ 1
+IsLispStatus (Err fault) status = status ≡ lisp_status fault
+
+-- a program with so many steps was run in a way that fits its text and what was written, and the
+-- status is that ending's
+abbrev pub ConcludesLisp : ℕ → List ℕ → ℕ → Option (List ℕ) → Option (List ℕ) → Type 0
+ConcludesLisp steps input status old new =
+    (outcome : Result Outcome LispFault) × LispEnds (λ o. o) steps input outcome old new
+    × IsLispStatus outcome status

@@ -1,0 +1,113 @@
+//! The arguments of the command `lisp`.
+
+ghost use Rattle.std.specs.Prelude.{◌≡◌, option_map, false, None, IfErr, IfOk, codes};
+ghost use Rattle.clap.specs.declared.builder.command.Command.TheViews.{out-Command as fields_of};
+ghost use Rattle.clap.specs.Words.{app_of};
+ghost use Rattle.rh_cli.specs.Ask.{command_for, heap_words, lisp_app, lisp_asked, steps_given};
+ghost use Rattle.rh_cli.specs.Fault.{IsArgumentsFault};
+
+use crate::arguments::{has_options, named_command};
+use crate::ask::Subcommand;
+use crate::fault::LineFault;
+use crate::help;
+use clap::{Arg, Command};
+use rh_layout::limits::MAX_SPACE_WORDS;
+use rh_lisp_run::{HeapWords, Limits, MOST_STEPS};
+use rh_text::read_number;
+use std::alloc::{AllocError, Global};
+
+/// The command `lisp` as clap knows it, where the word is the first.
+pub(crate) fn lisp_command<'a>(alloc: Global, word: &str) -> Result<Command<'a>, AllocError>
+    ensures app { IfOk result (λ command.
+        app_of command ≡ command_for word.now (codes "lisp") lisp_app) }
+    ensures local { IfOk result (λ command. (fields_of command).has_globals ≡ false) }
+{
+    let about = "Runs a program of a small Scheme, and prints what it puts out";
+    if !has_options(word, "lisp") {
+        return Ok(named_command(alloc, "lisp", about));
+    }
+    let file = Arg::new(alloc, "FILE")
+        .required(true)
+        .help("The file to read; - is standard input");
+    let heap = Arg::new(alloc, "heap")
+        .long("heap")
+        .value_name("WORDS")
+        .help("Each of its spaces has so many words, and keeps them");
+    let grow = Arg::new(alloc, "grow")
+        .long("grow")
+        .value_name("WORDS")
+        .help("Each of its spaces grows to at most so many words; 16777216 if it isn't said");
+    let steps = Arg::new(alloc, "steps").long("steps").value_name("N").help(
+        "The instructions that the program may do; without it more than any does",
+    );
+    Command::new(alloc, "lisp")
+        .about(about)
+        .after_help(help::LISP)
+        .arg(file)?
+        .arg(heap)?
+        .arg(grow)?
+        .arg(steps)
+}
+
+/// The program that is asked for: its heap of one size or its heap that grows, and its steps.
+pub(crate) fn lisp_asked(
+    heap: Option<&str>,
+    grow: Option<&str>,
+    steps: Option<&str>,
+) -> Result<Subcommand, LineFault>
+    ensures asked { result ≡ lisp_asked (option_map (λ t. t.now) heap.entry)
+        (option_map (λ t. t.now) grow.entry) (option_map (λ t. t.now) steps.entry) }
+    ensures kinds { IfErr result (λ fault. IsArgumentsFault fault) }
+{
+    let Some(heap) = heap_words(heap, grow) else {
+        return Err(LineFault::Words);
+    };
+    let Some(steps) = steps_given(steps) else {
+        return Err(LineFault::Steps);
+    };
+    let limits = Limits { heap, steps };
+    Ok(Subcommand::Lisp { limits })
+}
+
+/// The words of the heap that is asked for.
+fn heap_words(heap: Option<&str>, grow: Option<&str>) -> Option<HeapWords>
+    ensures { result ≡ heap_words (option_map (λ t. t.now) heap.entry)
+        (option_map (λ t. t.now) grow.entry) }
+{
+    match heap {
+        None => grown_words(grow),
+        Some(text) => match grow {
+            None => match read_number(text.as_bytes()) {
+                Some(words) => Some(HeapWords::Just(words)),
+                None => None,
+            },
+            Some(_) => None,
+        },
+    }
+}
+
+/// The words to which the heap that is asked for grows.
+fn grown_words(grow: Option<&str>) -> Option<HeapWords>
+    ensures { result ≡ heap_words None (option_map (λ t. t.now) grow.entry) }
+{
+    match grow {
+        None => Some(HeapWords::UpTo(MAX_SPACE_WORDS)),
+        Some(text) => match read_number(text.as_bytes()) {
+            Some(words) => Some(HeapWords::UpTo(words)),
+            None => None,
+        },
+    }
+}
+
+/// The steps that are asked for.
+fn steps_given(steps: Option<&str>) -> Option<u64>
+    ensures { result ≡ steps_given (option_map (λ t. t.now) steps.entry) }
+{
+    match steps {
+        None => Some(MOST_STEPS),
+        Some(text) => match read_number(text.as_bytes()) {
+            Some(number) => Some(u64::from(number)),
+            None => None,
+        },
+    }
+}
