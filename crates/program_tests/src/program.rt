@@ -6,5 +6,6 @@ mod explaining;
 mod failing;
 mod faults;
 mod growing;
+mod lisp;
 mod terminal;
 mod viewing;

@@ -558,6 +558,66 @@ const VIEWED: &[(&[&[u8]], u8, &[u8], &[u8])] = &[
     (&[b"rheap", b"run", b"-", b"--cycles"], 2, b"", b"error: "),
 ];
 
+/// What is told where `lisp` is asked for two heaps, or for one of no number of words.
+const WORDS_FAULT: &[u8] =
+    b"rheap: --heap or --grow needs a number of words, 0 to 4294967295, and not both stand\n";
+
+/// What is told where its steps are no number.
+const STEPS_FAULT: &[u8] = b"rheap: --steps needs a number of steps, 0 to 4294967295\n";
+
+/// Programs of the small Scheme. The input is a trace, whose first word no program knows.
+const PROGRAMS: &[(&[&[u8]], u8, &[u8], &[u8])] = &[
+    (
+        &[b"rheap", b"lisp", b"-"],
+        1,
+        b"",
+        b"-:1:1: heap: unbound variable\n",
+    ),
+    (
+        &[b"rheap", b"lisp", b"--help"],
+        0,
+        b"Runs a program of a small Scheme",
+        b"",
+    ),
+    (
+        &[b"rheap", b"lisp", b"no such file"],
+        1,
+        b"",
+        b"rheap: open failed\n",
+    ),
+    (
+        &[b"rheap", b"lisp", b"-", b"--heap=100"],
+        1,
+        b"",
+        b"rheap: pace: TooSmall need 2669\n",
+    ),
+    (
+        &[b"rheap", b"lisp", b"-", b"--heap", b"9000", b"--grow=9000"],
+        2,
+        b"",
+        WORDS_FAULT,
+    ),
+    (
+        &[b"rheap", b"lisp", b"-", b"--grow=all"],
+        2,
+        b"",
+        WORDS_FAULT,
+    ),
+    (
+        &[b"rheap", b"lisp", b"-", b"--steps=many"],
+        2,
+        b"",
+        STEPS_FAULT,
+    ),
+    (
+        &[b"rheap", b"lisp", b"-", b"--explain"],
+        2,
+        b"",
+        b"error: unexpected",
+    ),
+    (&[b"rheap", b"lisp"], 2, b"", b"error: "),
+];
+
 /// The same where standard output is closed.
 const CLOSED: &[(&[&[u8]], u8, &[u8], &[u8])] = &[
     (&[b"rheap", b"--version"], 1, b"", b"rheap: write failed\n"),
@@ -609,6 +669,9 @@ fn calls_of_the_program(rt: HostRuntime) {
     for (row, call) in VIEWED.iter().enumerate() {
         expect_played(&Row { rt: &rt, row }, &rt, false, call);
     }
+    for (row, call) in PROGRAMS.iter().enumerate() {
+        expect_played(&Row { rt: &rt, row }, &rt, false, call);
+    }
     for (row, call) in CLOSED.iter().enumerate() {
         expect_played(&Row { rt: &rt, row }, &rt, true, call);
     }
@@ -636,7 +699,7 @@ fn a_session_shows_its_prompts(rt: HostRuntime) {
 
 #[test]
 fn faults_before_a_run_are_told(rt: HostRuntime) {
-    let table: [(LineFault, u8, &[u8]); 12] = [
+    let table: [(LineFault, u8, &[u8]); 14] = [
         (LineFault::Open, 1, b"rheap: open failed\n"),
         (
             LineFault::NoText,
@@ -655,6 +718,8 @@ fn faults_before_a_run_are_told(rt: HostRuntime) {
             b"rheap: completions needs a shell: bash, zsh or fish\n",
         ),
         (LineFault::Views, 2, VIEWS_FAULT),
+        (LineFault::Words, 2, WORDS_FAULT),
+        (LineFault::Steps, 2, STEPS_FAULT),
         (LineFault::NoLine, 1, b"rheap: draw: NoLine\n"),
         (LineFault::HistoryDiffers, 4, b"rheap: history differs\n"),
     ];
