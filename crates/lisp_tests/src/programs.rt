@@ -111,6 +111,46 @@ const PROGRAMS: &[(&[u8], &[u8])] = &[
         b"(write (map + '(1 2) '(10 20) '(100 200 300))) (for-each (lambda (a b) (write (- a b))) '(5 6) '(1 2))",
         b"(111 222)44",
     ),
+    (
+        b"#| Of this kind #| one in the other |# too. |# (write '(#true #x1F #x-a -7 +7 - ... #\\tab #\\x41 #\\( #;(left out) . end))",
+        b"(#t 31 -10 -7 7 - ... #\\tab #\\A #\\( . end)",
+    ),
+    (
+        b"(write \"tab\\tline\\nquote\\\"back\\\\slash\\x41;end\") (write (string-length \"one \\\n   line\"))",
+        b"\"tab\\tline\\nquote\\\"back\\\\slashAend\"8",
+    ),
+    (
+        b"(define x 5) (write `(1 #(2 ,x ,@(list 3 4)) ,@'() . ,x)) (write `#(,x))",
+        b"(1 #(2 5 3 4) . 5)#(5)",
+    ),
+    (
+        b"(define x 5) (write (case x ((1 2 3) 'low) ((4 5) => (lambda (n) (* n n))) (else 'high))) (write (case 'z ((a) 1) (else => list)))",
+        b"25(z)",
+    ),
+    (
+        b"(define t 5) (write (or #f (cond (#f 1) ((+ t 1) => (lambda (n) (+ t n)))))) (write (cond ((assv 3 '((1 . a))) => cdr) (else 0)))",
+        b"110",
+    ),
+    (
+        b"(write (list (char=? #\\a #\\a) (char<? #\\a #\\b #\\b) (make-string 2 #\\z) (string-length (make-string 3))))",
+        b"(#t #f \"zz\" 3)",
+    ),
+    (
+        b"(write (list (list? '(1 2)) (list? '(1 . 2)) (let ((c (list 1 2 3))) (set-cdr! (cddr c) c) (list? c))))",
+        b"(#t #f #f)",
+    ),
+    (
+        b"(write (symbol->string 'abc)) (write (map symbol->string '(a if)))",
+        b"\"abc\"(\"a\" \"if\")",
+    ),
+    (
+        b"(define (when x) (* x 2)) (write (when 21)) (define (f) (define if 3) if) (write (if #t (f) 2))",
+        b"423",
+    ),
+    (
+        b"(define quote 5) (write quote) (write (let ((quote -)) '5)) (write (and 1 2 3 (or #f #f 4)))",
+        b"5-54",
+    ),
 ];
 
 /// Programs that stop, and their messages.
@@ -174,6 +214,18 @@ const FAULTS: &[(&[u8], &[u8])] = &[
     (b"'#(1 . 2)", b"1:6: misplaced dot"),
     (b"1152921504606846976", b"1:1: number out of range"),
     (b"#nosuch", b"1:1: no such datum"),
+    (b" 1.5", b"1:2: no such number"),
+    (b"'(1 1/2)", b"1:5: no such number"),
+    (b"(+ -.5 1)", b"1:4: no such number"),
+    (b"#xg", b"1:1: no such number"),
+    (b"#x1000000000000000", b"1:1: number out of range"),
+    (b"(car |a b|)", b"1:6: no such name"),
+    (b"#\\nosuch", b"1:1: no such datum"),
+    (b"\"a\\qb\"", b"1:1: no such escape"),
+    (b"\"a\\x41\"", b"1:1: no such escape"),
+    (b"1 #| 2 #| 3 |#", b"1:3: unfinished"),
+    (b"(1 #;)", b"1:6: unexpected )"),
+    (b"(cond (1 2) . 3)", b"1:1: bad form"),
     (b"(if)", b"1:1: bad form"),
     (b"(quote 1 2)", b"1:1: bad form"),
     (b"(define x 1 2)", b"1:1: bad form"),
