@@ -14,7 +14,7 @@ use Rattle.rh_trace.specs.declared.summary.Summary.{Summary}
 use Rattle.rh_trace.specs.Answers.{Answered}
 use Rattle.rh_trace.specs.Run.{AreTransparent, IsPlainRun, answers_of, config_of, summary_of}
 use Rattle.rh_trace.proofs.PlainAnswers.{Begins, Dumps, StaysWellFormed, Steps, plain_run}
-use Rattle.rh_viewed_trace.specs.declared.fault.ViewFault.{ViewFault}
+use Rattle.rh_trace.specs.declared.run_fault.RunFault.{RunFault}
 use Rattle.rh_viewed_trace.specs.declared.telling.Telling.{Telling}
 use Rattle.rh_viewed_trace.specs.History.{history_of}
 use Rattle.rh_viewed_trace.specs.Run.{Ends, Written, history_with, told_of}
@@ -29,7 +29,7 @@ abbrev pub HistoriesAreLegal : Type 0
 HistoriesAreLegal = (owners slots : ℕ) (requests : List Request) (answers : List Answered) → AreTransparent (empty_plain owners slots) requests answers → IsLegal (history_of owners slots (numbered 2 requests answers))
 
 module _ {A : Type 0} (keeps : StaysWellFormed A) (steps : Steps A) (begins : Begins) (dumps : Dumps) (fine : BeginsWellFormed) (legal : HistoriesAreLegal) where
-  pub viewed_plain : (telling : Telling) (input : List ℕ) (from to : Option (List ℕ)) (w : Written) → Consumes from to input → (result : Result Summary ViewFault) → Ends telling input result w
+  pub viewed_plain : (telling : Telling) (input : List ℕ) (from to : Option (List ℕ)) (w : Written) → Consumes from to input → (result : Result Summary RunFault) → Ends telling input result w
       → IfOk result (λ summary. (script : Script) × (answers : List Answered) × IsPlainRun script answers from to × (summary ≡ summary_of answers)
       × Appends w.old w.new (told_of telling script.requests answers summary) × Appends w.history_old w.history_new (spelling (history_with script answers)) × IsLegal (history_with script answers))
   viewed_plain telling input from to w consumed (Err fault) ends = tt

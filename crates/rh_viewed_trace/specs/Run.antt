@@ -15,8 +15,8 @@ use Rattle.rh_replay.specs.Spelling.{spelling}
 use Rattle.rh_trace.specs.declared.summary.Summary.{Summary}
 use Rattle.rh_trace.specs.Answers.{Answered}
 use Rattle.rh_trace.specs.Run.{answers_of, answers_to, config_of, new_run, summary_of}
-use Rattle.rh_viewed_trace.specs.declared.fault.ViewFault.{ViewFault}
-use Rattle.rh_viewed_trace.specs.declared.fault.ViewFault.TheVariants as faults
+use Rattle.rh_trace.specs.declared.run_fault.RunFault.{RunFault}
+use Rattle.rh_trace.specs.declared.run_fault.RunFault.TheVariants as faults
 use Rattle.rh_viewed_trace.specs.declared.telling.Telling.{Telling}
 use Rattle.rh_viewed_trace.specs.Cycles.{cycles_text, readings_to}
 use Rattle.rh_viewed_trace.specs.History.{calls_of, history_of, with_calls}
@@ -86,7 +86,7 @@ KeepsAll w =
 -- nothing written; where a write failed with a prefix of each, and not all of the first; where
 -- memory was refused with a prefix of what is told of the lines and of their cycles, or, if it was
 -- before the first of them, with nothing; and where a read failed with nothing.
-abbrev pub Ends : Telling → List ℕ → Result Summary ViewFault → Written → Type 0
+abbrev pub Ends : Telling → List ℕ → Result Summary RunFault → Written → Type 0
 Ends telling input (Ok summary) w =
     (script : Script) × IsRun input script × (summary ≡ summary_of (answers_of script))
     × Appends w.old w.new (view_of_run telling script)

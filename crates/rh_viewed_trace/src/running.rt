@@ -10,7 +10,6 @@ ghost use Rattle.rh_trace.specs.Answers.{Answered};
 ghost use Rattle.rh_trace.specs.Run.{IsPlainRun, summary_of};
 ghost use Rattle.rh_viewed_trace.specs.Run.{Ends, history_with, told_of};
 
-use crate::fault::ViewFault;
 use crate::laws::the_history_of_plain_answers_is_legal;
 use crate::lines::run_lines;
 use crate::recording::recorder_for;
@@ -29,7 +28,7 @@ use rh_layout::limits::MAX_INPUT_BYTES;
 use rh_syntax::{ParseError, parse};
 use rh_text::{InputFault, IoLog, read_all};
 use rh_trace::laws::dumps::a_heap_has_the_dump_of_its_plain_heap;
-use rh_trace::{Summary, config_of};
+use rh_trace::{RunFault, Summary, config_of};
 use std::alloc::Allocator;
 use std::io;
 
@@ -42,7 +41,7 @@ fn run_input<A: Allocator + Copy, W: io::Write, H: io::Write, C: io::Write>(
     history: &mut H,
     cycles: &mut C,
     writes: &mut IoLog,
-) -> Result<Summary, ViewFault>
+) -> Result<Summary, RunFault>
     requires few { length input.now ≤ MAX_INPUT_BYTES }
     requires none_failed { writes.old.failed ≡ false }
     ensures ends { Ends telling input.now result (record {
@@ -53,27 +52,27 @@ fn run_input<A: Allocator + Copy, W: io::Write, H: io::Write, C: io::Write>(
       cycles_old = C.contents cycles.old;
       cycles_new = C.contents cycles.new;
     }) }
-    ensures never_read { ¬ IsErrOf result ViewFault.Read }
-    ensures failed { IsErrOf result ViewFault.Write → AreSpent writes.new }
-    ensures none_failed { ¬ IsErrOf result ViewFault.Write → writes.new.failed ≡ false }
+    ensures never_read { ¬ IsErrOf result RunFault.Read }
+    ensures failed { IsErrOf result RunFault.Write → AreSpent writes.new }
+    ensures none_failed { ¬ IsErrOf result RunFault.Write → writes.new.failed ≡ false }
 {
     let trace = match parse(alloc, input) {
         Ok(trace) => trace,
-        Err(ParseError::Fault(fault)) => return Err(ViewFault::Trace(fault)),
-        Err(ParseError::OutOfMemory) => return Err(ViewFault::OutOfMemory),
+        Err(ParseError::Fault(fault)) => return Err(RunFault::Trace(fault)),
+        Err(ParseError::OutOfMemory) => return Err(RunFault::OutOfMemory),
     };
     let config = config_of(trace.header());
     if let Some(fault) = config.fault() {
-        return Err(ViewFault::New(fault));
+        return Err(RunFault::New(fault));
     }
     let heap = match Heap::new(alloc, config) {
         Ok(heap) => heap,
-        Err(HeapError::Config(fault)) => return Err(ViewFault::New(fault)),
-        Err(HeapError::OutOfMemory) => return Err(ViewFault::OutOfMemory),
+        Err(HeapError::Config(fault)) => return Err(RunFault::New(fault)),
+        Err(HeapError::OutOfMemory) => return Err(RunFault::OutOfMemory),
     };
     let mut recorder = match recorder_for(alloc, trace.header(), trace.len()) {
         Ok(recorder) => recorder,
-        Err(OutOfMemory) => return Err(ViewFault::OutOfMemory),
+        Err(OutOfMemory) => return Err(RunFault::OutOfMemory),
     };
     let mut reader = CycleReader::new(&heap.stat());
     let mut engine = Engine::new(alloc, heap);
@@ -90,8 +89,8 @@ fn run_input<A: Allocator + Copy, W: io::Write, H: io::Write, C: io::Write>(
         writes,
     ) {
         Ok(summary) => Ok(summary),
-        Err(Stop::Write) => Err(ViewFault::Write),
-        Err(Stop::OutOfMemory) => Err(ViewFault::OutOfMemory),
+        Err(Stop::Write) => Err(RunFault::Write),
+        Err(Stop::OutOfMemory) => Err(RunFault::OutOfMemory),
     }
 }
 
@@ -110,8 +109,9 @@ fn run_input<A: Allocator + Copy, W: io::Write, H: io::Write, C: io::Write>(
 /// Of the faults of an input the first is answered: `Long`, then `Trace`, then `New`. `Read` comes
 /// where a read failed or was one too many. `Write` comes where a write of one of the writers
 /// failed, or 33,554,432 writes of one text didn't come to its end: what is told of a line is one,
-/// a dump too. `OutOfMemory` comes where the allocator refused memory. What may be written then,
-/// `ViewFault` says.
+/// a dump too. A prefix of each text may be written then, and not all of what is told.
+/// `OutOfMemory` comes where the allocator refused memory. A prefix of what is told of the lines
+/// and one of the text of cycles may be written then, and nothing of the history.
 pub fn run_viewed<A: Allocator + Copy, R: io::Read, W: io::Write, H: io::Write, C: io::Write>(
     alloc: A,
     reader: &mut R,
@@ -119,7 +119,7 @@ pub fn run_viewed<A: Allocator + Copy, R: io::Read, W: io::Write, H: io::Write, 
     out: &mut W,
     history: &mut H,
     cycles: &mut C,
-) -> Result<Summary, ViewFault>
+) -> Result<Summary, RunFault>
     // For a reader that tells its bytes: how a run of the bytes that it had ends.
     ensures told { IfSome (R.remaining reader.old) (λ input. Ends telling input result (record {
       old = W.contents out.old;
@@ -141,7 +141,7 @@ pub fn run_viewed<A: Allocator + Copy, R: io::Read, W: io::Write, H: io::Write, 
           cycles_new = C.contents cycles.new;
         }) }
     // Where a read failed, no more was taken than an input may have.
-    ensures few_read { IsErrOf result ViewFault.Read → (input : List ℕ)
+    ensures few_read { IsErrOf result RunFault.Read → (input : List ℕ)
         × Consumes (R.remaining reader.old) (R.remaining reader.new) input
         × (length input ≤ MAX_INPUT_BYTES) }
     // Said of the plain heap alone, where the run succeeded: which trace was read, which answers
@@ -189,7 +189,7 @@ pub fn run_viewed_logged<
     history: &mut H,
     cycles: &mut C,
     writes: &mut IoLog,
-) -> Result<Summary, ViewFault>
+) -> Result<Summary, RunFault>
     requires no_read_failed { reads.old.failed ≡ false }
     requires no_write_failed { writes.old.failed ≡ false }
     // As of `run_viewed`.
@@ -211,7 +211,7 @@ pub fn run_viewed_logged<
           cycles_old = C.contents cycles.old;
           cycles_new = C.contents cycles.new;
         }) }
-    ensures few_read { IsErrOf result ViewFault.Read → (input : List ℕ)
+    ensures few_read { IsErrOf result RunFault.Read → (input : List ℕ)
         × Consumes (R.remaining reader.old) (R.remaining reader.new) input
         × (length input ≤ MAX_INPUT_BYTES) }
     ensures plain { IfOk result (λ summary. (script : Script)
@@ -224,13 +224,13 @@ pub fn run_viewed_logged<
         (spelling (history_with script answers))
         × IsLegal (history_with script answers)) }
     // Read is answered only where a read failed or none was left.
-    ensures read_failed { IsErrOf result ViewFault.Read → AreSpent reads.new }
-    ensures no_read_failed { ¬ IsErrOf result ViewFault.Read → reads.new.failed ≡ false }
+    ensures read_failed { IsErrOf result RunFault.Read → AreSpent reads.new }
+    ensures no_read_failed { ¬ IsErrOf result RunFault.Read → reads.new.failed ≡ false }
     // Each read that was made took one of those that were left.
     ensures reads_counted { CountsDown reads.old.left reads.old reads.new }
     // Write is answered only where a write failed or none was left.
-    ensures write_failed { IsErrOf result ViewFault.Write → AreSpent writes.new }
-    ensures no_write_failed { ¬ IsErrOf result ViewFault.Write → writes.new.failed ≡ false }
+    ensures write_failed { IsErrOf result RunFault.Write → AreSpent writes.new }
+    ensures no_write_failed { ¬ IsErrOf result RunFault.Write → writes.new.failed ≡ false }
 {
     // The laws from which the clause on the plain heap follows.
     heaps_answer_as_plain_heaps();
@@ -241,8 +241,8 @@ pub fn run_viewed_logged<
     the_history_of_plain_answers_is_legal();
     match read_all(alloc, reader, reads) {
         Ok(input) => run_input(alloc, &input, telling, out, history, cycles, writes),
-        Err(InputFault::Read) => Err(ViewFault::Read),
-        Err(InputFault::Long) => Err(ViewFault::Long),
-        Err(InputFault::OutOfMemory) => Err(ViewFault::OutOfMemory),
+        Err(InputFault::Read) => Err(RunFault::Read),
+        Err(InputFault::Long) => Err(RunFault::Long),
+        Err(InputFault::OutOfMemory) => Err(RunFault::OutOfMemory),
     }
 }

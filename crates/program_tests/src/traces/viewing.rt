@@ -5,7 +5,7 @@ use crate::expectations::{Row, expect_bytes, expect_equal, expect_prefix, expect
 use crate::texts::{COLUMNS, TOO_MANY, TWO_FLIPS, WHOLE_CYCLE};
 use refusing::refused_in_turn;
 use rh_viewed_trace::{
-    PacedFault, Telling, ViewFault, run_viewed, run_viewed_growing, run_viewed_paced,
+    PacedFault, RunFault, Telling, run_viewed, run_viewed_growing, run_viewed_paced,
 };
 use std::alloc::Allocator;
 use std::io;
@@ -36,11 +36,11 @@ enum Fault {
     Other,
 }
 
-impl From<ViewFault> for Fault {
-    fn from(fault: ViewFault) -> Fault {
+impl From<RunFault> for Fault {
+    fn from(fault: RunFault) -> Fault {
         match fault {
-            ViewFault::Write => Fault::Write,
-            ViewFault::OutOfMemory => Fault::OutOfMemory,
+            RunFault::Write => Fault::Write,
+            RunFault::OutOfMemory => Fault::OutOfMemory,
             _ => Fault::Other,
         }
     }
