@@ -1,3 +1,4 @@
+pub mod Causes
 pub mod ClapMatches
 pub mod Counted
 pub mod Drawn

@@ -10,20 +10,22 @@ use Rattle.rh_viewed_trace.specs.declared.telling.Telling.{Telling}
 use Rattle.rh_cli.specs.declared.fault.LineFault.{LineFault}
 use Rattle.rh_cli.specs.declared.fault.LineFault.TheVariants as faults
 use Rattle.rh_cli.specs.Replay.{IsJudged}
+use Rattle.rh_cli.specs.ViewLog.{HasCause, ViewLogState}
 use Rattle.rh_cli.specs.Views.{ConcludesReport, ReportEnds, told_report}
 use Rattle.rh_cli.proofs.Flushed.{Appends-kept, AppendsLess-kept, Keeps-kept}
 
 -- a read failed
-pub unread : (telling : Telling) (input : List ℕ) (a : Option (List ℕ)) → ConcludesReport telling input 1 a a
-unread telling input a = (Err faults.Read, Keeps-same a, refl)
+pub unread : (telling : Telling) (input : List ℕ) (log : ViewLogState) (a : Option (List ℕ)) → HasCause Verdict LineFault faults.Read faults.Write (Err faults.Read) 1 log → ConcludesReport telling input 1 log a a
+unread telling input log a cause = (Err faults.Read, Keeps-same a, refl, cause)
 
 -- memory was refused
-pub unreported : (telling : Telling) (input : List ℕ) (a : Option (List ℕ)) → ConcludesReport telling input 3 a a
-unreported telling input a = (Err faults.OutOfMemory, Keeps-same a, refl)
+pub unreported : (telling : Telling) (input : List ℕ) (log : ViewLogState) (a : Option (List ℕ)) → HasCause Verdict LineFault faults.Read faults.Write (Err faults.OutOfMemory) 3 log → ConcludesReport telling input 3 log a a
+unreported telling input log a cause = (Err faults.OutOfMemory, Keeps-same a, refl, cause)
 
 -- there were too many bytes, and whatever follows them
-pub too_long : (telling : Telling) (taken rest : List ℕ) (a : Option (List ℕ)) → 16777216 < length taken → ConcludesReport telling (taken ++ rest) 1 a a
-too_long telling taken rest a many = (Err faults.TooLong, (omega (arith, many, length-append taken rest), Keeps-same a), refl)
+pub too_long : (telling : Telling) (taken rest : List ℕ) (log : ViewLogState) (a : Option (List ℕ)) → 16777216 < length taken → HasCause Verdict LineFault faults.Read faults.Write (Err faults.TooLong) 1 log
+    → ConcludesReport telling (taken ++ rest) 1 log a a
+too_long telling taken rest log a many cause = (Err faults.TooLong, (omega (arith, many, length-append taken rest), Keeps-same a), refl, cause)
 
 -- the report was sent, or some of it
 pub sent_report : (telling : Telling) (input text : List ℕ) (h : HistoryState) (verdict : Verdict) (old new : Option (List ℕ)) → IsJudged input h verdict → text ≡ told_report telling h verdict → Appends old new text

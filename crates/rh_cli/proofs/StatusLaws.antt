@@ -73,7 +73,7 @@ run_memory_is_3 (run_faults.New fault) = (λ is. absurd (omega (arith, is)), λ 
 run_memory_is_3 run_faults.Write = (λ is. absurd (omega (arith, is)), λ is. cc)
 run_memory_is_3 run_faults.OutOfMemory = (λ is. refl, λ is. refl)
 
-run_fault_is_1_or_3 : (fault : RunFault) → (run_status fault ≡ 1) ⊎ (run_status fault ≡ 3)
+pub run_fault_is_1_or_3 : (fault : RunFault) → (run_status fault ≡ 1) ⊎ (run_status fault ≡ 3)
 run_fault_is_1_or_3 run_faults.Read = inl refl
 run_fault_is_1_or_3 run_faults.Long = inl refl
 run_fault_is_1_or_3 (run_faults.Trace fault) = inl refl
@@ -241,7 +241,7 @@ run_is_0 due (Err fault) old new ends status =
     elim (run_fault_is_1_or_3 fault) [ inl one ↦ absurd (omega (arith, status, one)) | inr three ↦ absurd (omega (arith, status, three)) ]
 
 -- the status after a run is one of 0, 1 and 3
-run_is_0_1_or_3 : (outcome : Result Summary RunFault) (status : ℕ) → IsRunStatus outcome status → (status ≡ 0) ⊎ ((status ≡ 1) ⊎ (status ≡ 3))
+pub run_is_0_1_or_3 : (outcome : Result Summary RunFault) (status : ℕ) → IsRunStatus outcome status → (status ≡ 0) ⊎ ((status ≡ 1) ⊎ (status ≡ 3))
 run_is_0_1_or_3 (Ok summary) status (inl is) = inl is
 run_is_0_1_or_3 (Ok summary) status (inr is) = inr (inl is)
 run_is_0_1_or_3 (Err fault) status is =

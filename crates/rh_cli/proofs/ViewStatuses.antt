@@ -1,5 +1,5 @@
 -- What the statuses say of how what is viewed ended.
-use Rattle.std.proofs.Common.{◌≡◌, ◌∙◌, ◌⊎◌, inl, inr, ℕ, Bool, List, Option, Result, Ok, Err, refl, subst, arith}
+use Rattle.std.proofs.Common.{◌≡◌, ◌≢◌, ◌∙◌, ◌⊎◌, inl, inr, ℕ, Bool, List, Option, Some, None, Result, Ok, Err, refl, subst, arith}
 use Rattle.std.specs.Io.KnownBytes.{Appends}
 use Rattle.rh_layout.specs.declared.command.Reply.{Reply}
 use Rattle.rh_layout.specs.declared.refusal.Refusal.{Refusal}
@@ -11,8 +11,8 @@ use Rattle.rh_replay.specs.declared.checking.Verdict.TheVariants.{Legal, Wrong}
 use Rattle.rh_replay.specs.History.{HistoryState}
 use Rattle.rh_replay.specs.Spelling.{spelling}
 use Rattle.rh_trace.specs.declared.summary.Summary.{Summary}
-use Rattle.rh_viewed_trace.specs.declared.fault.ViewFault.{ViewFault}
-use Rattle.rh_viewed_trace.specs.declared.fault.ViewFault.TheVariants as view_faults
+use Rattle.rh_trace.specs.declared.run_fault.RunFault.{RunFault}
+use Rattle.rh_trace.specs.declared.run_fault.RunFault.TheVariants as run_faults
 use Rattle.rh_viewed_trace.specs.declared.telling.Telling.{Telling}
 use Rattle.rh_viewed_trace.specs.Cycles.{cycles_text}
 use Rattle.rh_viewed_trace.specs.Run.{Ends, IsRun, Written, run_cycles, run_history, view_of_run}
@@ -21,40 +21,46 @@ use Rattle.rh_pace.specs.declared.pace.Pace.{Pace}
 use Rattle.rh_paced_trace.specs.declared.fault.PacedFault.{PacedFault}
 use Rattle.rh_paced_trace.specs.Growing.{IsGrowingRun, growing_sum_of}
 use Rattle.rh_paced_trace.specs.Run.{IsRun as IsPacedRun, sum_of}
+use Rattle.rh_cli.specs.Drive.{IsRunStatus, run_status}
 use Rattle.rh_cli.specs.Paced.{IsPacedStatus, paced_status}
 use Rattle.rh_cli.specs.Fault.{IsLateStatus, status_of}
 use Rattle.rh_cli.specs.Replay.{IsJudged, IsReplayStatus}
-use Rattle.rh_cli.specs.Views.{ConcludesViewed, IsViewStatus, ReportEnds, told_counts, told_report, view_status}
+use Rattle.rh_cli.specs.ViewLog.{HasCause, ViewLogState}
+use Rattle.rh_cli.specs.Views.{ConcludesViewed, HasFailed, HasRunFault, ReportEnds, told_counts, told_report}
 use Rattle.rh_cli.specs.declared.ask.Subcommand.{Subcommand}
 use Rattle.rh_cli.specs.declared.ask.Subcommand.TheVariants.{Run, RunPaced, RunGrowing, Threads, Replay, Dump, Dot, Draw, Session, Lisp, Completions}
 use Rattle.rh_cli.specs.declared.fault.LineFault.{LineFault}
 use Rattle.rh_cli.specs.declared.fault.LineFault.TheVariants as faults
-use Rattle.rh_cli.proofs.StatusLaws.{concludes_late, count_is_0, count_is_0_1_or_3, late_of_four, late_of_three, paced_fault_is_1_or_3, paced_is_0_1_or_3}
+use Rattle.rh_cli.proofs.StatusLaws.{concludes_late, count_is_0, count_is_0_1_or_3, late_of_four, late_of_three, paced_fault_is_1_or_3, paced_is_0_1_or_3, run_fault_is_1_or_3, run_is_0_1_or_3}
 
-view_fault_is_1_or_3 : (fault : ViewFault) → (view_status fault ≡ 1) ⊎ (view_status fault ≡ 3)
-view_fault_is_1_or_3 view_faults.Read = inl refl
-view_fault_is_1_or_3 view_faults.Long = inl refl
-view_fault_is_1_or_3 (view_faults.Trace fault) = inl refl
-view_fault_is_1_or_3 (view_faults.New fault) = inl refl
-view_fault_is_1_or_3 view_faults.Write = inl refl
-view_fault_is_1_or_3 view_faults.OutOfMemory = inr refl
-
-view_is_0_1_or_3 : (outcome : Result Summary ViewFault) (status : ℕ) → IsViewStatus outcome status → (status ≡ 0) ⊎ ((status ≡ 1) ⊎ (status ≡ 3))
-view_is_0_1_or_3 (Ok summary) status (inl is) = inl is
-view_is_0_1_or_3 (Ok summary) status (inr is) = inr (inl is)
-view_is_0_1_or_3 (Err fault) status is = inr (rw is (view_fault_is_1_or_3 fault))
-
-view_fault_is_not_0 : (fault : ViewFault) → 0 ≡ view_status fault → ⊥
-view_fault_is_not_0 fault is = elim (view_fault_is_1_or_3 fault) [ inl one ↦ omega (arith, is, one) | inr three ↦ omega (arith, is, three) ]
+run_fault_is_not_0 : (fault : RunFault) → 0 ≡ run_status fault → ⊥
+run_fault_is_not_0 fault is = elim (run_fault_is_1_or_3 fault) [ inl one ↦ omega (arith, is, one) | inr three ↦ omega (arith, is, three) ]
 
 paced_fault_is_not_0 : (fault : PacedFault) → 0 ≡ paced_status fault → ⊥
 paced_fault_is_not_0 fault is = elim (paced_fault_is_1_or_3 fault) [ inl one ↦ omega (arith, is, one) | inr three ↦ omega (arith, is, three) ]
 
-view_is_0 : (outcome : Result Summary ViewFault) (telling : Telling) (input : List ℕ) (w : Written) → Ends telling input outcome w → IsViewStatus outcome 0
+view_is_0 : (outcome : Result Summary RunFault) (telling : Telling) (input : List ℕ) (w : Written) → Ends telling input outcome w → IsRunStatus outcome 0
     → (script : Script) × IsRun input script × Appends w.old w.new (view_of_run telling script) × Appends w.history_old w.history_new (spelling (run_history script))
     × Appends w.cycles_old w.cycles_new (cycles_text (run_cycles script))
 view_is_0 (Ok summary) telling input w ends is = (ends.0, ends.1, ends.3, ends.4, ends.5)
-view_is_0 (Err fault) telling input w ends is = absurd (view_fault_is_not_0 fault is)
+view_is_0 (Err fault) telling input w ends is = absurd (run_fault_is_not_0 fault is)
+
+some_is_not_none : (A : Type 0) (o : Option A) (x : A) → o ≡ Some x → o ≢ None
+some_is_not_none A o x is none = absurd cc
+
+-- 1 comes from a fault of the input, or from a call that failed
+view_is_1 : (outcome : Result Summary RunFault) (telling : Telling) (input : List ℕ) (log : ViewLogState) (w : Written) → Ends telling input outcome w → IsRunStatus outcome 1
+    → HasCause Summary RunFault run_faults.Read run_faults.Write outcome 1 log → HasRunFault input ⊎ HasFailed log
+view_is_1 (Ok summary) telling input log w ends is cause = inr (inr (inr ((cause.flush_failed refl).0 refl)))
+view_is_1 (Err run_faults.Read) telling input log w ends is cause = inr (inl (cause.read_failed refl))
+view_is_1 (Err run_faults.Write) telling input log w ends is cause = inr (inr (inl (cause.write_failed refl)))
+view_is_1 (Err run_faults.Long) telling input log w ends is cause = inl (inl ends.0)
+view_is_1 (Err (run_faults.Trace fault)) telling input log w ends is cause = inl (inr (inl (fault, ends.1)))
+view_is_1 (Err (run_faults.New fault)) telling input log w ends is cause = inl (inr (inr (ends.0, ends.1, some_is_not_none _ _ fault ends.2)))
+view_is_1 (Err run_faults.OutOfMemory) telling input log w ends is cause = absurd (omega (arith, is))
+
+pub viewed_run_1 : (telling : Telling) (input : List ℕ) (log : ViewLogState) (w : Written) → ConcludesViewed telling Run input 1 log w → HasRunFault input ⊎ HasFailed log
+viewed_run_1 telling input log w c = view_is_1 c.0 telling input log w c.1 c.2 c.3
 
 -- of a check whose report is told in another way
 report_fault_is_1_or_3 : (telling : Telling) (input : List ℕ) (fault : LineFault) (old new : Option (List ℕ)) → ReportEnds telling input (Err fault) old new → (status_of fault ≡ 1) ⊎ (status_of fault ≡ 3)
@@ -90,23 +96,23 @@ report_is_4 telling input (Ok (Wrong at expected)) old new ends is = (ends.0, at
 report_is_4 telling input (Err fault) old new ends is =
     elim (report_fault_is_1_or_3 telling input fault old new ends) [ inl one ↦ absurd (omega (arith, is, one)) | inr three ↦ absurd (omega (arith, is, three)) ]
 
-pub viewed_late : (telling : Telling) (subcommand : Subcommand) (input : List ℕ) (status : ℕ) (w : Written) → ConcludesViewed telling subcommand input status w → IsLateStatus status
-viewed_late telling Run input status w c = late_of_three status (view_is_0_1_or_3 c.0 status c.2)
-viewed_late telling (RunPaced mark) input status w c = late_of_three status (paced_is_0_1_or_3 c.0 status c.2)
-viewed_late telling (RunGrowing at_most) input status w c = late_of_three status (paced_is_0_1_or_3 c.0 status c.2)
-viewed_late telling Replay input status w c = late_of_four status (report_is_0_1_3_or_4 telling input c.0.0 status w.old w.new c.0.1 c.0.2)
-viewed_late telling Dump input status w c = late_of_three status (count_is_0_1_or_3 (told_counts telling) input c.0.0 status w.old w.new c.0.1 c.0.2)
-viewed_late telling (Threads replicators idle) input status w c = concludes_late (Threads replicators idle) input status w.old w.new c.0
-viewed_late telling Dot input status w c = concludes_late Dot input status w.old w.new c.0
-viewed_late telling (Draw line) input status w c = concludes_late (Draw line) input status w.old w.new c.0
-viewed_late telling (Lisp limits) input status w c = concludes_late (Lisp limits) input status w.old w.new c.0
-viewed_late telling Session input status w c = concludes_late Session input status w.old w.new c.0
-viewed_late telling (Completions shell) input status w c = concludes_late (Completions shell) input status w.old w.new c.0
+pub viewed_late : (telling : Telling) (subcommand : Subcommand) (input : List ℕ) (status : ℕ) (log : ViewLogState) (w : Written) → ConcludesViewed telling subcommand input status log w → IsLateStatus status
+viewed_late telling Run input status log w c = late_of_three status (run_is_0_1_or_3 c.0 status c.2)
+viewed_late telling (RunPaced mark) input status log w c = late_of_three status (paced_is_0_1_or_3 c.0 status c.2)
+viewed_late telling (RunGrowing at_most) input status log w c = late_of_three status (paced_is_0_1_or_3 c.0 status c.2)
+viewed_late telling Replay input status log w c = late_of_four status (report_is_0_1_3_or_4 telling input c.0.0 status w.old w.new c.0.1 c.0.2)
+viewed_late telling Dump input status log w c = late_of_three status (count_is_0_1_or_3 (told_counts telling) input c.0.0 status w.old w.new c.0.1 c.0.2)
+viewed_late telling (Threads replicators idle) input status log w c = concludes_late (Threads replicators idle) input status w.old w.new c.0
+viewed_late telling Dot input status log w c = concludes_late Dot input status w.old w.new c.0
+viewed_late telling (Draw line) input status log w c = concludes_late (Draw line) input status w.old w.new c.0
+viewed_late telling (Lisp limits) input status log w c = concludes_late (Lisp limits) input status w.old w.new c.0
+viewed_late telling Session input status log w c = concludes_late Session input status w.old w.new c.0
+viewed_late telling (Completions shell) input status log w c = concludes_late (Completions shell) input status w.old w.new c.0
 
-pub viewed_run_0 : (telling : Telling) (input : List ℕ) (w : Written) → ConcludesViewed telling Run input 0 w
+pub viewed_run_0 : (telling : Telling) (input : List ℕ) (log : ViewLogState) (w : Written) → ConcludesViewed telling Run input 0 log w
     → (script : Script) × IsRun input script × Appends w.old w.new (view_of_run telling script) × Appends w.history_old w.history_new (spelling (run_history script))
     × Appends w.cycles_old w.cycles_new (cycles_text (run_cycles script))
-viewed_run_0 telling input w c = view_is_0 c.0 telling input w c.1 c.2
+viewed_run_0 telling input log w c = view_is_0 c.0 telling input w c.1 c.2
 
 -- of a paced run, and of a growing one
 paced_is_told : (outcome : Result Summary PacedFault) (mark : Option ℕ) (telling : Telling) (input : List ℕ) (w : Written) → EndsPaced mark telling input outcome w → IsPacedStatus outcome 0
@@ -122,23 +128,23 @@ growing_is_told (Ok summary) at_most telling input w ends is =
     (ends.0, ends.1, ends.2, subst (λ (s : Summary). IsTold telling ends.0 (growing_answered ends.0 at_most ends.1) s (growing_cycles ends.0 at_most ends.1) w) ends.3 ends.4)
 growing_is_told (Err fault) at_most telling input w ends is = absurd (paced_fault_is_not_0 fault is)
 
-pub viewed_paced_0 : (mark : Option ℕ) (telling : Telling) (input : List ℕ) (w : Written) → ConcludesViewed telling (RunPaced mark) input 0 w
+pub viewed_paced_0 : (mark : Option ℕ) (telling : Telling) (input : List ℕ) (log : ViewLogState) (w : Written) → ConcludesViewed telling (RunPaced mark) input 0 log w
     → (script : Script) × (pace : Pace) × IsPacedRun mark input script pace × IsTold telling script (paced_answered script pace) (sum_of script pace) (paced_cycles script pace) w
-viewed_paced_0 mark telling input w c = paced_is_told c.0 mark telling input w c.1 c.2
+viewed_paced_0 mark telling input log w c = paced_is_told c.0 mark telling input w c.1 c.2
 
-pub viewed_growing_0 : (at_most : ℕ) (telling : Telling) (input : List ℕ) (w : Written) → ConcludesViewed telling (RunGrowing at_most) input 0 w
+pub viewed_growing_0 : (at_most : ℕ) (telling : Telling) (input : List ℕ) (log : ViewLogState) (w : Written) → ConcludesViewed telling (RunGrowing at_most) input 0 log w
     → (script : Script) × (given : ℕ → Bool) × IsGrowingRun at_most input script
     × IsTold telling script (growing_answered script at_most given) (growing_sum_of script at_most given) (growing_cycles script at_most given) w
-viewed_growing_0 at_most telling input w c = growing_is_told c.0 at_most telling input w c.1 c.2
+viewed_growing_0 at_most telling input log w c = growing_is_told c.0 at_most telling input w c.1 c.2
 
-pub viewed_replay_0 : (telling : Telling) (input : List ℕ) (w : Written) → ConcludesViewed telling Replay input 0 w
+pub viewed_replay_0 : (telling : Telling) (input : List ℕ) (log : ViewLogState) (w : Written) → ConcludesViewed telling Replay input 0 log w
     → (h : HistoryState) × (count : ℕ) × IsJudged input h (Legal count) × Appends w.old w.new (told_report telling h (Legal count))
-viewed_replay_0 telling input w c = report_is_0 telling input c.0.0 w.old w.new c.0.1 c.0.2
+viewed_replay_0 telling input log w c = report_is_0 telling input c.0.0 w.old w.new c.0.1 c.0.2
 
-pub viewed_replay_4 : (telling : Telling) (input : List ℕ) (w : Written) → ConcludesViewed telling Replay input 4 w
+pub viewed_replay_4 : (telling : Telling) (input : List ℕ) (log : ViewLogState) (w : Written) → ConcludesViewed telling Replay input 4 log w
     → (h : HistoryState) × (at : ℕ) × (expected : Result Reply Refusal) × IsJudged input h (Wrong at expected) × Appends w.old w.new (told_report telling h (Wrong at expected))
-viewed_replay_4 telling input w c = report_is_4 telling input c.0.0 w.old w.new c.0.1 c.0.2
+viewed_replay_4 telling input log w c = report_is_4 telling input c.0.0 w.old w.new c.0.1 c.0.2
 
-pub viewed_dump_0 : (telling : Telling) (input : List ℕ) (w : Written) → ConcludesViewed telling Dump input 0 w
+pub viewed_dump_0 : (telling : Telling) (input : List ℕ) (log : ViewLogState) (w : Written) → ConcludesViewed telling Dump input 0 log w
     → (g : GraphState) × (graph_of_text input ≡ Ok g) × Appends w.old w.new (told_counts telling g)
-viewed_dump_0 telling input w c = count_is_0 (told_counts telling) input c.0.0 w.old w.new c.0.1 c.0.2
+viewed_dump_0 telling input log w c = count_is_0 (told_counts telling) input c.0.0 w.old w.new c.0.1 c.0.2

@@ -4,8 +4,8 @@ use Rattle.rh_text.specs.lemmas.Appends.{Keeps-same}
 use Rattle.rh_viewed_trace.specs.Run.{Written}
 use Rattle.rh_viewed_trace.specs.declared.telling.Telling.{Telling}
 use Rattle.rh_cli.specs.Drive.{Concludes}
-use Rattle.rh_cli.specs.Count.{ConcludesDump}
-use Rattle.rh_cli.specs.Views.{ConcludesReport, ConcludesViewed, KeepsOthers, told_counts}
+use Rattle.rh_cli.specs.ViewLog.{ViewLogState}
+use Rattle.rh_cli.specs.Views.{ConcludesCounts, ConcludesReport, ConcludesViewed, KeepsOthers}
 use Rattle.rh_cli.specs.declared.ask.Subcommand.{Subcommand}
 use Rattle.rh_cli.specs.declared.ask.Subcommand.TheVariants.{Run, RunPaced, RunGrowing, Threads, Replay, Dump, Dot, Draw, Session, Lisp, Completions}
 
@@ -24,28 +24,28 @@ pub others_kept : (old new history cycles : Option (List ℕ)) → KeepsOthers (
 others_kept old new history cycles = (Keeps-same history, Keeps-same cycles)
 
 -- a check, and a count
-pub viewed_check : (telling : Telling) (subcommand : Subcommand) (status : ℕ) (old new history cycles : Option (List ℕ)) → subcommand ≡ Replay
-    → (input : List ℕ) → ConcludesReport telling input status old new → ConcludesViewed telling subcommand input status (told_alone old new history cycles)
-viewed_check telling subcommand status old new history cycles is input ends =
-    subst (λ (s : Subcommand). ConcludesViewed telling s input status (told_alone old new history cycles)) (sym is) (ends, others_kept old new history cycles)
+pub viewed_check : (telling : Telling) (subcommand : Subcommand) (status : ℕ) (log : ViewLogState) (old new history cycles : Option (List ℕ)) → subcommand ≡ Replay
+    → (input : List ℕ) → ConcludesReport telling input status log old new → ConcludesViewed telling subcommand input status log (told_alone old new history cycles)
+viewed_check telling subcommand status log old new history cycles is input ends =
+    subst (λ (s : Subcommand). ConcludesViewed telling s input status log (told_alone old new history cycles)) (sym is) (ends, others_kept old new history cycles)
 
-pub viewed_count : (telling : Telling) (subcommand : Subcommand) (status : ℕ) (old new history cycles : Option (List ℕ)) → subcommand ≡ Dump
-    → (input : List ℕ) → ConcludesDump (told_counts telling) input status old new → ConcludesViewed telling subcommand input status (told_alone old new history cycles)
-viewed_count telling subcommand status old new history cycles is input ends =
-    subst (λ (s : Subcommand). ConcludesViewed telling s input status (told_alone old new history cycles)) (sym is) (ends, others_kept old new history cycles)
+pub viewed_count : (telling : Telling) (subcommand : Subcommand) (status : ℕ) (log : ViewLogState) (old new history cycles : Option (List ℕ)) → subcommand ≡ Dump
+    → (input : List ℕ) → ConcludesCounts telling input status log old new → ConcludesViewed telling subcommand input status log (told_alone old new history cycles)
+viewed_count telling subcommand status log old new history cycles is input ends =
+    subst (λ (s : Subcommand). ConcludesViewed telling s input status log (told_alone old new history cycles)) (sym is) (ends, others_kept old new history cycles)
 
 -- it ends as it does without
-pub unviewed : (telling : Telling) (subcommand : Subcommand) (status : ℕ) (old new history cycles : Option (List ℕ)) → subcommand ≢ Run → ((mark : Option ℕ) → subcommand ≢ RunPaced mark)
+pub unviewed : (telling : Telling) (subcommand : Subcommand) (status : ℕ) (log : ViewLogState) (old new history cycles : Option (List ℕ)) → subcommand ≢ Run → ((mark : Option ℕ) → subcommand ≢ RunPaced mark)
     → ((at_most : ℕ) → subcommand ≢ RunGrowing at_most) → subcommand ≢ Replay → subcommand ≢ Dump
-    → (input : List ℕ) → Concludes subcommand input status old new → ConcludesViewed telling subcommand input status (told_alone old new history cycles)
-unviewed telling Run status old new history cycles run paced growing replay dump input ends = absurd (run refl)
-unviewed telling (RunPaced mark) status old new history cycles run paced growing replay dump input ends = absurd (paced mark refl)
-unviewed telling (RunGrowing at_most) status old new history cycles run paced growing replay dump input ends = absurd (growing at_most refl)
-unviewed telling Replay status old new history cycles run paced growing replay dump input ends = absurd (replay refl)
-unviewed telling Dump status old new history cycles run paced growing replay dump input ends = absurd (dump refl)
-unviewed telling (Threads replicators idle) status old new history cycles run paced growing replay dump input ends = (ends, others_kept old new history cycles)
-unviewed telling Dot status old new history cycles run paced growing replay dump input ends = (ends, others_kept old new history cycles)
-unviewed telling (Draw line) status old new history cycles run paced growing replay dump input ends = (ends, others_kept old new history cycles)
-unviewed telling (Lisp limits) status old new history cycles run paced growing replay dump input ends = (ends, others_kept old new history cycles)
-unviewed telling Session status old new history cycles run paced growing replay dump input ends = (ends, others_kept old new history cycles)
-unviewed telling (Completions shell) status old new history cycles run paced growing replay dump input ends = (ends, others_kept old new history cycles)
+    → (input : List ℕ) → Concludes subcommand input status old new → ConcludesViewed telling subcommand input status log (told_alone old new history cycles)
+unviewed telling Run status log old new history cycles run paced growing replay dump input ends = absurd (run refl)
+unviewed telling (RunPaced mark) status log old new history cycles run paced growing replay dump input ends = absurd (paced mark refl)
+unviewed telling (RunGrowing at_most) status log old new history cycles run paced growing replay dump input ends = absurd (growing at_most refl)
+unviewed telling Replay status log old new history cycles run paced growing replay dump input ends = absurd (replay refl)
+unviewed telling Dump status log old new history cycles run paced growing replay dump input ends = absurd (dump refl)
+unviewed telling (Threads replicators idle) status log old new history cycles run paced growing replay dump input ends = (ends, others_kept old new history cycles)
+unviewed telling Dot status log old new history cycles run paced growing replay dump input ends = (ends, others_kept old new history cycles)
+unviewed telling (Draw line) status log old new history cycles run paced growing replay dump input ends = (ends, others_kept old new history cycles)
+unviewed telling (Lisp limits) status log old new history cycles run paced growing replay dump input ends = (ends, others_kept old new history cycles)
+unviewed telling Session status log old new history cycles run paced growing replay dump input ends = (ends, others_kept old new history cycles)
+unviewed telling (Completions shell) status log old new history cycles run paced growing replay dump input ends = (ends, others_kept old new history cycles)

@@ -7,17 +7,19 @@ use Rattle.rh_cycles.specs.declared.cycle.Cycle.{Cycle}
 use Rattle.rh_replay.specs.Spelling.{spelling}
 use Rattle.rh_trace.specs.Answers.{Answered}
 use Rattle.rh_trace.specs.declared.summary.Summary.{Summary}
+use Rattle.rh_trace.specs.declared.run_fault.RunFault.{RunFault}
+use Rattle.rh_trace.specs.declared.run_fault.RunFault.TheVariants as run_faults
 use Rattle.rh_paced_trace.specs.declared.fault.PacedFault.{PacedFault}
 use Rattle.rh_paced_trace.specs.declared.fault.PacedFault.TheVariants as paced_faults
-use Rattle.rh_viewed_trace.specs.declared.fault.ViewFault.{ViewFault}
-use Rattle.rh_viewed_trace.specs.declared.fault.ViewFault.TheVariants as view_faults
 use Rattle.rh_viewed_trace.specs.declared.telling.Telling.{Telling}
 use Rattle.rh_viewed_trace.specs.Cycles.{cycles_text}
 use Rattle.rh_viewed_trace.specs.Run.{Ends, KeepsAll, Written, history_with, run_cycles, run_history, told_of, view_of_run, viewed_of}
 use Rattle.rh_viewed_trace.specs.Views.{numbered, views_text}
 use Rattle.rh_viewed_trace.specs.Ways.{EndsGrowing, EndsPaced, IsCut, IsStopped, IsTold, growing_answered, growing_cycles, paced_answered, paced_cycles}
+use Rattle.rh_cli.specs.Drive.{IsRunStatus}
 use Rattle.rh_cli.specs.Paced.{IsPacedStatus}
-use Rattle.rh_cli.specs.Views.{ConcludesView, ConcludesViewGrowing, ConcludesViewPaced, IsViewStatus}
+use Rattle.rh_cli.specs.ViewLog.{HasCause, ViewLogState}
+use Rattle.rh_cli.specs.Views.{ConcludesView, ConcludesViewGrowing, ConcludesViewPaced}
 use Rattle.rh_cli.proofs.Flushed.{Appends-kept, AppendsLess-kept, Keeps-kept}
 
 -- what the three writers hold after flushes
@@ -44,7 +46,7 @@ KeepsAll-kept : (w : Written) (new history cycles : Option (List ℕ)) → Keeps
 KeepsAll-kept w new history cycles e k =
     (Keeps-kept w.old w.new new e.0 k.out, Keeps-kept w.history_old w.history_new history e.1 k.calls, Keeps-kept w.cycles_old w.cycles_new cycles e.2 k.lines)
 
-ViewEnds-flushed : (telling : Telling) (input : List ℕ) (r : Result Summary ViewFault) (w : Written) (new history cycles : Option (List ℕ)) → Ends telling input r w → AreKept w new history cycles
+ViewEnds-flushed : (telling : Telling) (input : List ℕ) (r : Result Summary RunFault) (w : Written) (new history cycles : Option (List ℕ)) → Ends telling input r w → AreKept w new history cycles
     → Ends telling input r (flushed w new history cycles)
 ViewEnds-flushed telling input (Ok summary) w new history cycles e k = (
   e.0,
@@ -54,15 +56,15 @@ ViewEnds-flushed telling input (Ok summary) w new history cycles e k = (
   Appends-kept w.history_old w.history_new history (spelling (run_history e.0)) e.4 k.calls,
   Appends-kept w.cycles_old w.cycles_new cycles (cycles_text (run_cycles e.0)) e.5 k.lines,
 )
-ViewEnds-flushed telling input (Err view_faults.Write) w new history cycles e k = (
+ViewEnds-flushed telling input (Err run_faults.Write) w new history cycles e k = (
   e.0,
   e.1,
   AppendsLess-kept w.old w.new new (view_of_run telling e.0) e.2 k.out,
   AppendsPrefix-kept w.history_old w.history_new history (spelling (run_history e.0)) e.3 k.calls,
   AppendsPrefix-kept w.cycles_old w.cycles_new cycles (cycles_text (run_cycles e.0)) e.4 k.lines,
 )
-ViewEnds-flushed telling input (Err view_faults.OutOfMemory) w new history cycles (inl e) k = inl (KeepsAll-kept w new history cycles e k)
-ViewEnds-flushed telling input (Err view_faults.OutOfMemory) w new history cycles (inr e) k =
+ViewEnds-flushed telling input (Err run_faults.OutOfMemory) w new history cycles (inl e) k = inl (KeepsAll-kept w new history cycles e k)
+ViewEnds-flushed telling input (Err run_faults.OutOfMemory) w new history cycles (inr e) k =
     inr (
       e.0,
       e.1,
@@ -70,10 +72,10 @@ ViewEnds-flushed telling input (Err view_faults.OutOfMemory) w new history cycle
       Keeps-kept w.history_old w.history_new history e.3 k.calls,
       AppendsPrefix-kept w.cycles_old w.cycles_new cycles (cycles_text (run_cycles e.0)) e.4 k.lines,
     )
-ViewEnds-flushed telling input (Err view_faults.Long) w new history cycles e k = (e.0, KeepsAll-kept w new history cycles e.1 k)
-ViewEnds-flushed telling input (Err (view_faults.Trace fault)) w new history cycles e k = (e.0, e.1, KeepsAll-kept w new history cycles e.2 k)
-ViewEnds-flushed telling input (Err (view_faults.New fault)) w new history cycles e k = (e.0, e.1, e.2, KeepsAll-kept w new history cycles e.3 k)
-ViewEnds-flushed telling input (Err view_faults.Read) w new history cycles e k = KeepsAll-kept w new history cycles e k
+ViewEnds-flushed telling input (Err run_faults.Long) w new history cycles e k = (e.0, KeepsAll-kept w new history cycles e.1 k)
+ViewEnds-flushed telling input (Err (run_faults.Trace fault)) w new history cycles e k = (e.0, e.1, KeepsAll-kept w new history cycles e.2 k)
+ViewEnds-flushed telling input (Err (run_faults.New fault)) w new history cycles e k = (e.0, e.1, e.2, KeepsAll-kept w new history cycles e.3 k)
+ViewEnds-flushed telling input (Err run_faults.Read) w new history cycles e k = KeepsAll-kept w new history cycles e k
 
 IsTold-kept : (telling : Telling) (script : Script) (answered : List Answered) (summary : Summary) (ended : List Cycle) (w : Written) (new history cycles : Option (List ℕ))
     → IsTold telling script answered summary ended w → AreKept w new history cycles → IsTold telling script answered summary ended (flushed w new history cycles)
@@ -132,14 +134,14 @@ ViewGrowing-flushed at_most telling input (Err (paced_faults.Pace why)) w new hi
 ViewGrowing-flushed at_most telling input (Err paced_faults.Read) w new history cycles e k = KeepsAll-kept w new history cycles e k
 
 -- how a viewed run ended is how it concludes after the flushes
-pub view_concludes : (telling : Telling) (r : Result Summary ViewFault) (status : ℕ) (w : Written) (new history cycles : Option (List ℕ)) → AreKept w new history cycles → IsViewStatus r status
-    → (input : List ℕ) → Ends telling input r w → ConcludesView telling input status (flushed w new history cycles)
-view_concludes telling r status w new history cycles k s input e = (r, ViewEnds-flushed telling input r w new history cycles e k, s)
+pub view_concludes : (telling : Telling) (r : Result Summary RunFault) (status : ℕ) (log : ViewLogState) (w : Written) (new history cycles : Option (List ℕ)) → AreKept w new history cycles → IsRunStatus r status
+    → HasCause Summary RunFault run_faults.Read run_faults.Write r status log → (input : List ℕ) → Ends telling input r w → ConcludesView telling input status log (flushed w new history cycles)
+view_concludes telling r status log w new history cycles k s cause input e = (r, ViewEnds-flushed telling input r w new history cycles e k, s, cause)
 
-pub view_paced_concludes : (mark : Option ℕ) (telling : Telling) (r : Result Summary PacedFault) (status : ℕ) (w : Written) (new history cycles : Option (List ℕ)) → AreKept w new history cycles → IsPacedStatus r status
-    → (input : List ℕ) → EndsPaced mark telling input r w → ConcludesViewPaced mark telling input status (flushed w new history cycles)
-view_paced_concludes mark telling r status w new history cycles k s input e = (r, ViewPaced-flushed mark telling input r w new history cycles e k, s)
+pub view_paced_concludes : (mark : Option ℕ) (telling : Telling) (r : Result Summary PacedFault) (status : ℕ) (log : ViewLogState) (w : Written) (new history cycles : Option (List ℕ)) → AreKept w new history cycles → IsPacedStatus r status
+    → HasCause Summary PacedFault paced_faults.Read paced_faults.Write r status log → (input : List ℕ) → EndsPaced mark telling input r w → ConcludesViewPaced mark telling input status log (flushed w new history cycles)
+view_paced_concludes mark telling r status log w new history cycles k s cause input e = (r, ViewPaced-flushed mark telling input r w new history cycles e k, s, cause)
 
-pub view_growing_concludes : (at_most : ℕ) (telling : Telling) (r : Result Summary PacedFault) (status : ℕ) (w : Written) (new history cycles : Option (List ℕ)) → AreKept w new history cycles → IsPacedStatus r status
-    → (input : List ℕ) → EndsGrowing at_most telling input r w → ConcludesViewGrowing at_most telling input status (flushed w new history cycles)
-view_growing_concludes at_most telling r status w new history cycles k s input e = (r, ViewGrowing-flushed at_most telling input r w new history cycles e k, s)
+pub view_growing_concludes : (at_most : ℕ) (telling : Telling) (r : Result Summary PacedFault) (status : ℕ) (log : ViewLogState) (w : Written) (new history cycles : Option (List ℕ)) → AreKept w new history cycles → IsPacedStatus r status
+    → HasCause Summary PacedFault paced_faults.Read paced_faults.Write r status log → (input : List ℕ) → EndsGrowing at_most telling input r w → ConcludesViewGrowing at_most telling input status log (flushed w new history cycles)
+view_growing_concludes at_most telling r status log w new history cycles k s cause input e = (r, ViewGrowing-flushed at_most telling input r w new history cycles e k, s, cause)

@@ -4,8 +4,10 @@ pub mod Draw
 pub mod Drive
 pub mod Fault
 pub mod Lisp
+pub mod Outputs
 pub mod Paced
 pub mod Replay
 pub mod Session
 pub mod Shared
+pub mod ViewLog
 pub mod Views

@@ -1,71 +1,69 @@
 -- How what is seen in other ways ends the program.
-use Rattle.std.specs.Prelude.{◌≡◌, ℕ, ◌<◌, ◌≤◌, ◌⊎◌, Option, List, length, Result, Ok, Err}
+use Rattle.std.specs.Prelude.{◌≡◌, ◌≢◌, ◌⊎◌, ℕ, ◌<◌, ◌≤◌, true, Option, None, List, length, Result, Ok, Err}
 use Rattle.std.specs.Io.KnownBytes.{Appends, Keeps}
+use Rattle.rh_text.specs.IoLog.{AreSpent}
 use Rattle.rh_text.specs.Output.{AppendsLess}
+use Rattle.rh_core.specs.Config.{fault_of}
 use Rattle.rh_dump.specs.Dump.{GraphState}
+use Rattle.rh_syntax.specs.declared.fault.TraceFault.{TraceFault}
+use Rattle.rh_syntax.specs.Reading.{trace_of}
+use Rattle.rh_syntax.specs.Spelling.{Script}
 use Rattle.rh_replay.specs.declared.checking.Verdict.{Verdict}
 use Rattle.rh_replay.specs.History.{HistoryState}
 use Rattle.rh_replay.specs.Reading.{history_of}
 use Rattle.rh_replay.specs.Report.{report_text}
+use Rattle.rh_trace.specs.declared.run_fault.RunFault.{RunFault}
+use Rattle.rh_trace.specs.declared.run_fault.RunFault.TheVariants as run_faults
 use Rattle.rh_trace.specs.declared.summary.Summary.{Summary}
+use Rattle.rh_trace.specs.Run.{config_of}
 use Rattle.rh_paced_trace.specs.declared.fault.PacedFault.{PacedFault}
-use Rattle.rh_viewed_trace.specs.declared.fault.ViewFault.{ViewFault}
-use Rattle.rh_viewed_trace.specs.declared.fault.ViewFault.TheVariants as view_faults
+use Rattle.rh_paced_trace.specs.declared.fault.PacedFault.TheVariants as paced_faults
 use Rattle.rh_viewed_trace.specs.declared.telling.Telling.{Telling}
 use Rattle.rh_viewed_trace.specs.declared.telling.Telling.TheVariants.{Answers, Echo, Json}
 use Rattle.rh_viewed_trace.specs.Json.{json_dump, json_report}
 use Rattle.rh_viewed_trace.specs.Lines.{report_echo}
-use Rattle.rh_viewed_trace.specs.Run.{Ends, Written}
+use Rattle.rh_viewed_trace.specs.Run.{Ends, IsTrace, Written}
 use Rattle.rh_viewed_trace.specs.Ways.{EndsGrowing, EndsPaced}
 use Rattle.rh_cli.specs.declared.ask.Subcommand.{Subcommand}
 use Rattle.rh_cli.specs.declared.ask.Subcommand.TheVariants.{Run, RunPaced, RunGrowing, Replay, Dump}
 use Rattle.rh_cli.specs.declared.fault.LineFault.{LineFault}
 use Rattle.rh_cli.specs.declared.fault.LineFault.TheVariants as faults
-use Rattle.rh_cli.specs.Count.{ConcludesDump, counts_line}
-use Rattle.rh_cli.specs.Drive.{Concludes}
+use Rattle.rh_cli.specs.Count.{DumpEnds, IsCountStatus, counts_line}
+use Rattle.rh_cli.specs.Drive.{Concludes, IsRunStatus}
 use Rattle.rh_cli.specs.Paced.{IsPacedStatus}
 use Rattle.rh_cli.specs.Replay.{IsJudged, IsReplayStatus}
+use Rattle.rh_cli.specs.ViewLog.{HasCause, ViewLogState}
 
--- the status after a fault of a viewed run: 3 for want of memory, else 1
-abbrev pub view_status : ViewFault → ℕ
-view_status view_faults.Read = 1
-view_status view_faults.Long = 1
-view_status (view_faults.Trace fault) = 1
-view_status (view_faults.New fault) = 1
-view_status view_faults.Write = 1
-view_status view_faults.OutOfMemory = 3
-
--- the fault of the program that its is told as
-abbrev pub view_told_as : ViewFault → LineFault
-view_told_as view_faults.Read = faults.Read
-view_told_as view_faults.Long = faults.TooLong
-view_told_as (view_faults.Trace fault) = faults.Trace fault
-view_told_as (view_faults.New fault) = faults.Heap fault
-view_told_as view_faults.Write = faults.Write
-view_told_as view_faults.OutOfMemory = faults.OutOfMemory
-
--- the status after a viewed run: 0 where it is done, or 1 where a last flush failed
-abbrev pub IsViewStatus : Result Summary ViewFault → ℕ → Type 0
-IsViewStatus (Ok summary) status = (status ≡ 0) ⊎ (status ≡ 1)
-IsViewStatus (Err fault) status = status ≡ view_status fault
-
--- the viewed run ended in a way that fits its input and what was written, and the status is that
--- ending's
-abbrev pub ConcludesView : Telling → List ℕ → ℕ → Written → Type 0
-ConcludesView telling input status w =
-    (outcome : Result Summary ViewFault) × Ends telling input outcome w × IsViewStatus outcome status
+-- the viewed run ended in a way that fits its input and what was written, the status is that
+-- ending's, and its calls went so that it ended so
+abbrev pub ConcludesView : Telling → List ℕ → ℕ → ViewLogState → Written → Type 0
+ConcludesView telling input status log w =
+    (outcome : Result Summary RunFault) × Ends telling input outcome w × IsRunStatus outcome status
+    × HasCause Summary RunFault run_faults.Read run_faults.Write outcome status log
 
 -- the same of a run at this mark
-abbrev pub ConcludesViewPaced : Option ℕ → Telling → List ℕ → ℕ → Written → Type 0
-ConcludesViewPaced mark telling input status w =
+abbrev pub ConcludesViewPaced : Option ℕ → Telling → List ℕ → ℕ → ViewLogState → Written → Type 0
+ConcludesViewPaced mark telling input status log w =
     (outcome : Result Summary PacedFault) × EndsPaced mark telling input outcome w
     × IsPacedStatus outcome status
+    × HasCause Summary PacedFault paced_faults.Read paced_faults.Write outcome status log
 
 -- and of one on a heap that grows to at most so many words
-abbrev pub ConcludesViewGrowing : ℕ → Telling → List ℕ → ℕ → Written → Type 0
-ConcludesViewGrowing at_most telling input status w =
+abbrev pub ConcludesViewGrowing : ℕ → Telling → List ℕ → ℕ → ViewLogState → Written → Type 0
+ConcludesViewGrowing at_most telling input status log w =
     (outcome : Result Summary PacedFault) × EndsGrowing at_most telling input outcome w
     × IsPacedStatus outcome status
+    × HasCause Summary PacedFault paced_faults.Read paced_faults.Write outcome status log
+
+-- the input of a run has a fault: it is too long, no trace, or its sizes make no heap
+abbrev pub HasRunFault : List ℕ → Type 0
+HasRunFault input =
+    (16777216 < length input) ⊎ ((fault : TraceFault) × (trace_of input ≡ Err fault))
+    ⊎ ((script : Script) × IsTrace input script × (fault_of (config_of script.header) ≢ None))
+
+-- a read or a write failed, or none was left, or a flush failed
+abbrev pub HasFailed : ViewLogState → Type 0
+HasFailed log = AreSpent log.reads ⊎ AreSpent log.writes ⊎ (log.flush_failed ≡ true)
 
 -- the report on a history with this verdict
 abbrev pub told_report : Telling → HistoryState → Verdict → List ℕ
@@ -89,11 +87,13 @@ ReportEnds telling input (Err faults.Read) old new = Keeps old new
 ReportEnds telling input (Err faults.OutOfMemory) old new = Keeps old new
 ReportEnds telling input (Err fault) old new = ⊥
 
--- it ended so, and the status is that ending's
-abbrev pub ConcludesReport : Telling → List ℕ → ℕ → Option (List ℕ) → Option (List ℕ) → Type 0
-ConcludesReport telling input status old new =
+-- it ended so, the status is that ending's, and its calls went so that it ended so
+abbrev pub ConcludesReport : Telling → List ℕ → ℕ → ViewLogState → Option (List ℕ)
+    → Option (List ℕ) → Type 0
+ConcludesReport telling input status log old new =
     (outcome : Result Verdict LineFault) × ReportEnds telling input outcome old new
     × IsReplayStatus outcome status
+    × HasCause Verdict LineFault faults.Read faults.Write outcome status log
 
 -- the object of a graph's counts
 abbrev pub json_counts : GraphState → List ℕ
@@ -105,21 +105,29 @@ told_counts Answers = counts_line
 told_counts Echo = counts_line
 told_counts Json = json_counts
 
+-- writing them ended so, and its calls went so that it ended so
+abbrev pub ConcludesCounts : Telling → List ℕ → ℕ → ViewLogState → Option (List ℕ)
+    → Option (List ℕ) → Type 0
+ConcludesCounts telling input status log old new =
+    (outcome : Result (Unit {0}) LineFault) × DumpEnds (told_counts telling) input outcome old new
+    × IsCountStatus outcome status
+    × HasCause (Unit {0}) LineFault faults.Read faults.Write outcome status log
+
 -- nothing was written but to the first writer
 abbrev pub KeepsOthers : Written → Type 0
 KeepsOthers w = Keeps w.history_old w.history_new × Keeps w.cycles_old w.cycles_new
 
--- What a subcommand that is viewed does with this input ended with this status, and with these bytes
--- written. What has no views does what it does without.
-abbrev pub ConcludesViewed : Telling → Subcommand → List ℕ → ℕ → Written → Type 0
-ConcludesViewed telling Run input status w = ConcludesView telling input status w
-ConcludesViewed telling (RunPaced mark) input status w =
-    ConcludesViewPaced mark telling input status w
-ConcludesViewed telling (RunGrowing at_most) input status w =
-    ConcludesViewGrowing at_most telling input status w
-ConcludesViewed telling Replay input status w =
-    ConcludesReport telling input status w.old w.new × KeepsOthers w
-ConcludesViewed telling Dump input status w =
-    ConcludesDump (told_counts telling) input status w.old w.new × KeepsOthers w
-ConcludesViewed telling subcommand input status w =
+-- What a subcommand that is viewed does with this input ended with this status, with these bytes
+-- written, and its calls went so that it ended so. What has no views does what it does without.
+abbrev pub ConcludesViewed : Telling → Subcommand → List ℕ → ℕ → ViewLogState → Written → Type 0
+ConcludesViewed telling Run input status log w = ConcludesView telling input status log w
+ConcludesViewed telling (RunPaced mark) input status log w =
+    ConcludesViewPaced mark telling input status log w
+ConcludesViewed telling (RunGrowing at_most) input status log w =
+    ConcludesViewGrowing at_most telling input status log w
+ConcludesViewed telling Replay input status log w =
+    ConcludesReport telling input status log w.old w.new × KeepsOthers w
+ConcludesViewed telling Dump input status log w =
+    ConcludesCounts telling input status log w.old w.new × KeepsOthers w
+ConcludesViewed telling subcommand input status log w =
     Concludes subcommand input status w.old w.new × KeepsOthers w

@@ -40,7 +40,8 @@ ghost use Rattle.rh_cli.specs.Paced.{paced_status};
 ghost use Rattle.rh_cli.specs.Replay.{IsJudged};
 ghost use Rattle.rh_text.specs.RawLine.{lines_of};
 ghost use Rattle.rh_shell.specs.Session.{IsSession};
-ghost use Rattle.rh_cli.specs.Views.{told_counts, told_report, ConcludesViewed};
+ghost use Rattle.rh_cli.specs.ViewLog.{ViewLogState};
+ghost use Rattle.rh_cli.specs.Views.{told_counts, told_report, ConcludesViewed, HasFailed, HasRunFault};
 ghost use Rattle.rh_viewed_trace.specs.declared.telling.Telling.{Telling as TellingOf};
 ghost use Rattle.rh_viewed_trace.specs.Cycles.{cycles_text};
 ghost use Rattle.rh_viewed_trace.specs.Run.{run_cycles, run_history, view_of_run, IsRun as IsViewedRun, Written};
@@ -239,37 +240,47 @@ pub fn status_4_says_a_wrong_history()
 /// 4 of a check says that the history is wrong, and that the whole report is written.
 pub fn what_is_viewed_ends_with_the_same_statuses()
     ensures late { (telling : TellingOf) (subcommand : SubcommandOf) (input : List ℕ)
-        (status : ℕ) (w : Written) → ConcludesViewed telling subcommand input status w
+        (status : ℕ) (log : ViewLogState) (w : Written)
+        → ConcludesViewed telling subcommand input status log w
         → IsLateStatus status }
-    ensures run { (telling : TellingOf) (input : List ℕ) (w : Written)
-        → ConcludesViewed telling SubcommandOf.Run input 0 w
+    ensures run { (telling : TellingOf) (input : List ℕ) (log : ViewLogState) (w : Written)
+        → ConcludesViewed telling SubcommandOf.Run input 0 log w
         → (script : Script) × IsViewedRun input script
         × Appends w.old w.new (view_of_run telling script)
         × Appends w.history_old w.history_new (spelling (run_history script))
         × Appends w.cycles_old w.cycles_new (cycles_text (run_cycles script)) }
-    ensures paced { (mark : Option ℕ) (telling : TellingOf) (input : List ℕ) (w : Written)
-        → ConcludesViewed telling (SubcommandOf.RunPaced mark) input 0 w
+    ensures paced { (mark : Option ℕ) (telling : TellingOf) (input : List ℕ)
+        (log : ViewLogState) (w : Written)
+        → ConcludesViewed telling (SubcommandOf.RunPaced mark) input 0 log w
         → (script : Script) × (pace : PaceOf) × IsRun mark input script pace
         × IsTold telling script (paced_answered script pace) (sum_of script pace)
         (paced_cycles script pace) w }
-    ensures growing { (at_most : ℕ) (telling : TellingOf) (input : List ℕ) (w : Written)
-        → ConcludesViewed telling (SubcommandOf.RunGrowing at_most) input 0 w
+    ensures growing { (at_most : ℕ) (telling : TellingOf) (input : List ℕ)
+        (log : ViewLogState) (w : Written)
+        → ConcludesViewed telling (SubcommandOf.RunGrowing at_most) input 0 log w
         → (script : Script) × (given : ℕ → Bool) × IsGrowingRun at_most input script
         × IsTold telling script (growing_answered script at_most given)
         (growing_sum_of script at_most given) (growing_cycles script at_most given) w }
-    ensures replay { (telling : TellingOf) (input : List ℕ) (w : Written)
-        → ConcludesViewed telling SubcommandOf.Replay input 0 w
+    ensures replay { (telling : TellingOf) (input : List ℕ) (log : ViewLogState) (w : Written)
+        → ConcludesViewed telling SubcommandOf.Replay input 0 log w
         → (h : HistoryState) × (count : ℕ) × IsJudged input h (VerdictOf.Legal count)
         × Appends w.old w.new (told_report telling h (VerdictOf.Legal count)) }
-    ensures wrong { (telling : TellingOf) (input : List ℕ) (w : Written)
-        → ConcludesViewed telling SubcommandOf.Replay input 4 w
+    ensures wrong { (telling : TellingOf) (input : List ℕ) (log : ViewLogState) (w : Written)
+        → ConcludesViewed telling SubcommandOf.Replay input 4 log w
         → (h : HistoryState) × (at : ℕ) × (expected : Result Reply Refusal)
         × IsJudged input h (VerdictOf.Wrong at expected)
         × Appends w.old w.new (told_report telling h (VerdictOf.Wrong at expected)) }
-    ensures dump { (telling : TellingOf) (input : List ℕ) (w : Written)
-        → ConcludesViewed telling SubcommandOf.Dump input 0 w
+    ensures dump { (telling : TellingOf) (input : List ℕ) (log : ViewLogState) (w : Written)
+        → ConcludesViewed telling SubcommandOf.Dump input 0 log w
         → (g : GraphState) × (graph_of_text input ≡ Ok g)
         × Appends w.old w.new (told_counts telling g) }
+{}
+
+/// A viewed run ends with 1 only where its input has a fault, or a read, a write or a flush failed.
+pub fn a_viewed_run_that_ends_with_1_has_its_cause()
+    ensures { (telling : TellingOf) (input : List ℕ) (log : ViewLogState) (w : Written)
+        → ConcludesViewed telling SubcommandOf.Run input 1 log w
+        → HasRunFault input ⊎ HasFailed log }
 {}
 
 /// Command lines, and what they ask: a subcommand and its file, where `-` is a file's name too. A

@@ -27,6 +27,7 @@ mod reporting;
 mod running;
 mod sharing;
 mod version;
+mod view_log;
 mod viewed_driving;
 mod viewing;
 
@@ -41,4 +42,5 @@ pub use lisp::drive_lisp;
 pub use program::{Terminals, play};
 pub use rh_lisp_run::{HeapWords, Limits};
 pub use rh_viewed_trace::Telling;
-pub use viewed_driving::drive_viewed;
+pub use view_log::ViewLog;
+pub use viewed_driving::{drive_viewed, drive_viewed_logged};

@@ -1,6 +1,7 @@
 //! Where the texts of a request go: standard output, a file, or nowhere.
 
-ghost use Rattle.std.specs.Prelude.{◌≡◌, IfErr};
+ghost use Rattle.std.specs.Prelude.{◌≡◌, option_map, IfOk, IfErr};
+ghost use Rattle.rh_cli.specs.Outputs.{GoesTo};
 
 use crate::arguments::is_output;
 use crate::ask::Views;
@@ -18,7 +19,8 @@ pub(crate) type Output<'a, R> = Either<Printer<'a, R>, Either<<R as Files>::File
 fn output_of<'a, R>(rt: &'a R, given: Option<&str>) -> Result<Output<'a, R>, LineFault>
 where
     R: Files + Print,
-    ensures { IfErr result (λ fault. fault ≡ LineFault.Write) }
+    ensures goes { IfOk result (λ output. GoesTo (option_map (λ t. t.now) given.entry) output) }
+    ensures write { IfErr result (λ fault. fault ≡ LineFault.Write) }
 {
     let Some(name) = given else {
         return Ok(Right(Right(io::sink())));
@@ -44,14 +46,19 @@ where
     output_of(rt, Some("-"))
 }
 
-/// Where the texts of views go: the answers, the history and the cycles.
+/// Where the texts of views go: the answers, the history and the cycles. That a file has the name
+/// that is given for it no clause says.
 pub(crate) fn outputs_of<'a, R>(
     rt: &'a R,
     views: &Views<'_>,
 ) -> Result<(Output<'a, R>, Output<'a, R>, Output<'a, R>), LineFault>
 where
     R: Files + Print,
-    ensures { IfErr result (λ fault. fault ≡ LineFault.Write) }
+    ensures history { IfOk result (λ outputs.
+        GoesTo (option_map (λ t. t.now) views.now.history) outputs.1) }
+    ensures cycles { IfOk result (λ outputs.
+        GoesTo (option_map (λ t. t.now) views.now.cycles) outputs.2) }
+    ensures write { IfErr result (λ fault. fault ≡ LineFault.Write) }
 {
     let answers = answers_output(rt, views)?;
     let history = output_of(rt, views.history)?;

@@ -1,17 +1,18 @@
 //! Reports on histories and counts of dumps that are told in other ways.
 
-ghost use Rattle.std.specs.Prelude.{◌≡◌, ◌≤◌, List, ℕ, Ok, length, IfOk, IfSome, IfErr};
+ghost use Rattle.std.specs.Prelude.{◌≡◌, ◌≤◌, List, ℕ, Ok, false, length, IfOk, IfSome, IfErr, IsErrOf};
 ghost use Rattle.std.specs.Io.KnownBytes.{Consumes};
+ghost use Rattle.rh_text.specs.IoLog.{AreSpent, CountsDown};
 ghost use Rattle.rh_dump.specs.texts.Reading.{graph_of_text};
-ghost use Rattle.rh_cli.specs.Count.{ConcludesDump};
 ghost use Rattle.rh_cli.specs.Fault.{status_after, IsUsualFault};
-ghost use Rattle.rh_cli.specs.Views.{told_counts, told_report, ConcludesReport, ReportEnds};
+ghost use Rattle.rh_cli.specs.Views.{told_counts, told_report, ConcludesCounts, ConcludesReport, ReportEnds};
 
 use crate::counting::{conclude as conclude_count, put_counts};
 use crate::ending::Ending;
 use crate::fault::LineFault;
 use crate::replaying::conclude;
-use rh_dump::{DumpReadError, Graph, read_dump};
+use crate::view_log::ViewLog;
+use rh_dump::{DumpReadError, Graph, read_dump_logged};
 use rh_layout::OutOfMemory;
 use rh_layout::limits::MAX_INPUT_BYTES;
 use rh_replay::{History, HistoryError, Verdict, check, read_history, report};
@@ -25,19 +26,23 @@ use std::io::{Read, Write};
 pub(crate) fn view_report<A: Allocator + Copy, R: Read, O: Write>(
     alloc: A,
     reader: &mut R,
+    log: &mut ViewLog,
     telling: Telling,
     out: &mut O,
 ) -> Result<Ending, LineFault>
+    requires no_read_failed { log.old.reads.failed ≡ false }
+    requires no_write_failed { log.old.writes.failed ≡ false }
     ensures told { IfSome (R.remaining reader.old) (λ input. ConcludesReport telling input
-        (status_after result) (O.contents out.old) (O.contents out.new)) }
+        (status_after result) log.new (O.contents out.old) (O.contents out.new)) }
     ensures read { (input : List ℕ)
         × Consumes (R.remaining reader.old) (R.remaining reader.new) input
-        × ConcludesReport telling input (status_after result) (O.contents out.old)
+        × ConcludesReport telling input (status_after result) log.new (O.contents out.old)
         (O.contents out.new) }
     ensures late { IfErr result (λ fault. IsUsualFault fault) }
+    ensures reads_counted { CountsDown log.old.reads.left log.old.reads log.new.reads }
 {
-    match read_all(alloc, reader, &mut IoLog::new()) {
-        Ok(input) => view_report_of(alloc, &input, telling, out),
+    match read_all(alloc, reader, &mut log.reads) {
+        Ok(input) => view_report_of(alloc, &input, telling, out, log),
         Err(InputFault::Read) => Err(LineFault::Read),
         Err(InputFault::Long) => Err(LineFault::TooLong),
         Err(InputFault::OutOfMemory) => Err(LineFault::OutOfMemory),
@@ -50,15 +55,19 @@ fn view_report_of<A: Allocator + Copy, O: Write>(
     input: &[u8],
     telling: Telling,
     out: &mut O,
+    log: &mut ViewLog,
 ) -> Result<Ending, LineFault>
-    requires { length input.now ≤ MAX_INPUT_BYTES }
-    ensures concluded { ConcludesReport telling input.now (status_after result)
+    requires few { length input.now ≤ MAX_INPUT_BYTES }
+    requires no_read_failed { log.old.reads.failed ≡ false }
+    requires no_write_failed { log.old.writes.failed ≡ false }
+    ensures concluded { ConcludesReport telling input.now (status_after result) log.new
         (O.contents out.old) (O.contents out.new) }
     ensures late { IfErr result (λ fault. IsUsualFault fault) }
+    ensures reads { log.new.reads ≡ log.old.reads }
 {
-    let reported = report_on(alloc, input, telling, out);
-    let flushed = out.flush();
-    conclude(reported, flushed.is_ok())
+    let reported = report_on(alloc, input, telling, out, &mut log.writes);
+    let _ = log.flush(out);
+    conclude(reported, !log.has_flush_failed())
 }
 
 /// The report on a history that has this verdict.
@@ -92,11 +101,16 @@ fn report_on<A: Allocator + Copy, O: Write>(
     input: &[u8],
     telling: Telling,
     out: &mut O,
+    writes: &mut IoLog,
 ) -> Result<Verdict, LineFault>
-    requires { length input.now ≤ MAX_INPUT_BYTES }
+    requires few { length input.now ≤ MAX_INPUT_BYTES }
+    requires none_failed { writes.old.failed ≡ false }
     ensures ends { ReportEnds telling input.now result (O.contents out.old)
         (O.contents out.new) }
     ensures late { IfErr result (λ fault. IsUsualFault fault) }
+    ensures never_read { ¬ IsErrOf result LineFault.Read }
+    ensures failed { IsErrOf result LineFault.Write → AreSpent writes.new }
+    ensures none_failed { ¬ IsErrOf result LineFault.Write → writes.new.failed ≡ false }
 {
     let history = match read_history(alloc, input) {
         Ok(history) => history,
@@ -109,7 +123,7 @@ fn report_on<A: Allocator + Copy, O: Write>(
     let Ok(text) = report_text(alloc, telling, &history, &verdict) else {
         return Err(LineFault::OutOfMemory);
     };
-    match send(out, &mut IoLog::new(), text.as_slice()) {
+    match send(out, writes, text.as_slice()) {
         Ok(()) => Ok(verdict),
         Err(_) => Err(LineFault::Write),
     }
@@ -120,19 +134,23 @@ fn report_on<A: Allocator + Copy, O: Write>(
 pub(crate) fn view_count<A: Allocator + Copy, R: Read, O: Write>(
     alloc: A,
     reader: &mut R,
+    log: &mut ViewLog,
     telling: Telling,
     out: &mut O,
 ) -> Result<Ending, LineFault>
-    ensures told { IfSome (R.remaining reader.old) (λ input. ConcludesDump (told_counts telling)
-        input (status_after result) (O.contents out.old) (O.contents out.new)) }
+    requires no_read_failed { log.old.reads.failed ≡ false }
+    requires no_write_failed { log.old.writes.failed ≡ false }
+    ensures told { IfSome (R.remaining reader.old) (λ input. ConcludesCounts telling input
+        (status_after result) log.new (O.contents out.old) (O.contents out.new)) }
     ensures read { (input : List ℕ)
         × Consumes (R.remaining reader.old) (R.remaining reader.new) input
-        × ConcludesDump (told_counts telling) input (status_after result) (O.contents out.old)
+        × ConcludesCounts telling input (status_after result) log.new (O.contents out.old)
         (O.contents out.new) }
     ensures late { IfErr result (λ fault. IsUsualFault fault) }
+    ensures reads_counted { CountsDown log.old.reads.left log.old.reads log.new.reads }
 {
-    match read_dump(alloc, reader) {
-        Ok(graph) => write_count(&graph, telling, out),
+    match read_dump_logged(alloc, reader, &mut log.reads) {
+        Ok(graph) => write_count(&graph, telling, out, log),
         Err(DumpReadError::Fault(fault)) => Err(LineFault::Dump(fault)),
         Err(DumpReadError::Read) => Err(LineFault::Read),
         Err(DumpReadError::OutOfMemory) => Err(LineFault::OutOfMemory),
@@ -157,15 +175,19 @@ fn write_count<A: Allocator, O: Write>(
     graph: &Graph<A>,
     telling: Telling,
     out: &mut O,
+    log: &mut ViewLog,
 ) -> Result<Ending, LineFault>
+    requires no_read_failed { log.old.reads.failed ≡ false }
+    requires no_write_failed { log.old.writes.failed ≡ false }
     ensures concluded { (input : List ℕ) → graph_of_text input ≡ Ok graph.now
-        → ConcludesDump (told_counts telling) input (status_after result) (O.contents out.old)
+        → ConcludesCounts telling input (status_after result) log.new (O.contents out.old)
         (O.contents out.new) }
     ensures late { IfErr result (λ fault. IsUsualFault fault) }
+    ensures reads { log.new.reads ≡ log.old.reads }
 {
     let mut text = LineText::new();
     put_told_counts(&mut text, graph, telling);
-    let sent = send(out, &mut IoLog::new(), text.as_bytes());
-    let flushed = out.flush();
-    conclude_count(sent, flushed.is_ok())
+    let sent = send(out, &mut log.writes, text.as_bytes());
+    let _ = log.flush(out);
+    conclude_count(sent, !log.has_flush_failed())
 }

@@ -32,7 +32,7 @@ pub fn run<A: Allocator + Copy, R: Read, O: Write>(
 }
 
 /// What a run and the flush after it come to.
-fn conclude(ran: Result<Summary, RunFault>, flushed: bool) -> Result<Ending, LineFault>
+pub(crate) fn conclude(ran: Result<Summary, RunFault>, flushed: bool) -> Result<Ending, LineFault>
     ensures status { IsRunStatus ran (status_after result) }
     // The status is 0 exactly where the run succeeded and the flush did.
     ensures done { (status_after result ≡ 0) ↔ (IsOk ran × IsTrue flushed) }

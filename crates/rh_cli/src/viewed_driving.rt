@@ -1,8 +1,10 @@
 //! Doing what was asked, seen in other ways.
 
-ghost use Rattle.std.specs.Prelude.{◌≡◌, ◌≢◌, ◌⊎◌, List, ℕ, IfSome, IfErr};
+ghost use Rattle.std.specs.Prelude.{◌≡◌, ◌≢◌, ◌⊎◌, List, ℕ, false, IfSome, IfErr};
 ghost use Rattle.std.specs.Io.KnownBytes.{Consumes, Keeps};
 ghost use Rattle.rh_cli.specs.Fault.{status_of, status_after, IsLateFault, IsLateStatus};
+ghost use Rattle.rh_text.specs.IoLog.{CountsDown};
+ghost use Rattle.rh_cli.specs.ViewLog.{ViewLogState};
 ghost use Rattle.rh_cli.specs.Views.{ConcludesViewed};
 ghost use Rattle.rh_cli.specs.declared.ask.Subcommand.TheVariants.{Replay};
 
@@ -14,12 +16,25 @@ use crate::fault::LineFault;
 use crate::fault_object::tell_object;
 use crate::keeping::KeptReader;
 use crate::reporting::{view_count, view_report};
+use crate::view_log::ViewLog;
 use crate::viewing::{view_run, view_run_by_growth, view_run_by_mark};
+use rh_dump::limits::MAX_DUMP_READS;
+use rh_text::IoLog;
 use rh_viewed_trace::Telling;
 use std::alloc::Allocator;
 use std::io::{Read, Write};
 use std::sync::Wait;
 use std::thread::Threads;
+
+/// How many reads may take what is asked: a dump may be longer than a trace or a history.
+fn reads_for(subcommand: Subcommand) -> IoLog
+    ensures { result.failed ≡ false }
+{
+    match subcommand {
+        Subcommand::Dump => IoLog::limited(MAX_DUMP_READS),
+        _ => IoLog::new(),
+    }
+}
 
 /// Does what is asked as `drive` does, and views it: what is told goes to `out`. Of a run the
 /// history of its commands goes to `history`, and a line for each cycle to `cycles`; all three are
@@ -44,9 +59,10 @@ where
     H: Write,
     C: Write,
     E: Write,
-    // For a reader that tells its bytes: by what is due for the bytes that it had.
-    ensures told { IfSome (R.remaining reader.old.reader) (λ input.
-        ConcludesViewed ask.now.views.telling ask.now.subcommand input result (record {
+    // For a reader that tells its bytes: by what is due for the bytes that it had, and by some
+    // calls. `drive_viewed_logged` says which.
+    ensures told { IfSome (R.remaining reader.old.reader) (λ input. (log : ViewLogState)
+        × ConcludesViewed ask.now.views.telling ask.now.subcommand input result log (record {
           old = O.contents out.old;
           new = O.contents out.new;
           history_old = H.contents history.old;
@@ -55,9 +71,9 @@ where
           cycles_new = C.contents cycles.new;
         })) }
     // Of the bytes that were taken.
-    ensures read { (input : List ℕ)
+    ensures read { (input : List ℕ) × (log : ViewLogState)
         × Consumes (R.remaining reader.old.reader) (R.remaining reader.new.reader) input
-        × ConcludesViewed ask.now.views.telling ask.now.subcommand input result (record {
+        × ConcludesViewed ask.now.views.telling ask.now.subcommand input result log (record {
           old = O.contents out.old;
           new = O.contents out.new;
           history_old = H.contents history.old;
@@ -70,6 +86,66 @@ where
         → Keeps (E.contents err.old) (E.contents err.new) }
     ensures late { IsLateStatus result }
 {
+    let mut log = ViewLog::new(reads_for(ask.subcommand));
+    drive_viewed_logged(
+        rt, alloc, ask, reader, &mut log, out, history, cycles, err, explains,
+    )
+}
+
+/// Does what is asked as `drive_viewed` does, and tells in `log` whether a read, a write or a flush
+/// failed. As many reads are made at most as `log` has left. What has no views leaves the log as it
+/// was.
+pub fn drive_viewed_logged<T, A, R, O, H, C, E>(
+    rt: &T,
+    alloc: A,
+    ask: &Ask<'_>,
+    reader: &mut KeptReader<R, A>,
+    log: &mut ViewLog,
+    out: &mut O,
+    history: &mut H,
+    cycles: &mut C,
+    err: &mut E,
+    explains: bool,
+) -> u8
+where
+    T: Threads + Wait + Sync,
+    A: Allocator + Copy + Send,
+    R: Read,
+    O: Write,
+    H: Write,
+    C: Write,
+    E: Write,
+    requires no_read_failed { log.old.reads.failed ≡ false }
+    requires no_write_failed { log.old.writes.failed ≡ false }
+    // For a reader that tells its bytes: by what is due for the bytes that it had, and by the calls
+    // of the log.
+    ensures told { IfSome (R.remaining reader.old.reader) (λ input.
+        ConcludesViewed ask.now.views.telling ask.now.subcommand input result log.new (record {
+          old = O.contents out.old;
+          new = O.contents out.new;
+          history_old = H.contents history.old;
+          history_new = H.contents history.new;
+          cycles_old = C.contents cycles.old;
+          cycles_new = C.contents cycles.new;
+        })) }
+    // Of the bytes that were taken.
+    ensures read { (input : List ℕ)
+        × Consumes (R.remaining reader.old.reader) (R.remaining reader.new.reader) input
+        × ConcludesViewed ask.now.views.telling ask.now.subcommand input result log.new (record {
+          old = O.contents out.old;
+          new = O.contents out.new;
+          history_old = H.contents history.old;
+          history_new = H.contents history.new;
+          cycles_old = C.contents cycles.old;
+          cycles_new = C.contents cycles.new;
+        }) }
+    // As of `drive_viewed`.
+    ensures quiet { (result ≡ 0) ⊎ ((result ≡ 4) × (ask.now.subcommand ≡ Replay))
+        → Keeps (E.contents err.old) (E.contents err.new) }
+    ensures late { IsLateStatus result }
+    // Each read that was made took one of those that were left.
+    ensures reads_counted { CountsDown log.old.reads.left log.old.reads log.new.reads }
+{
     let telling = ask.views.telling;
     match act_viewed(
         rt,
@@ -77,6 +153,7 @@ where
         ask.subcommand,
         telling,
         reader,
+        log,
         out,
         history,
         cycles,
@@ -116,6 +193,7 @@ fn act_viewed<T, A, R, O, H, C>(
     subcommand: Subcommand,
     telling: Telling,
     reader: &mut R,
+    log: &mut ViewLog,
     out: &mut O,
     history: &mut H,
     cycles: &mut C,
@@ -127,8 +205,10 @@ where
     O: Write,
     H: Write,
     C: Write,
+    requires no_read_failed { log.old.reads.failed ≡ false }
+    requires no_write_failed { log.old.writes.failed ≡ false }
     ensures told { IfSome (R.remaining reader.old) (λ input.
-        ConcludesViewed telling subcommand input (status_after result) (record {
+        ConcludesViewed telling subcommand input (status_after result) log.new (record {
           old = O.contents out.old;
           new = O.contents out.new;
           history_old = H.contents history.old;
@@ -138,7 +218,7 @@ where
         })) }
     ensures read { (input : List ℕ)
         × Consumes (R.remaining reader.old) (R.remaining reader.new) input
-        × ConcludesViewed telling subcommand input (status_after result) (record {
+        × ConcludesViewed telling subcommand input (status_after result) log.new (record {
           old = O.contents out.old;
           new = O.contents out.new;
           history_old = H.contents history.old;
@@ -147,18 +227,19 @@ where
           cycles_new = C.contents cycles.new;
         }) }
     ensures late { IfErr result (λ fault. IsLateFault fault) }
+    ensures reads_counted { CountsDown log.old.reads.left log.old.reads log.new.reads }
     ensures check { subcommand ≡ Replay → IfErr result (λ fault. status_of fault ≢ 4) }
 {
     match subcommand {
-        Subcommand::Run => view_run(alloc, reader, telling, out, history, cycles),
+        Subcommand::Run => view_run(alloc, reader, log, telling, out, history, cycles),
         Subcommand::RunPaced { mark } => {
-            view_run_by_mark(alloc, reader, mark, telling, out, history, cycles)
+            view_run_by_mark(alloc, reader, log, mark, telling, out, history, cycles)
         }
         Subcommand::RunGrowing { at_most } => {
-            view_run_by_growth(alloc, reader, at_most, telling, out, history, cycles)
+            view_run_by_growth(alloc, reader, log, at_most, telling, out, history, cycles)
         }
-        Subcommand::Replay => view_report(alloc, reader, telling, out),
-        Subcommand::Dump => view_count(alloc, reader, telling, out),
+        Subcommand::Replay => view_report(alloc, reader, log, telling, out),
+        Subcommand::Dump => view_count(alloc, reader, log, telling, out),
         _ => act(rt, alloc, subcommand, reader, out),
     }
 }

@@ -7,7 +7,10 @@ use crate::texts::{
     WHOLE_CYCLE_ANSWERS, WITHOUT_FIELDS, WRONG, WRONG_REPORT,
 };
 use refusing::refused_in_turn;
-use rh_cli::{Ask, KeptReader, Subcommand, Telling, Views, drive_viewed};
+use rh_cli::{
+    Ask, KeptReader, Subcommand, Telling, ViewLog, Views, drive_viewed, drive_viewed_logged,
+};
+use rh_text::IoLog;
 use std::alloc::Allocator;
 use std::io::{self, Write};
 use std::process::Abort;
@@ -331,7 +334,8 @@ fn each_cycle_has_its_line(rt: HostRuntime) {
     }
 }
 
-/// Runs a trace on these writers, of which a flush fails: that is a failed write.
+/// Runs a trace on these writers, of which a flush fails: that is a failed write, and the log says
+/// what failed.
 fn expect_write_fault<R, O, H, C>(rt: &R, out: &mut O, history: &mut H, cycles: &mut C)
 where
     R: AllocGlobal + Abort + Threads + Wait + Sync,
@@ -342,11 +346,13 @@ where
     let mut reader = KeptReader::passing(rt.alloc(), STORED);
     let mut err = Vec::new(rt.alloc());
     let ask = told(Subcommand::Run, Telling::Json);
-    let status = drive_viewed(
+    let mut log = ViewLog::new(IoLog::new());
+    let status = drive_viewed_logged(
         rt,
         rt.alloc(),
         &ask,
         &mut reader,
+        &mut log,
         out,
         history,
         cycles,
@@ -354,6 +360,7 @@ where
         false,
     );
     expect_equal(rt, status, 1);
+    expect_equal(rt, log.has_flush_failed(), true);
     expect_bytes(rt, &err, b"{\"fault\":\"write failed\"}\n");
 }
 

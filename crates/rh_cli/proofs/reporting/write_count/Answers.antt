@@ -1,11 +1,19 @@
-use Rattle.std.proofs.Common.{◌∙◌}
-use Rattle.rh_cli.specs.Views.{told_counts}
+use Rattle.std.proofs.Common.{◌≡◌, ◌↔◌, Bool, OnErr, OnOk, false, sym, ap, subst, ◌∙◌}
+use Rattle.std.specs.Prelude.{IsOk, IsTrue, not}
+use Rattle.rh_text.specs.IoLog.{IoLogState, AreSpent}
 use Rattle.rh_cli.specs.Fault.{status_after}
-use Rattle.rh_cli.proofs.Counted.{counted}
+use Rattle.rh_cli.specs.ViewLog.{ViewLogState}
+use Rattle.rh_cli.proofs.Causes.{counts_concluded, sent_flushed}
 use Rattle.rh_cli.proofs.reporting.write_count.Goals as goal
 
 pub returns-clause-concluded : goal.returns-clause-concluded
 returns-clause-concluded g c =
     let contents = g.O.Write.contents in
-    counted (told_counts c.args.telling) c.send-sent.result (status_after c.conclude.result) c.args.graph.now c.as_bytes.result.now (contents c.args.out.now) (contents c.send-sent.new.writer) (contents c.flush-flushed.new.self)
-    (c.as_bytes.ensures ∙ c.put_told_counts.ensures) c.send-sent.ensures.ok c.send-sent.ensures.err c.flush-flushed.ensures.bytes c.conclude.ensures.status
+    let sent = c.send-sent.result in
+    let status = status_after c.conclude.result in
+    let log = c.flush.new.self in
+    let done = subst (λ (b : Bool). (status ≡ 0) ↔ (IsOk sent × IsTrue (not b))) c.has_flush_failed.ensures c.conclude.ensures.done in
+    counts_concluded c.args.telling sent status log c.args.graph.now c.as_bytes.result.now (contents c.args.out.now) (contents c.send-sent.new.writer) (contents c.flush.new.writer)
+    (c.as_bytes.ensures ∙ c.put_told_counts.ensures) c.send-sent.ensures.ok c.send-sent.ensures.err c.flush.ensures.kept c.conclude.ensures.status
+    (ap (λ (l : IoLogState). l.failed) c.flush.ensures.reads ∙ ap (λ (x : ViewLogState). x.reads.failed) c.log.view_is ∙ c.requires.no_read_failed) (subst (λ (l : IoLogState). OnErr sent (AreSpent l)) (sym c.flush.ensures.writes) c.send-sent.ensures.failed)
+    (subst (λ (l : IoLogState). OnOk sent (l.failed ≡ false)) (sym c.flush.ensures.writes) c.send-sent.ensures.none_failed) (sent_flushed sent status log.flush_failed c.conclude.ensures.status done)

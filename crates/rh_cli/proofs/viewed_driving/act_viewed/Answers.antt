@@ -1,4 +1,5 @@
 use Rattle.rh_cli.specs.Fault.{status_after}
+use Rattle.rh_cli.proofs.Causes.{none_counted}
 use Rattle.rh_cli.proofs.Counted.{known_so}
 use Rattle.rh_cli.proofs.Viewed.{unviewed, viewed_check, viewed_count}
 use Rattle.rh_cli.proofs.viewed_driving.act_viewed.Goals as goal
@@ -6,27 +7,27 @@ use Rattle.rh_cli.proofs.viewed_driving.act_viewed.Goals as goal
 pub returns-in-Replay-clause-told : goal.returns-in-Replay-clause-told
 returns-in-Replay-clause-told g c =
     known_so _ _ (g.R.Read.remaining c.args.reader.now)
-    (viewed_check c.args.telling c.args.subcommand (status_after c.view_report.result) (g.O.Write.contents c.args.out.now) (g.O.Write.contents c.view_report.new.out) (g.H.Write.contents c.args.history.now) (g.C.Write.contents c.args.cycles.now) c.in-Replay.is) c.view_report.ensures.told
+    (viewed_check c.args.telling c.args.subcommand (status_after c.view_report.result) c.view_report.new.log (g.O.Write.contents c.args.out.now) (g.O.Write.contents c.view_report.new.out) (g.H.Write.contents c.args.history.now) (g.C.Write.contents c.args.cycles.now) c.in-Replay.is) c.view_report.ensures.told
 
 pub returns-in-Replay-clause-read : goal.returns-in-Replay-clause-read
 returns-in-Replay-clause-read g c =
     let given = c.view_report.ensures.read in
-    (given.0, given.1, viewed_check c.args.telling c.args.subcommand (status_after c.view_report.result) (g.O.Write.contents c.args.out.now) (g.O.Write.contents c.view_report.new.out) (g.H.Write.contents c.args.history.now) (g.C.Write.contents c.args.cycles.now) c.in-Replay.is given.0 given.2)
+    (given.0, given.1, viewed_check c.args.telling c.args.subcommand (status_after c.view_report.result) c.view_report.new.log (g.O.Write.contents c.args.out.now) (g.O.Write.contents c.view_report.new.out) (g.H.Write.contents c.args.history.now) (g.C.Write.contents c.args.cycles.now) c.in-Replay.is given.0 given.2)
 
 pub returns-in-Dump-clause-told : goal.returns-in-Dump-clause-told
 returns-in-Dump-clause-told g c =
     known_so _ _ (g.R.Read.remaining c.args.reader.now)
-    (viewed_count c.args.telling c.args.subcommand (status_after c.view_count.result) (g.O.Write.contents c.args.out.now) (g.O.Write.contents c.view_count.new.out) (g.H.Write.contents c.args.history.now) (g.C.Write.contents c.args.cycles.now) c.in-Dump.is) c.view_count.ensures.told
+    (viewed_count c.args.telling c.args.subcommand (status_after c.view_count.result) c.view_count.new.log (g.O.Write.contents c.args.out.now) (g.O.Write.contents c.view_count.new.out) (g.H.Write.contents c.args.history.now) (g.C.Write.contents c.args.cycles.now) c.in-Dump.is) c.view_count.ensures.told
 
 pub returns-in-Dump-clause-read : goal.returns-in-Dump-clause-read
 returns-in-Dump-clause-read g c =
     let given = c.view_count.ensures.read in
-    (given.0, given.1, viewed_count c.args.telling c.args.subcommand (status_after c.view_count.result) (g.O.Write.contents c.args.out.now) (g.O.Write.contents c.view_count.new.out) (g.H.Write.contents c.args.history.now) (g.C.Write.contents c.args.cycles.now) c.in-Dump.is given.0 given.2)
+    (given.0, given.1, viewed_count c.args.telling c.args.subcommand (status_after c.view_count.result) c.view_count.new.log (g.O.Write.contents c.args.out.now) (g.O.Write.contents c.view_count.new.out) (g.H.Write.contents c.args.history.now) (g.C.Write.contents c.args.cycles.now) c.in-Dump.is given.0 given.2)
 
 pub returns-in_default-clause-told : goal.returns-in_default-clause-told
 returns-in_default-clause-told g c =
     known_so _ _ (g.R.Read.remaining c.args.reader.now)
-    (unviewed c.args.telling c.args.subcommand (status_after c.act.result) (g.O.Write.contents c.args.out.now) (g.O.Write.contents c.act.new.out) (g.H.Write.contents c.args.history.now) (g.C.Write.contents c.args.cycles.now)
+    (unviewed c.args.telling c.args.subcommand (status_after c.act.result) c.args.log.now (g.O.Write.contents c.args.out.now) (g.O.Write.contents c.act.new.out) (g.H.Write.contents c.args.history.now) (g.C.Write.contents c.args.cycles.now)
     c.in_default.not-Run c.in_default.not-RunPaced c.in_default.not-RunGrowing c.in_default.not-Replay c.in_default.not-Dump) c.act.ensures.told
 
 pub returns-in_default-clause-read : goal.returns-in_default-clause-read
@@ -34,6 +35,9 @@ returns-in_default-clause-read g c =
     let given = c.act.ensures.read in (
       given.0,
       given.1,
-      unviewed c.args.telling c.args.subcommand (status_after c.act.result) (g.O.Write.contents c.args.out.now) (g.O.Write.contents c.act.new.out) (g.H.Write.contents c.args.history.now) (g.C.Write.contents c.args.cycles.now)
+      unviewed c.args.telling c.args.subcommand (status_after c.act.result) c.args.log.now (g.O.Write.contents c.args.out.now) (g.O.Write.contents c.act.new.out) (g.H.Write.contents c.args.history.now) (g.C.Write.contents c.args.cycles.now)
           c.in_default.not-Run c.in_default.not-RunPaced c.in_default.not-RunGrowing c.in_default.not-Replay c.in_default.not-Dump given.0 given.2,
     )
+
+pub returns-in_default-clause-reads_counted : goal.returns-in_default-clause-reads_counted
+returns-in_default-clause-reads_counted g c = none_counted c.args.log.now.reads

@@ -1,0 +1,13 @@
+-- Where the texts of a request go.
+use Rattle.std.specs.Prelude.{◌≡◌, ◌≢◌, ⊤, ℕ, List, Option, Some, None, codes}
+use Rattle.either.specs.declared.Either.{Either}
+use Rattle.either.specs.declared.Either.TheVariants.{Left, Right}
+
+-- A text for which this file is given goes to standard output, to a file, or nowhere.
+abbrev pub GoesTo : {P F S : Type 0} → Option (List ℕ) → Either P (Either F S) → Type 0
+GoesTo None (Left printer) = ⊥
+GoesTo None (Right (Left file)) = ⊥
+GoesTo None (Right (Right sink)) = ⊤
+GoesTo (Some name) (Left printer) = name ≡ codes "-"
+GoesTo (Some name) (Right (Left file)) = name ≢ codes "-"
+GoesTo (Some name) (Right (Right sink)) = ⊥
