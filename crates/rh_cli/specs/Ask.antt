@@ -107,11 +107,13 @@ heap_rule = record (new_rule (codes "heap")) { long = Some (codes "heap"); value
 abbrev pub steps_rule : Rule
 steps_rule = record (new_rule (codes "steps")) { long = Some (codes "steps"); value_names = 1 }
 
+-- the command `lisp` with its file and the words of a heap that keeps them
+abbrev pub sized_app : App
+sized_app = with_rule (with_rule (new_app (codes "lisp")) file_rule) heap_rule
+
 -- the command `lisp`: a file, and these options
 abbrev pub lisp_app : App
-lisp_app =
-    with_rule (with_rule (with_rule (with_rule (new_app (codes "lisp")) file_rule) heap_rule)
-    grow_rule) steps_rule
+lisp_app = with_rule (with_rule sized_app grow_rule) steps_rule
 
 -- the command `shell`: no file
 abbrev pub shell_app : App

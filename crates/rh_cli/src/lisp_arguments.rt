@@ -3,7 +3,7 @@
 ghost use Rattle.std.specs.Prelude.{◌≡◌, option_map, false, None, IfErr, IfOk, codes};
 ghost use Rattle.clap.specs.declared.builder.command.Command.TheViews.{out-Command as fields_of};
 ghost use Rattle.clap.specs.Words.{app_of};
-ghost use Rattle.rh_cli.specs.Ask.{command_for, heap_words, lisp_app, lisp_asked, steps_given};
+ghost use Rattle.rh_cli.specs.Ask.{command_for, heap_words, lisp_app, lisp_asked, sized_app, steps_given};
 ghost use Rattle.rh_cli.specs.Fault.{IsArgumentsFault};
 
 use crate::arguments::{has_options, named_command};
@@ -26,13 +26,6 @@ pub(crate) fn lisp_command<'a>(alloc: Global, word: &str) -> Result<Command<'a>,
     if !has_options(word, "lisp") {
         return Ok(named_command(alloc, "lisp", about));
     }
-    let file = Arg::new(alloc, "FILE")
-        .required(true)
-        .help("The file to read; - is standard input");
-    let heap = Arg::new(alloc, "heap")
-        .long("heap")
-        .value_name("WORDS")
-        .help("Each of its spaces has so many words, and keeps them");
     let grow = Arg::new(alloc, "grow")
         .long("grow")
         .value_name("WORDS")
@@ -40,13 +33,26 @@ pub(crate) fn lisp_command<'a>(alloc: Global, word: &str) -> Result<Command<'a>,
     let steps = Arg::new(alloc, "steps").long("steps").value_name("N").help(
         "The instructions that the program may do; without it more than any does",
     );
+    sized_command(alloc, about)?.arg(grow)?.arg(steps)
+}
+
+/// The command `lisp` with its file and the words of a heap that keeps them, as clap knows it.
+fn sized_command<'a>(alloc: Global, about: &'a str) -> Result<Command<'a>, AllocError>
+    ensures app { IfOk result (λ command. app_of command ≡ sized_app) }
+    ensures local { IfOk result (λ command. (fields_of command).has_globals ≡ false) }
+{
+    let file = Arg::new(alloc, "FILE")
+        .required(true)
+        .help("The file to read; - is standard input");
+    let heap = Arg::new(alloc, "heap")
+        .long("heap")
+        .value_name("WORDS")
+        .help("Each of its spaces has so many words, and keeps them");
     Command::new(alloc, "lisp")
         .about(about)
         .after_help(help::LISP)
         .arg(file)?
-        .arg(heap)?
-        .arg(grow)?
-        .arg(steps)
+        .arg(heap)
 }
 
 /// The program that is asked for: its heap of one size or its heap that grows, and its steps.
