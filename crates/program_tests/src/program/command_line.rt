@@ -592,6 +592,18 @@ const PROGRAMS: &[(&[&[u8]], u8, &[u8], &[u8])] = &[
         b"rheap: pace: TooSmall need 2669\n",
     ),
     (
+        &[b"rheap", b"lisp", b"-", b"--grow=8617"],
+        1,
+        b"",
+        b"rheap: pace: TooSmall need 8618\n",
+    ),
+    (
+        &[b"rheap", b"lisp", b"-", b"--steps=1"],
+        1,
+        b"",
+        b"-:1:1: steps spent\n",
+    ),
+    (
         &[b"rheap", b"lisp", b"-", b"--heap", b"9000", b"--grow=9000"],
         2,
         b"",
@@ -675,6 +687,22 @@ fn calls_of_the_program(rt: HostRuntime) {
     for (row, call) in CLOSED.iter().enumerate() {
         expect_played(&Row { rt: &rt, row }, &rt, true, call);
     }
+}
+
+/// What a program of the small Scheme prints is on standard output.
+#[test]
+fn a_program_of_the_command_line_prints(rt: HostRuntime) {
+    let mut told = Vec::new(rt.alloc());
+    let terminal = Terminal {
+        rt: &rt,
+        args: &[b"rheap", b"lisp", b"-"],
+        input: b"(display \"a\") (newline)",
+        is_closed: false,
+        printed: RefCell::new(Vec::new(rt.alloc())),
+    };
+    expect_equal(&rt, play(&terminal, &rt, &mut told, NO_TERMINALS), 0);
+    expect_bytes(&rt, &terminal.printed.into_inner(), b"a\n");
+    expect_bytes(&rt, &told, b"");
 }
 
 /// A session whose standard input is a terminal.

@@ -109,6 +109,17 @@ const PROGRAMS: &[(Limits, &[u8], u8, &[u8], &[u8])] = &[
         b"",
         b"rheap: grow: BadLimits\n",
     ),
+    // A fault of the text comes before one of the heap.
+    (
+        Limits {
+            heap: HeapWords::Just(1_000),
+            steps: 1,
+        },
+        b"(display 1) )",
+        1,
+        b"",
+        b"p:1:13: unexpected )\n",
+    ),
 ];
 
 #[test]
