@@ -39,7 +39,7 @@ complete -c rheap -n '__fish_seen_subcommand_from shell' -s h -l help -d 'Print 
 complete -c rheap -n '__fish_seen_subcommand_from shell' -f
 complete -c rheap -n '__fish_seen_subcommand_from lisp' -l heap -x -d 'Each of its spaces has so many words, and keeps them'
 complete -c rheap -n '__fish_seen_subcommand_from lisp' -l grow -x -d 'Each of its spaces grows to at most so many words; 16777216 if it isn\'t said'
-complete -c rheap -n '__fish_seen_subcommand_from lisp' -l steps -x -d 'The instructions that the program may do; without it more than any does'
+complete -c rheap -n '__fish_seen_subcommand_from lisp' -l steps -x -d 'The instructions that may be done, 0 to 4294967295; 2^64 - 1 without it'
 complete -c rheap -n '__fish_seen_subcommand_from lisp' -s h -l help -d 'Print help'
 complete -c rheap -n '__fish_seen_subcommand_from completions' -s h -l help -d 'Print help'
 complete -c rheap -n '__fish_seen_subcommand_from completions' -f -a 'bash zsh fish'

@@ -19,7 +19,7 @@ lisp_status (lisp_faults.Heap fault) = 1
 lisp_status lisp_faults.Write = 1
 lisp_status lisp_faults.OutOfMemory = 3
 
--- the fault of the program that its is told as
+-- the fault of the program that a run's is told as
 abbrev pub lisp_told_as : LispFault → LineFault
 lisp_told_as lisp_faults.Read = faults.Read
 lisp_told_as lisp_faults.Long = faults.TooLong

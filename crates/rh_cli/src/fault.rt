@@ -72,8 +72,8 @@ pub enum LineFault {
     /// No shared heap is made with the replicators that were asked for.
     #[error("rheap: heap: {0}")]
     Shared(SharedFault),
-    /// The most words that a heap may have are fewer than those that its trace asks for, or that a
-    /// program's begins with, or more than there can be.
+    /// The most words that a heap may have are fewer than those that its trace asks for, or more
+    /// than 16,777,216.
     #[error("rheap: grow: BadLimits")]
     Limits,
     /// The trace has no line of the number that was asked for.

@@ -330,7 +330,8 @@ without it.
                 program ends by `heap exhausted`
   --grow WORDS  each space begins small and grows to at most so many words, from 8618 to 16777216;
                 without --heap it is so, up to 16777216
-  --steps N     the instructions that the program may do; without it none is missed
+  --steps N     the instructions that may be done, from 0 to 4294967295, those of the language's own
+                procedures and of their definitions too; 2^64 - 1 without it
 
 Statuses:
   0  the program came to its end
@@ -353,8 +354,8 @@ A text that is no program is told in the same way, before anything runs:
   too many globals, too many variables, program too long
 
 On other failures standard error has one line, as `rheap: open failed`; of the heap
-  grow: BadLimits         WORDS of --grow is too few or above 16777216
-  pace: TooSmall need N   WORDS of --heap is below N
+  grow: BadLimits         WORDS of --grow is above 16777216
+  pace: TooSmall need N   WORDS of --heap or --grow is below N
   heap: BadSpace          WORDS of --heap is above 16777216
 The file has at most 1048576 bytes, or is too long.";
 

@@ -31,7 +31,7 @@ pub(crate) fn lisp_command<'a>(alloc: Global, word: &str) -> Result<Command<'a>,
         .value_name("WORDS")
         .help("Each of its spaces grows to at most so many words; 16777216 if it isn't said");
     let steps = Arg::new(alloc, "steps").long("steps").value_name("N").help(
-        "The instructions that the program may do; without it more than any does",
+        "The instructions that may be done, 0 to 4294967295; 2^64 - 1 without it",
     );
     sized_command(alloc, about)?.arg(grow)?.arg(steps)
 }

@@ -15,8 +15,7 @@ pub enum LispFault {
     Long,
     /// The text is no program: its first fault, with its place.
     Text(Fault),
-    /// The most words of a heap that grows are fewer than it begins with, or more than there can
-    /// be.
+    /// A heap is to grow to more than 16,777,216 words.
     Limits,
     /// No pace keeps up in a heap of so many words.
     Pace(PaceError),

@@ -23,6 +23,6 @@ pub enum HeapWords {
 pub struct Limits {
     /// The words of its heap.
     pub heap: HeapWords,
-    /// The instructions that it may do.
+    /// The instructions that it may do, those of the prelude too.
     pub steps: u64,
 }
