@@ -34,7 +34,7 @@ pub lisp_is_0 : (outcome : Result Outcome LispFault) (steps : ℕ) (input : List
     → (begun : ProgramState) × (ended : ProgramState) × IsNewMachine steps begun.machine × IsRun begun ended × (ended.machine.ended ≡ Some Halted) × Appends old new (output_text ended)
 lisp_is_0 (Ok Finished) steps input old new ends is =
     let run = ends.1 in
-    (run.0, run.1, run.2, run.3.0, run.3.1.0 refl, run.3.2)
+    (run.0, run.1, run.2, run.3.0, run.3.1.0.0 refl, run.3.2)
 lisp_is_0 (Ok (Stopped problem source position)) steps input old new ends is = absurd (omega (arith, is))
 lisp_is_0 (Err fault) steps input old new ends is = absurd (lisp_fault_is_not_0 fault is)
 
