@@ -322,6 +322,12 @@ pub fn worked_command_lines()
     ensures lisp_heap { command_and_file_of (codes "rheap" ∷ codes "lisp" ∷ codes "--heap"
         ∷ codes "9000" ∷ codes "--steps=7" ∷ codes "x" ∷ [])
         ≡ Ok (SubcommandOf.Lisp (record { heap = HeapWordsOf.Just 9000; steps = 7 }), codes "x") }
+    ensures lisp_grow { command_and_file_of
+        (codes "rheap" ∷ codes "lisp" ∷ codes "--grow=9000" ∷ codes "x" ∷ [])
+        ≡ Ok (
+          SubcommandOf.Lisp (record { heap = HeapWordsOf.UpTo 9000; steps = 2 ^ 64 - 1 }),
+          codes "x",
+        ) }
     ensures lisp_heaps { command_and_file_of (codes "rheap" ∷ codes "lisp" ∷ codes "x"
         ∷ codes "--heap=9000" ∷ codes "--grow=9000" ∷ []) ≡ Err FaultOf.Words }
     ensures lisp_steps { command_and_file_of (codes "rheap" ∷ codes "lisp" ∷ codes "x"

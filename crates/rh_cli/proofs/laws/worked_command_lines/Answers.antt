@@ -209,6 +209,10 @@ pub returns-clause-lisp_heap : goal.returns-clause-lisp_heap
 unfolding command_and_file_of number_of digits clap_on_literals
 returns-clause-lisp_heap c = refl
 
+pub returns-clause-lisp_grow : goal.returns-clause-lisp_grow
+unfolding command_and_file_of number_of digits clap_on_literals
+returns-clause-lisp_grow c = refl
+
 pub returns-clause-lisp_heaps : goal.returns-clause-lisp_heaps
 unfolding command_and_file_of number_of digits clap_on_literals
 returns-clause-lisp_heaps c = refl
