@@ -59,13 +59,24 @@ fn expect_played(
     test: &(impl Abort + Threads + Wait + Sync),
     rt: &HostRuntime,
     is_closed: bool,
+    call: &(&[&[u8]], u8, &[u8], &[u8]),
+) {
+    expect_played_on(test, rt, WITHOUT_FIELDS, is_closed, call);
+}
+
+/// The same with this as standard input.
+fn expect_played_on(
+    test: &(impl Abort + Threads + Wait + Sync),
+    rt: &HostRuntime,
+    input: &[u8],
+    is_closed: bool,
     &(args, status, out, err): &(&[&[u8]], u8, &[u8], &[u8]),
 ) {
     let mut told = Vec::new(rt.alloc());
     let terminal = Terminal {
         rt,
         args,
-        input: WITHOUT_FIELDS,
+        input,
         is_closed,
         printed: RefCell::new(Vec::new(rt.alloc())),
     };
@@ -565,7 +576,7 @@ const WORDS_FAULT: &[u8] =
 /// What is told where its steps are no number.
 const STEPS_FAULT: &[u8] = b"rheap: --steps needs a number of steps, 0 to 4294967295\n";
 
-/// Programs of the small Scheme. The input is a trace, whose first word no program knows.
+/// Programs of the small Scheme. The input is a word that no program knows.
 const PROGRAMS: &[(&[&[u8]], u8, &[u8], &[u8])] = &[
     (
         &[b"rheap", b"lisp", b"-"],
@@ -682,7 +693,7 @@ fn calls_of_the_program(rt: HostRuntime) {
         expect_played(&Row { rt: &rt, row }, &rt, false, call);
     }
     for (row, call) in PROGRAMS.iter().enumerate() {
-        expect_played(&Row { rt: &rt, row }, &rt, false, call);
+        expect_played_on(&Row { rt: &rt, row }, &rt, b"heap\n", false, call);
     }
     for (row, call) in CLOSED.iter().enumerate() {
         expect_played(&Row { rt: &rt, row }, &rt, true, call);
