@@ -10,6 +10,7 @@ use rh_machine::{
 };
 use rh_pace::{PacedHeap, Sizes};
 use std::alloc::Allocator;
+use std::process::Abort;
 use std::rt::HostRuntime;
 
 /// More steps than a run here needs.
@@ -90,40 +91,6 @@ fn run_on<H: AnsweringHeap, A: Allocator + Copy>(
     })
 }
 
-#[test]
-fn tak_comes_to_the_same_on_each_heap(rt: HostRuntime) {
-    let came = Some(Came {
-        ending: Ending::Halted,
-        line: 18,
-        output: Some(9),
-        steps: STEPS - 69_528,
-    });
-    let mut paced = PacedHeap::sized(rt.alloc(), SIZES).expect(&rt, "memory is ample");
-    assert_eq!(rt; run_on(rt.alloc(), &mut paced, TAK, STEPS), came);
-    assert!(rt; paced.stat().flips > 10);
-    let mut growing = GrowingHeap::of(rt.alloc(), GROWTH).expect(&rt, "memory is ample");
-    assert_eq!(rt; run_on(rt.alloc(), &mut growing, TAK, STEPS), came);
-    assert!(rt; growing.paced().stat().flips > 10);
-    let mut heap = Heap::new(rt.alloc(), CONFIG).expect(&rt, "memory is ample");
-    assert_eq!(rt; run_on(rt.alloc(), &mut heap, TAK, STEPS), came);
-}
-
-#[test]
-fn a_loop_counts_on_each_heap(rt: HostRuntime) {
-    let came = Some(Came {
-        ending: Ending::Halted,
-        line: 14,
-        output: Some(20_000),
-        steps: STEPS - 160_009,
-    });
-    let mut paced = PacedHeap::sized(rt.alloc(), SIZES).expect(&rt, "memory is ample");
-    assert_eq!(rt; run_on(rt.alloc(), &mut paced, COUNT, STEPS), came);
-    let mut growing = GrowingHeap::of(rt.alloc(), GROWTH).expect(&rt, "memory is ample");
-    assert_eq!(rt; run_on(rt.alloc(), &mut growing, COUNT, STEPS), came);
-    let mut heap = Heap::new(rt.alloc(), CONFIG).expect(&rt, "memory is ample");
-    assert_eq!(rt; run_on(rt.alloc(), &mut heap, COUNT, STEPS), came);
-}
-
 /// A list without end is refused a cell: the third instruction asks for it.
 fn is_exhausted_at_the_cell(came: Option<Came>) -> bool {
     match came {
@@ -138,18 +105,81 @@ fn is_exhausted_at_the_cell(came: Option<Came>) -> bool {
     }
 }
 
+/// Runs the code on a heap, and expects this of the run: where nothing is due, that a list without
+/// end is refused a cell.
+fn expect_run<R: AllocGlobal + Abort, H: AnsweringHeap>(
+    rt: &R,
+    heap: &mut H,
+    table: &[Instruction],
+    due: Option<Came>,
+) {
+    let came = run_on(rt.alloc(), heap, table, STEPS);
+    let is_due = match due {
+        Some(_) => came == due,
+        None => is_exhausted_at_the_cell(came),
+    };
+    assert!(rt; is_due, "{came:?}");
+}
+
+/// The same on a paced heap. Answers how often it collected.
+fn expect_on_paced<R: AllocGlobal + Abort>(
+    rt: &R,
+    table: &[Instruction],
+    due: Option<Came>,
+) -> u64 {
+    let mut heap = PacedHeap::sized(rt.alloc(), SIZES).expect(rt, "memory is ample");
+    expect_run(rt, &mut heap, table, due);
+    heap.stat().flips
+}
+
+/// The same on a heap that grows. Answers how often it collected, and why it was short of room.
+fn expect_on_growing<R: AllocGlobal + Abort>(
+    rt: &R,
+    table: &[Instruction],
+    due: Option<Came>,
+) -> (u64, Option<Short>) {
+    let mut heap = GrowingHeap::of(rt.alloc(), GROWTH).expect(rt, "memory is ample");
+    expect_run(rt, &mut heap, table, due);
+    (heap.paced().stat().flips, heap.short())
+}
+
+/// The same on a heap that never collects.
+fn expect_on_heap<R: AllocGlobal + Abort>(rt: &R, table: &[Instruction], due: Option<Came>) {
+    let mut heap = Heap::new(rt.alloc(), CONFIG).expect(rt, "memory is ample");
+    expect_run(rt, &mut heap, table, due);
+}
+
+#[test]
+fn tak_comes_to_the_same_on_each_heap(rt: HostRuntime) {
+    let came = Some(Came {
+        ending: Ending::Halted,
+        line: 18,
+        output: Some(9),
+        steps: STEPS - 69_528,
+    });
+    assert!(rt; expect_on_paced(&rt, TAK, came) > 10);
+    assert!(rt; expect_on_growing(&rt, TAK, came).0 > 10);
+    expect_on_heap(&rt, TAK, came);
+}
+
+#[test]
+fn a_loop_counts_on_each_heap(rt: HostRuntime) {
+    let came = Some(Came {
+        ending: Ending::Halted,
+        line: 14,
+        output: Some(20_000),
+        steps: STEPS - 160_009,
+    });
+    assert!(rt; expect_on_paced(&rt, COUNT, came) > 10);
+    assert!(rt; expect_on_growing(&rt, COUNT, came).0 > 10);
+    expect_on_heap(&rt, COUNT, came);
+}
+
 #[test]
 fn an_exhausted_heap_is_told_with_its_place(rt: HostRuntime) {
-    let mut paced = PacedHeap::sized(rt.alloc(), SIZES).expect(&rt, "memory is ample");
-    let came = run_on(rt.alloc(), &mut paced, LIST, STEPS);
-    assert!(rt; is_exhausted_at_the_cell(came), "{came:?}");
-    let mut growing = GrowingHeap::of(rt.alloc(), GROWTH).expect(&rt, "memory is ample");
-    let came = run_on(rt.alloc(), &mut growing, LIST, STEPS);
-    assert!(rt; is_exhausted_at_the_cell(came), "{came:?}");
-    assert_eq!(rt; growing.short(), Some(Short::AtMost));
-    let mut heap = Heap::new(rt.alloc(), CONFIG).expect(&rt, "memory is ample");
-    let came = run_on(rt.alloc(), &mut heap, LIST, STEPS);
-    assert!(rt; is_exhausted_at_the_cell(came), "{came:?}");
+    assert!(rt; expect_on_paced(&rt, LIST, None) > 0);
+    assert!(rt; expect_on_growing(&rt, LIST, None).1 == Some(Short::AtMost));
+    expect_on_heap(&rt, LIST, None);
 }
 
 /// Code of a few instructions, how it ends, and at which line.
@@ -210,14 +240,32 @@ const ENDS: &[(&[Instruction], Ending, u32)] = &[
     ),
 ];
 
+/// Runs the code on a heap for ten steps, and expects that it ends so, at this line.
+fn expect_end<R: AllocGlobal + Abort>(
+    rt: &R,
+    heap: &mut PacedHeap,
+    table: &[Instruction],
+    due: (Ending, u32),
+) {
+    let came = run_on(rt.alloc(), heap, table, 10).map(|came| (came.ending, came.line));
+    assert!(rt; came == Some(due), "{came:?}");
+}
+
+/// The same on a new heap of these sizes.
+fn expect_ends<R: AllocGlobal + Abort>(
+    rt: &R,
+    sizes: Sizes,
+    rows: &[(&[Instruction], Ending, u32)],
+) {
+    let mut heap = PacedHeap::sized(rt.alloc(), sizes).expect(rt, "memory is ample");
+    for &(table, ending, line) in rows {
+        expect_end(rt, &mut heap, table, (ending, line));
+    }
+}
+
 #[test]
 fn machines_end_as_their_code_says(rt: HostRuntime) {
-    let mut heap = PacedHeap::sized(rt.alloc(), SIZES).expect(&rt, "memory is ample");
-    for (table, ending, line) in ENDS {
-        let came = run_on(rt.alloc(), &mut heap, table, 10);
-        let came = came.expect(&rt, "memory is ample");
-        assert_eq!(rt; (came.ending, came.line), (*ending, *line));
-    }
+    expect_ends(&rt, SIZES, ENDS);
 }
 
 /// Makes an object that the last register but one names.
@@ -241,29 +289,31 @@ fn a_heap_without_the_registers_refuses_them(rt: HostRuntime) {
             slots,
             ..SIZES
         };
-        let mut heap = PacedHeap::sized(rt.alloc(), sizes).expect(&rt, "memory is ample");
-        let came = run_on(rt.alloc(), &mut heap, MAKE, 10);
-        let came = came.expect(&rt, "memory is ample");
-        assert_eq!(rt; (came.ending, came.line), (ending, line));
+        expect_ends(&rt, sizes, &[(MAKE, ending, line)]);
     }
+}
+
+/// What is wrong with these instructions at so many positions.
+fn fault_of<A: Allocator + Copy>(alloc: A, table: &[Instruction], lines: u32) -> Option<CodeFault> {
+    let mut instructions = Vec::new(alloc);
+    for instruction in table {
+        instructions.push(*instruction).ok()?;
+    }
+    let mut positions = Vec::new(alloc);
+    for line in 0..lines {
+        positions.push(Position { line, column: 1 }).ok()?;
+    }
+    Code::new(instructions, positions).err()
 }
 
 #[test]
 fn code_names_its_first_fault(rt: HostRuntime) {
-    let mut instructions = Vec::new(rt.alloc());
-    let mut positions = Vec::new(rt.alloc());
     let jump = Instruction::Jump {
         when: When::Set,
         to: 2,
     };
-    assert!(rt; instructions.push(Instruction::Halt).is_ok());
-    assert!(rt; instructions.push(jump).is_ok());
-    assert!(rt; positions.push(Position { line: 1, column: 1 }).is_ok());
-    assert!(rt; positions.push(Position { line: 2, column: 1 }).is_ok());
-    let fault = Code::new(instructions, positions).err();
-    assert_eq!(rt; fault, Some(CodeFault::Instruction(1)));
-    let mut alone = Vec::new(rt.alloc());
-    assert!(rt; alone.push(Instruction::Halt).is_ok());
-    let fault = Code::new(alone, Vec::new(rt.alloc())).err();
-    assert_eq!(rt; fault, Some(CodeFault::Positions));
+    let fault = fault_of(rt.alloc(), &[Instruction::Halt, jump], 2);
+    assert!(rt; fault == Some(CodeFault::Instruction(1)), "{fault:?}");
+    let fault = fault_of(rt.alloc(), &[Instruction::Halt], 0);
+    assert!(rt; fault == Some(CodeFault::Positions), "{fault:?}");
 }
