@@ -2,4 +2,6 @@
 #![tactic(auto)]
 
 #[cfg(test)]
+mod expectations;
+#[cfg(test)]
 mod programs;

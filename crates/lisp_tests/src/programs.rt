@@ -1,10 +1,12 @@
 //! Programs, what they print, and where they stop.
 
+use crate::expectations::{Row, expect_bytes};
 use refusing::RefusingAllocator;
 use rh_growing::GrowingHeap;
 use rh_lisp::{Fault, FaultKind, Outcome, Printed, Program, ReadKind};
 use rh_pace::{PacedHeap, Sizes};
-use std::alloc::Allocator;
+use std::alloc::{Allocator, Global};
+use std::process::Abort;
 use std::rt::HostRuntime;
 
 /// Programs, and what they print: what another Scheme prints.
@@ -243,26 +245,71 @@ const SIZES: Sizes = Sizes {
     slots: 8,
 };
 
-/// What a program prints, and its message where it stops.
-fn printed<A: Allocator + Copy>(alloc: A, text: &[u8]) -> Option<(Vec<u8, A>, Vec<u8, A>)> {
-    let mut program = Program::new(alloc, text, 1_000, 400_000).ok()?;
+/// Runs a program on a heap that grows. Answers how it ended; nothing where memory was refused.
+fn run_growing<A: Allocator + Copy>(alloc: A, program: &mut Program<A>) -> Option<Outcome> {
     let mut heap = GrowingHeap::new(alloc, 20_000).ok()?;
-    let outcome = program.run(&mut heap);
-    let printed = program.printed(alloc).ok()?;
-    let message = program.message(alloc, b"p", outcome, &printed).ok()?;
-    let Printed { output, .. } = printed;
-    Some((output, message))
+    Some(program.run(&mut heap))
 }
 
-/// What a program prints that finishes on a heap of one size, and how often that collected.
-fn printed_on_paced<A: Allocator + Copy>(alloc: A, text: &[u8]) -> Option<(Vec<u8, A>, u64)> {
-    let mut program = Program::new(alloc, text, 1_000, 400_000).ok()?;
+/// Runs a program on a heap of one size. Answers how it ended, and how often the heap collected;
+/// nothing where memory was refused.
+fn run_paced<A: Allocator + Copy>(alloc: A, program: &mut Program<A>) -> Option<(Outcome, u64)> {
     let mut heap = PacedHeap::sized(alloc, SIZES).ok()?;
-    if program.run_on_paced(&mut heap) != Outcome::Finished {
-        return None;
+    let outcome = program.run_on_paced(&mut heap);
+    Some((outcome, heap.stat().flips))
+}
+
+/// Ends the test unless a program that ended so has this message.
+fn expect_message<R: AllocGlobal + Abort>(
+    rt: &R,
+    program: &Program<Global>,
+    outcome: Outcome,
+    printed: &Printed<Global>,
+    due: &[u8],
+) {
+    let message = program.message(rt.alloc(), b"p", outcome, printed);
+    expect_bytes(rt, &message.expect(rt, "memory is ample"), due);
+}
+
+/// Ends the test unless a program that ended so printed this, where something is due, and has this
+/// message.
+fn expect_told<R: AllocGlobal + Abort>(
+    rt: &R,
+    program: &Program<Global>,
+    outcome: Outcome,
+    output: Option<&[u8]>,
+    due: &[u8],
+) {
+    let printed = program.printed(rt.alloc()).ok();
+    let printed = printed.expect(rt, "memory is ample");
+    expect_message(rt, program, outcome, &printed, due);
+    if let Some(output) = output {
+        expect_bytes(rt, &printed.output, output);
     }
-    let Printed { output, .. } = program.printed(alloc).ok()?;
-    Some((output, heap.stat().flips))
+}
+
+/// Runs the program that the text is on a heap that grows, and ends the test unless it prints this,
+/// where something is due, and has this message.
+fn expect_run<R: AllocGlobal + Abort>(rt: &R, text: &[u8], output: Option<&[u8]>, due: &[u8]) {
+    let mut program = program_of(rt, text);
+    let outcome = run_growing(rt.alloc(), &mut program).expect(rt, "memory is ample");
+    expect_told(rt, &program, outcome, output, due);
+}
+
+/// Runs the program that the text is on a heap of one size, and ends the test unless it prints
+/// this. Answers how often the heap collected.
+fn expect_run_on_paced<R: AllocGlobal + Abort>(rt: &R, text: &[u8], output: &[u8]) -> u64 {
+    let mut program = program_of(rt, text);
+    let (outcome, flips) = run_paced(rt.alloc(), &mut program).expect(rt, "memory is ample");
+    expect_told(rt, &program, outcome, Some(output), b"");
+    flips
+}
+
+/// The program that a text is.
+fn program_of<R: AllocGlobal + Abort>(rt: &R, text: &[u8]) -> Program<Global> {
+    Program::new(rt.alloc(), text, 1_000, 400_000)
+        .ok()
+        .expect(rt, "a program")
 }
 
 /// The fault of a text, in words.
@@ -278,13 +325,7 @@ fn fault_of<A: Allocator + Copy>(alloc: A, text: &[u8]) -> Option<String<A>> {
 #[test]
 fn programs_print_what_another_scheme_prints(rt: HostRuntime) {
     for (row, &(text, output)) in PROGRAMS.iter().enumerate() {
-        let (got, message) = printed(rt.alloc(), text).expect(&rt, "a program");
-        assert!(rt;
-            got.as_slice() == output,
-            "row {row}: {}",
-            got.escape_ascii()
-        );
-        assert!(rt; message.is_empty(), "row {row}: {}", message.escape_ascii());
+        expect_run(&Row { rt: &rt, row }, text, Some(output), b"");
     }
 }
 
@@ -292,12 +333,7 @@ fn programs_print_what_another_scheme_prints(rt: HostRuntime) {
 fn programs_print_the_same_where_the_heap_keeps_its_size(rt: HostRuntime) {
     let mut collected = false;
     for (row, &(text, output)) in PROGRAMS.iter().enumerate() {
-        let (got, flips) = printed_on_paced(rt.alloc(), text).expect(&rt, "a program");
-        assert!(rt;
-            got.as_slice() == output,
-            "row {row}: {}",
-            got.escape_ascii()
-        );
+        let flips = expect_run_on_paced(&Row { rt: &rt, row }, text, output);
         collected = collected || 0 < flips;
     }
     assert!(rt; collected, "no heap collected");
@@ -306,12 +342,7 @@ fn programs_print_the_same_where_the_heap_keeps_its_size(rt: HostRuntime) {
 #[test]
 fn programs_stop_where_their_messages_say(rt: HostRuntime) {
     for (row, &(text, due)) in STOPS.iter().enumerate() {
-        let (_, message) = printed(rt.alloc(), text).expect(&rt, "a program");
-        assert!(rt;
-            message.as_slice() == due,
-            "row {row}: {}",
-            message.escape_ascii()
-        );
+        expect_run(&Row { rt: &rt, row }, text, None, due);
     }
 }
 
