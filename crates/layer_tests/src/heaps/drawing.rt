@@ -18,23 +18,32 @@ fn count(text: &str, part: &str) -> usize {
     text.split(part).skip(1).count()
 }
 
+/// Ends the test unless what stands between two tags is spelled as it has to be.
+fn expect_spelled(rt: &impl Abort, tag: &str, after: &str) {
+    assert!(rt; !after.contains('>') && count(tag, "'") % 2 == 0);
+    for letter in after.split('&').skip(1) {
+        assert!(rt; letter.starts_with("lt;") || letter.starts_with("amp;"));
+    }
+}
+
+/// Follows a tag: it opens an element, or closes the one that was opened last, by the same name.
+fn follow<'a>(rt: &impl Abort, open: &mut Vec<&'a str>, tag: &'a str) {
+    let name = tag.split(' ').next().expect(rt, "a name");
+    if let Some(closed) = name.strip_prefix('/') {
+        expect_equal(rt, open.pop(), Some(closed));
+    } else if !tag.ends_with('/') {
+        open.push(name).expect(rt, "memory is ample");
+    }
+}
+
 /// Ends the test unless the text is one element, each tag is closed by one of its name, no quote is
 /// open, and nothing is there that has to be spelled otherwise.
 fn expect_well_formed<R: AllocGlobal + Abort>(rt: &R, text: &str) {
     let mut open = Vec::new(rt.alloc());
     for piece in text.split('<').skip(1) {
         let (tag, after) = piece.split_once('>').expect(rt, "the end of a tag");
-        assert!(rt; !after.contains('>') && count(tag, "'") % 2 == 0);
-        for letter in after.split('&').skip(1) {
-            let rest = letter.strip_prefix("lt;").or(letter.strip_prefix("amp;"));
-            assert!(rt; rest.is_some());
-        }
-        let name = tag.split(' ').next().expect(rt, "a name");
-        if let Some(closed) = name.strip_prefix('/') {
-            expect_equal(rt, open.pop(), Some(closed));
-        } else if !tag.ends_with('/') {
-            open.push(name).expect(rt, "memory is ample");
-        }
+        expect_spelled(rt, tag, after);
+        follow(rt, &mut open, tag);
         assert!(rt; !open.is_empty() || after == "\n");
     }
     expect_equal(rt, open.len(), 0);
@@ -97,21 +106,26 @@ fn held_in(heap: &Heap) -> Held {
     held
 }
 
-/// Ends the test unless the heap's picture has the boxes, arrows, filled, empty and hatched fields,
-/// and entries, that the heap's readers tell. Those of the legend aren't counted.
-fn expect_shown<R: AllocGlobal + Abort>(rt: &R, heap: &Heap) {
-    let bytes = picture(rt, heap);
-    let text = str::from_utf8(&bytes).ok().expect(rt, "text");
-    expect_well_formed(rt, text);
-    let shown = text.split("<g class='legend'").next().expect(rt, "a part");
+/// The objects of from-space.
+fn objects_in(heap: &Heap) -> usize {
+    let mut found: usize = 0;
+    for a in 0..heap.used() {
+        if heap.fields(a).is_some() {
+            found = found.saturating_add(1);
+        }
+    }
+    found
+}
+
+/// The boxes, arrows, filled, empty and hatched fields, and entries, that the heap's readers tell,
+/// and how often a picture has each.
+fn shown_of(heap: &Heap) -> [(&str, usize); 10] {
     let stat = heap.stat();
     let held = held_in(heap);
-    let objects = (0..heap.used())
-        .filter(|&a| heap.fields(a).is_some())
-        .count();
+    let objects = objects_in(heap);
     let old = (stat.missing as usize).saturating_sub(held.missing);
     let past = stat.log.saturating_sub(heap.undealt(Kind::Entries));
-    let wanted = [
+    [
         (
             "<g class='box",
             objects.saturating_add(stat.placed as usize),
@@ -131,11 +145,25 @@ fn expect_shown<R: AllocGlobal + Abort>(rt: &R, heap: &Heap) {
         ("class='entry", stat.log as usize),
         ("class='entry past'", past as usize),
         ("class='scan'", usize::from(stat.cycle)),
-    ];
+    ]
+}
+
+/// Ends the test unless the text is well-formed, and has each of these as often. Those of the
+/// legend aren't counted.
+fn expect_in(rt: &(impl AllocGlobal + Abort), text: &str, wanted: &[(&str, usize)]) {
+    expect_well_formed(rt, text);
+    let shown = text.split("<g class='legend'").next().expect(rt, "a part");
     for (row, &(part, times)) in wanted.iter().enumerate() {
         let rt = Row { rt, row };
         expect_equal(&rt, (part, count(shown, part)), (part, times));
     }
+}
+
+/// Ends the test unless the heap's picture shows what the heap's readers tell.
+fn expect_shown<R: AllocGlobal + Abort>(rt: &R, heap: &Heap) {
+    let bytes = picture(rt, heap);
+    let text = str::from_utf8(&bytes).ok().expect(rt, "text");
+    expect_in(rt, text, &shown_of(heap));
 }
 
 /// A heap with an object and a raw one, of two fields each, after three stores.

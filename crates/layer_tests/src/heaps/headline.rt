@@ -2,7 +2,7 @@
 
 use crate::commands::{SIZES, item, piece};
 use crate::expectations::expect_equal;
-use rh_core::laws::headline::headline;
+use rh_core::laws::headline::{Replicas, headline};
 use rh_core::{Answer, Event, Heap};
 use rh_layout::{Item, Value};
 use rh_partial::{PartialReplica, Piece, Reason};
@@ -23,45 +23,60 @@ fn other() -> Item {
     item(3, 1, 4, Value::Ref(9))
 }
 
-/// What two replicas hold that took some pieces, the second the others: the items of the first. The
-/// second has the same ones. The first had taken the old store.
-fn held<R: AllocGlobal + Abort>(
+/// A replica of epoch 1 that took the old store.
+fn with_old<R: AllocGlobal + Abort>(rt: &R) -> PartialReplica {
+    let made = PartialReplica::empty(rt.alloc(), 1).take(&piece(rt, 1, &[old()]));
+    made.ok().expect(rt, "memory is ample")
+}
+
+/// The call of the headline on a heap, in which a cycle begins.
+fn called<R: AllocGlobal + Abort>(
+    rt: &R,
+    heap: &mut Heap,
+    (first, second): (&PartialReplica, &PartialReplica),
+    pieces: &[Piece],
+    others: &[Piece],
+) -> Result<Replicas<Global>, Reason> {
+    let mut answers = Vec::new(rt.alloc());
+    let events: [Event<Global>; 1] = [Event::Begin];
+    let returned = headline(first, second, pieces, others, heap, &events, &mut answers);
+    let has_begun = matches!(answers.as_slice(), [Answer::Begin(Ok(1))]);
+    assert!(rt; returned.run.is_ok() && has_begun);
+    returned.replicas
+}
+
+/// Checks that the other replica has the items of this one.
+fn expect_same<R: AllocGlobal + Abort>(rt: &R, one: &PartialReplica, other: &PartialReplica) {
+    expect_equal(rt, other.len(), one.len());
+    for i in 0..one.len() {
+        if i < other.len() {
+            expect_equal(rt, other.entry(i), one.entry(i));
+        }
+    }
+}
+
+/// What two replicas are that took some pieces, the second the others. The first had taken the old
+/// store.
+fn hold<R: AllocGlobal + Abort>(
     rt: &R,
     pieces: &[Piece],
     others: &[Piece],
-) -> Result<Vec<Item>, Reason> {
-    let made = PartialReplica::empty(rt.alloc(), 1).take(&piece(rt, 1, &[old()]));
-    let first = made.ok().expect(rt, "memory is ample");
+) -> Result<Replicas<Global>, Reason> {
+    let first = with_old(rt);
     let second = PartialReplica::empty(rt.alloc(), 1);
     let mut heap = Heap::new(rt.alloc(), SIZES).expect(rt, "a heap");
-    let mut answers = Vec::new(rt.alloc());
-    let events: [Event<Global>; 1] = [Event::Begin];
-    let returned = headline(
-        &first,
-        &second,
-        pieces,
-        others,
-        &mut heap,
-        &events,
-        &mut answers,
-    );
-    expect_equal(rt, returned.run, Ok(()));
-    assert!(rt; matches!(answers.as_slice(), [Answer::Begin(Ok(1))]));
-    let made = returned.replicas?;
-    let mut items = Vec::new(rt.alloc());
-    for i in 0..made.first.len() {
-        items
-            .push(made.first.entry(i))
-            .expect(rt, "memory is ample");
+    called(rt, &mut heap, (&first, &second), pieces, others)
+}
+
+/// Checks that both replicas hold the newest of the items, and that their joins have as many.
+fn expect_held<R: AllocGlobal + Abort>(rt: &R, made: &Replicas<Global>) {
+    let first = &made.first;
+    expect_equal(rt, first.len(), 2);
+    if first.len() == 2 {
+        expect_equal(rt, (first.entry(0), first.entry(1)), (new(), other()));
     }
-    expect_equal(rt, made.second.len(), items.len());
+    expect_same(rt, first, &made.second);
     expect_equal(rt, made.joined.len(), made.turned.len());
-    for (i, item) in items.iter().enumerate() {
-        if i < made.second.len() {
-            expect_equal(rt, made.second.entry(i), *item);
-        }
-    }
-    Ok(items)
 }
 
 /// Replicas that took the same items in another order, with a repeat, hold the newest of them.
@@ -72,10 +87,8 @@ fn the_same_items_make_the_same_replica(rt: HostRuntime) {
         piece(&rt, 1, &[other(), new()]),
         piece(&rt, 1, &[old(), new()]),
     ];
-    let Ok(items) = held(&rt, &pieces, &others) else {
-        panic!(rt; "memory is ample");
-    };
-    expect_equal(&rt, items.as_slice(), [new(), other()].as_slice());
+    let made = hold(&rt, &pieces, &others).ok();
+    expect_held(&rt, &made.expect(&rt, "memory is ample"));
 }
 
 /// A piece of another epoch makes no replica.
@@ -85,7 +98,7 @@ fn a_piece_of_another_epoch_is_told(rt: HostRuntime) {
     let others = [piece(&rt, 2, &[new()])];
     expect_equal(
         &rt,
-        held(&rt, &pieces, &others).err(),
+        hold(&rt, &pieces, &others).err(),
         Some(Reason::OtherEpoch),
     );
 }

@@ -69,7 +69,23 @@ fn taken<A: Allocator + Copy>(
         .ok()
 }
 
-/// Adds gives of two replicas that are joined in both orders, and of a copy of the second join,
+/// Both joined, where memory wasn't refused.
+fn joined<A: Allocator + Copy>(
+    one: &PartialReplica<A>,
+    other: &PartialReplica<A>,
+) -> Option<PartialReplica<A>> {
+    one.copy().ok()?.join(other.copy().ok()?).ok()
+}
+
+/// Adds a give of the replica, where memory wasn't refused.
+fn add_give<A: Allocator + Copy>(
+    events: &mut Vec<Event<A>, A>,
+    replica: PartialReplica<A>,
+) -> Option<()> {
+    events.push(Event::Give(replica)).ok()
+}
+
+/// Adds gives of two replicas that are joined in both orders, and of the second join once more,
 /// where memory wasn't refused. One has the first field as it was made; the other the first as it
 /// was stored to, and the second.
 fn add_gives<A: Allocator + Copy>(
@@ -77,14 +93,12 @@ fn add_gives<A: Allocator + Copy>(
     memory: A,
     events: &mut Vec<Event<A>, A>,
 ) -> Option<()> {
-    let one = taken(rt, memory, &[item(0, 0, 0, Value::Nil)])?;
     let items = [item(0, 1, 0, Value::Nil), item(0, 0, 1, Value::Int(9))];
+    let one = taken(rt, memory, &[item(0, 0, 0, Value::Nil)])?;
     let other = taken(rt, memory, &items)?;
-    let first = one.copy().ok()?.join(other.copy().ok()?).ok()?;
-    events.push(Event::Give(first)).ok()?;
-    let second = other.join(one).ok()?;
-    events.push(Event::Give(second.copy().ok()?)).ok()?;
-    events.push(Event::Give(second)).ok()
+    add_give(events, joined(&one, &other)?)?;
+    add_give(events, joined(&other, &one)?)?;
+    add_give(events, joined(&other, &one)?)
 }
 
 /// What a cycle is told, in which replicas of both fields of an object are given three times.
