@@ -1,70 +1,91 @@
 //! What a part of a line should be.
 
-use thiserror::Error;
+use std::fmt;
 
 /// What a part of a line should be. Its text is its name in the row of its line.
-#[derive(Clone, Copy, Debug, PartialEq, Eq, Error)]
+#[derive(Clone, Copy)]
 pub enum Expected {
     /// A keyword.
-    #[error("a keyword")]
     Keyword,
     /// A number from 0 to 4,294,967,295, of this name.
-    #[error("{0}")]
     Number(Name),
     /// A root, `OWNER.SLOT`, of this name.
-    #[error("{0}")]
     Root(Name),
     /// `nil`, a root, or a whole number of 64 bits with sign.
-    #[error("OPERAND")]
     Operand,
     /// `copies` or `entries`.
-    #[error("copies or entries")]
     Dealt,
     /// The name of a tray.
-    #[error("TRAY")]
     Tray,
 }
 
+impl fmt::Display for Expected {
+    fn fmt<W: fmt::Write>(&self, f: &mut fmt::Formatter<W>) -> fmt::Result {
+        match *self {
+            Expected::Keyword => f.write_str("a keyword"),
+            Expected::Number(name) => write!(f, "{name}"),
+            Expected::Root(name) => write!(f, "{name}"),
+            Expected::Operand => f.write_str("OPERAND"),
+            Expected::Dealt => f.write_str("copies or entries"),
+            Expected::Tray => f.write_str("TRAY"),
+        }
+    }
+}
+
 /// The name of a number or a root in the row of its line.
-#[derive(Clone, Copy, Debug, PartialEq, Eq, Error)]
+#[derive(Clone, Copy)]
 pub enum Name {
     /// The number of an owner.
-    #[error("OWNER")]
     Owner,
     /// A root.
-    #[error("ROOT")]
     Root,
     /// The root that is written to.
-    #[error("DST")]
     Target,
     /// The root that is read.
-    #[error("SRC")]
     Source,
     /// The root of the object of a store.
-    #[error("OBJ")]
     Object,
     /// The first root that is compared.
-    #[error("A")]
     Left,
     /// The second.
-    #[error("B")]
     Right,
     /// How many fields an object gets.
-    #[error("FIELDS")]
     Fields,
     /// The number of a field.
-    #[error("FIELD")]
     Field,
     /// The most items of a deal.
-    #[error("MOST")]
     Most,
     /// Idle words, or tickets.
-    #[error("N")]
     Count,
     /// The words of a space, and what stands after them in the first line.
-    #[error("WORDS")]
     Words,
     /// The number of a ticket.
-    #[error("T")]
     Ticket,
+}
+
+impl Name {
+    /// The name as it is written.
+    fn as_str(self) -> &'static str {
+        match self {
+            Name::Owner => "OWNER",
+            Name::Root => "ROOT",
+            Name::Target => "DST",
+            Name::Source => "SRC",
+            Name::Object => "OBJ",
+            Name::Left => "A",
+            Name::Right => "B",
+            Name::Fields => "FIELDS",
+            Name::Field => "FIELD",
+            Name::Most => "MOST",
+            Name::Count => "N",
+            Name::Words => "WORDS",
+            Name::Ticket => "T",
+        }
+    }
+}
+
+impl fmt::Display for Name {
+    fn fmt<W: fmt::Write>(&self, f: &mut fmt::Formatter<W>) -> fmt::Result {
+        f.write_str(self.as_str())
+    }
 }

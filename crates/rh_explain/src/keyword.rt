@@ -1,82 +1,96 @@
 //! The keywords of traces.
 
-use thiserror::Error;
+use std::fmt;
 
 /// A keyword of a trace.
-#[derive(Clone, Copy, Debug, PartialEq, Eq, Error)]
+#[derive(Clone, Copy)]
 pub enum Keyword {
     /// `alloc`, which stands after an owner.
-    #[error("alloc")]
     Alloc,
     /// `raw`, which stands after an owner.
-    #[error("raw")]
     Raw,
     /// `load`, which stands after an owner.
-    #[error("load")]
     Load,
     /// `store`, which stands after an owner.
-    #[error("store")]
     Store,
     /// `copy`, which stands after an owner.
-    #[error("copy")]
     Copy,
     /// `same`, which stands after an owner.
-    #[error("same")]
     Same,
     /// `drop`, which stands after an owner.
-    #[error("drop")]
     Drop,
     /// `watch`, which stands after an owner.
-    #[error("watch")]
     Watch,
     /// `begin`, which begins its line.
-    #[error("begin")]
     Begin,
     /// `shade`, which begins its line.
-    #[error("shade")]
     Shade,
     /// `deal`, which begins its line.
-    #[error("deal")]
     Deal,
     /// `give`, which begins its line.
-    #[error("give")]
     Give,
     /// `join`, which begins its line.
-    #[error("join")]
     Join,
     /// `flip`, which begins its line.
-    #[error("flip")]
     Flip,
     /// `recall`, which begins its line.
-    #[error("recall")]
     Recall,
     /// `abandon`, which begins its line.
-    #[error("abandon")]
     Abandon,
     /// `idle`, which begins its line.
-    #[error("idle")]
     Idle,
     /// `resize`, which begins its line.
-    #[error("resize")]
     Resize,
     /// `tickets`, which begins its line.
-    #[error("tickets")]
     Tickets,
     /// `unwatch`, which begins its line.
-    #[error("unwatch")]
     Unwatch,
     /// `gone`, which begins its line.
-    #[error("gone")]
     Gone,
     /// `trays`, which begins its line.
-    #[error("trays")]
     Trays,
     /// `stat`, which begins its line.
-    #[error("stat")]
     Stat,
     /// `dump`, which begins its line.
-    #[error("dump")]
     Dump,
+}
+
+impl Keyword {
+    /// The keyword as it is written.
+    fn as_str(self) -> &'static str {
+        match self {
+            Keyword::Alloc => "alloc",
+            Keyword::Raw => "raw",
+            Keyword::Load => "load",
+            Keyword::Store => "store",
+            Keyword::Copy => "copy",
+            Keyword::Same => "same",
+            Keyword::Drop => "drop",
+            Keyword::Watch => "watch",
+            Keyword::Begin => "begin",
+            Keyword::Shade => "shade",
+            Keyword::Deal => "deal",
+            Keyword::Give => "give",
+            Keyword::Join => "join",
+            Keyword::Flip => "flip",
+            Keyword::Recall => "recall",
+            Keyword::Abandon => "abandon",
+            Keyword::Idle => "idle",
+            Keyword::Resize => "resize",
+            Keyword::Tickets => "tickets",
+            Keyword::Unwatch => "unwatch",
+            Keyword::Gone => "gone",
+            Keyword::Trays => "trays",
+            Keyword::Stat => "stat",
+            Keyword::Dump => "dump",
+        }
+    }
+}
+
+impl fmt::Display for Keyword {
+    fn fmt<W: fmt::Write>(&self, f: &mut fmt::Formatter<W>) -> fmt::Result {
+        f.write_str(self.as_str())
+    }
 }
 
 /// The keywords that stand after an owner.

@@ -3,7 +3,7 @@
 use crate::why::Why;
 
 /// The part of a line at which it fails.
-#[derive(Clone, Copy, Debug, PartialEq, Eq)]
+#[derive(Clone, Copy)]
 pub struct Part {
     /// The column at which the part begins, in bytes from 0.
     pub begins: usize,
@@ -14,7 +14,7 @@ pub struct Part {
 }
 
 /// A part of a line of well formed parts, by its number, and what is wrong with it.
-#[derive(Clone, Copy, Debug, PartialEq, Eq)]
+#[derive(Clone, Copy)]
 pub struct Misfit {
     /// The part's number, from 0. It is the number of parts where one is missing.
     pub index: usize,

@@ -1,65 +1,79 @@
 //! The rows of the lines of a trace: each has the names of its parts.
 
 use rh_text::is_text;
-use thiserror::Error;
+use std::fmt;
 
 /// The row of a line that has parts after its keyword.
-#[derive(Clone, Copy, Debug, PartialEq, Eq, Error)]
+#[derive(Clone, Copy)]
 pub enum Row {
     /// A line of a keyword alone.
-    #[error("a keyword alone")]
     Alone,
     /// The first line.
-    #[error("heap WORDS RATIO LOG OWNERS SLOTS")]
     Heap,
     /// `alloc`.
-    #[error("OWNER alloc ROOT FIELDS")]
     Alloc,
     /// `raw`.
-    #[error("OWNER raw ROOT FIELDS")]
     Raw,
     /// `load`.
-    #[error("OWNER load DST SRC FIELD")]
     Load,
     /// `store`.
-    #[error("OWNER store OBJ FIELD OPERAND")]
     Store,
     /// `copy`.
-    #[error("OWNER copy DST SRC")]
     Copy,
     /// `same`.
-    #[error("OWNER same A B")]
     Same,
     /// `drop`.
-    #[error("OWNER drop ROOT")]
     Drop,
     /// `watch`.
-    #[error("OWNER watch ROOT")]
     Watch,
     /// `shade`.
-    #[error("shade ROOT")]
     Shade,
     /// `deal`.
-    #[error("deal copies MOST TRAY, or deal entries MOST TRAY")]
     Deal,
     /// `give`.
-    #[error("give TRAY")]
     Give,
     /// `join`.
-    #[error("join TRAY TRAY")]
     Join,
     /// `idle`.
-    #[error("idle N")]
     Idle,
     /// `resize`.
-    #[error("resize WORDS")]
     Resize,
     /// `tickets`.
-    #[error("tickets N")]
     Tickets,
     /// `unwatch`.
-    #[error("unwatch T")]
     Unwatch,
+}
+
+impl Row {
+    /// The row as it is written.
+    fn as_str(self) -> &'static str {
+        match self {
+            Row::Alone => "a keyword alone",
+            Row::Heap => "heap WORDS RATIO LOG OWNERS SLOTS",
+            Row::Alloc => "OWNER alloc ROOT FIELDS",
+            Row::Raw => "OWNER raw ROOT FIELDS",
+            Row::Load => "OWNER load DST SRC FIELD",
+            Row::Store => "OWNER store OBJ FIELD OPERAND",
+            Row::Copy => "OWNER copy DST SRC",
+            Row::Same => "OWNER same A B",
+            Row::Drop => "OWNER drop ROOT",
+            Row::Watch => "OWNER watch ROOT",
+            Row::Shade => "shade ROOT",
+            Row::Deal => "deal copies MOST TRAY, or deal entries MOST TRAY",
+            Row::Give => "give TRAY",
+            Row::Join => "join TRAY TRAY",
+            Row::Idle => "idle N",
+            Row::Resize => "resize WORDS",
+            Row::Tickets => "tickets N",
+            Row::Unwatch => "unwatch T",
+        }
+    }
+}
+
+impl fmt::Display for Row {
+    fn fmt<W: fmt::Write>(&self, f: &mut fmt::Formatter<W>) -> fmt::Result {
+        f.write_str(self.as_str())
+    }
 }
 
 /// The rows, by their keywords.
