@@ -1,26 +1,40 @@
 //! The lines of a dump, by what they have.
 
-use thiserror::Error;
+use std::fmt;
 
 /// The line that a dump has at a place, as it is written.
-#[derive(Clone, Copy, Debug, PartialEq, Eq, Error)]
+#[derive(Clone, Copy)]
 pub enum Due {
     /// The first line.
-    #[error("rheap 2")]
     Header,
     /// The line with the number of roots.
-    #[error("roots R")]
     Roots,
     /// The line of a root.
-    #[error("OWNER.SLOT VALUE")]
     Root,
     /// The line with the number of objects.
-    #[error("objects N")]
     Objects,
     /// The line of an object.
-    #[error("@K FIELDS VALUE .. or @K raw FIELDS VALUE ..")]
     Object,
     /// The last line.
-    #[error("end")]
     End,
+}
+
+impl Due {
+    /// The line as it is written.
+    fn as_str(self) -> &'static str {
+        match self {
+            Due::Header => "rheap 2",
+            Due::Roots => "roots R",
+            Due::Root => "OWNER.SLOT VALUE",
+            Due::Objects => "objects N",
+            Due::Object => "@K FIELDS VALUE .. or @K raw FIELDS VALUE ..",
+            Due::End => "end",
+        }
+    }
+}
+
+impl fmt::Display for Due {
+    fn fmt<W: fmt::Write>(&self, f: &mut fmt::Formatter<W>) -> fmt::Result {
+        f.write_str(self.as_str())
+    }
 }

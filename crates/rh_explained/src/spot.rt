@@ -8,7 +8,7 @@ use rh_explain::{Part, write_rows};
 use std::io::{self, Write};
 
 /// A line of a text, and the columns at which it fails.
-#[derive(Clone, Copy, Debug, PartialEq, Eq)]
+#[derive(Clone, Copy)]
 pub struct Spot<'a> {
     /// The line's number, from 1.
     pub number: u32,

@@ -9,7 +9,7 @@ use rh_explain::{fault_part, no_command_part};
 use rh_syntax::{Kind, TraceFault};
 
 /// How a trace is to be run.
-#[derive(Clone, Copy, Debug, PartialEq, Eq)]
+#[derive(Clone, Copy)]
 pub enum Way {
     /// With the lines of cycles.
     Plain,
