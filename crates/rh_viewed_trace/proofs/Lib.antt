@@ -3,6 +3,7 @@ pub mod InTurn
 pub mod EngineRuns
 pub mod Pieces
 pub mod Inputs
+pub mod LinesEndings
 pub mod ScriptRuns
 pub mod PlainRuns
 pub mod CommandRuns

@@ -1,10 +1,13 @@
 -- How a run of a trace ends, where its engine and its recorder begin as the trace says.
-use Rattle.std.proofs.Common.{◌≡◌, ◌⊎◌, ℕ, List, [], Option, Some, None, Ok, Err, inl, inr, refl, sym, ap, subst, ◌∙◌}
-use Rattle.std.specs.Prelude.{IfSome}
+use Rattle.std.proofs.Common.{◌≡◌, ◌⊎◌, ℕ, List, [], Option, Some, None, Result, Ok, Err, inl, inr, refl, sym, ap, subst, ◌∙◌}
+use Rattle.std.specs.Prelude.{◌↔◌, IfSome}
 use Rattle.std.specs.Io.KnownBytes.{Appends, Keeps}
 use Rattle.std.proofs.lemmas.List.{append-nil}
 use Rattle.rh_text.specs.Output.{AppendsLess, AppendsPrefix}
 use Rattle.rh_text.specs.lemmas.Appends.{Keeps-same}
+use Rattle.rh_mutator.specs.declared.config.ConfigFault.{ConfigFault}
+use Rattle.rh_core.specs.declared.errors.HeapError.{HeapError}
+use Rattle.rh_core.specs.declared.errors.HeapError.TheVariants as heap_errors
 use Rattle.rh_core.specs.Stat.{stat_of}
 use Rattle.rh_cycles.specs.declared.cycle.Cycle.{Cycle}
 use Rattle.rh_cycles.specs.Cycles.{ReaderState, cycles_of, new_reader}
@@ -12,11 +15,12 @@ use Rattle.rh_engine.specs.Engine.{EngineState}
 use Rattle.rh_syntax.specs.declared.fault.ParseError.{ParseError}
 use Rattle.rh_syntax.specs.declared.fault.ParseError.TheVariants as errors
 use Rattle.rh_syntax.specs.declared.fault.TraceFault.{TraceFault}
-use Rattle.rh_syntax.specs.declared.request.Request.{Request}
 use Rattle.rh_syntax.specs.Reading.{Fails, trace_of}
 use Rattle.rh_syntax.specs.Spelling.{Script}
-use Rattle.rh_replay.specs.History.{HistoryState, empty_history}
+use Rattle.rh_replay.specs.History.{empty_history}
 use Rattle.rh_replay.specs.Spelling.{spelling}
+use Rattle.rh_trace.specs.declared.stop.Stop.{Stop}
+use Rattle.rh_trace.specs.declared.stop.Stop.TheVariants as stops
 use Rattle.rh_trace.specs.declared.summary.Summary.{Summary}
 use Rattle.rh_trace.specs.Answers.{Answered}
 use Rattle.rh_trace.specs.Run.{answers_of, answers_to, new_run, summary_of}
@@ -24,10 +28,14 @@ use Rattle.rh_trace.specs.declared.run_fault.RunFault.TheVariants as faults
 use Rattle.rh_viewed_trace.specs.declared.telling.Telling.{Telling}
 use Rattle.rh_viewed_trace.specs.Cycles.{cycles_text, readings_to}
 use Rattle.rh_viewed_trace.specs.Run.{Ends, IsRun, KeepsAll, Written, history_with, lines_to, noted_text, run_cycles, run_history, told_of, viewed_of}
-use Rattle.rh_viewed_trace.specs.Runs.{IsStoppedIn, Runs, Seen, answers_in, cycles_in}
+use Rattle.rh_viewed_trace.specs.Runs.{IsStoppedIn, LinesEnd, Runs, Seen, answers_in, cycles_in}
 use Rattle.rh_viewed_trace.specs.Views.{views_text}
 use Rattle.rh_viewed_trace.proofs.EngineRuns.{EngineSteps, answers_to-runs, cycles_of-runs, engine_read, less_than_all, prefix_of_all}
 use Rattle.rh_viewed_trace.proofs.InTurn.{whole_prefix}
+
+-- one result isn't both
+err_no_ok : {X E : Type 0} (result : Result X E) (error : E) (value : X) → result ≡ Err error → result ≡ Ok value → ⊥
+err_no_ok result error value failed made = absurd cc
 
 -- what is kept grows by a prefix of any text
 kept_appends : (a b : Option (List ℕ)) → Keeps a b → Appends a b []
@@ -57,58 +65,55 @@ pub refused_first_of : (telling : Telling) (known a b c : Option (List ℕ)) →
 refused_first_of telling None a b c = tt
 refused_first_of telling (Some input) a b c = refused_first telling input a b c
 
--- the text of a history that began empty
-pub noted_is : (script : Script) (requests : List Request) (h : HistoryState) → requests ≡ script.requests → h ≡ empty_history script.header.owners script.header.slots → (answers : List Answered)
-    → noted_text h requests answers ≡ spelling (history_with script answers)
-noted_is script requests h asked empty answers =
-    ap (λ (x : HistoryState). noted_text x requests answers) empty ∙ ap (λ (r : List Request). noted_text (empty_history script.header.owners script.header.slots) r answers) asked
+-- a run whose lines began on the new engine of its script
+module _ (telling : Telling) (input : List ℕ) (script : Script) (s : EngineState × ReaderState) (w : Written)
+    (run : IsRun input script) (begins : s.0 ≡ new_run script) (reads : s.1 ≡ new_reader (stat_of (new_run script).heap)) where
+  -- how its lines end
+  abbrev EngineEnds : Result Summary Stop → Type 0
+  EngineEnds result = LinesEnd EngineSteps engine_read (λ e counted. counted) telling (empty_history script.header.owners script.header.slots) s script.requests result w
 
-module _ (telling : Telling) (input : List ℕ) (script : Script) (s : EngineState × ReaderState) (requests : List Request) (h : HistoryState) (w : Written)
-    (run : IsRun input script) (begins : s.0 ≡ new_run script) (reads : s.1 ≡ new_reader (stat_of (new_run script).heap)) (asked : requests ≡ script.requests) (empty : h ≡ empty_history script.header.owners script.header.slots) where
-  lines_are : lines_to s.0 requests ≡ viewed_of script
-  lines_are = ap (λ (x : EngineState). lines_to x requests) begins ∙ ap (lines_to (new_run script)) asked
+  lines_are : lines_to s.0 script.requests ≡ viewed_of script
+  lines_are = ap (λ (x : EngineState). lines_to x script.requests) begins
 
-  cycles_are : cycles_of s.1 (readings_to 2 s.0 requests) ≡ run_cycles script
+  cycles_are : cycles_of s.1 (readings_to 2 s.0 script.requests) ≡ run_cycles script
   cycles_are =
-      ap (λ (q : ReaderState). cycles_of q (readings_to 2 s.0 requests)) reads ∙ ap (λ (x : EngineState). cycles_of (new_reader (stat_of (new_run script).heap)) (readings_to 2 x requests)) begins
-      ∙ ap (λ (r : List Request). cycles_of (new_reader (stat_of (new_run script).heap)) (readings_to 2 (new_run script) r)) asked
+      ap (λ (q : ReaderState). cycles_of q (readings_to 2 s.0 script.requests)) reads
+      ∙ ap (λ (x : EngineState). cycles_of (new_reader (stat_of (new_run script).heap)) (readings_to 2 x script.requests)) begins
 
   -- what was played is what the run is answered, and its cycles
-  answers_are : (last : EngineState × ReaderState) (seen : List Seen) → Runs EngineSteps engine_read 2 s requests last seen → answers_in seen ≡ answers_of script
-  answers_are last seen runs = answers_to-runs 2 s requests last seen runs ∙ ap (λ (x : EngineState). answers_to x requests) begins ∙ ap (answers_to (new_run script)) asked
+  answers_are : (last : EngineState × ReaderState) (seen : List Seen) → Runs EngineSteps engine_read 2 s script.requests last seen → answers_in seen ≡ answers_of script
+  answers_are last seen runs = answers_to-runs 2 s script.requests last seen runs ∙ ap (λ (x : EngineState). answers_to x script.requests) begins
 
-  ended_are : (last : EngineState × ReaderState) (seen : List Seen) → Runs EngineSteps engine_read 2 s requests last seen → cycles_in seen ≡ run_cycles script
-  ended_are last seen runs = cycles_of-runs 2 s requests last seen runs ∙ cycles_are
+  ended_are : (last : EngineState × ReaderState) (seen : List Seen) → Runs EngineSteps engine_read 2 s script.requests last seen → cycles_in seen ≡ run_cycles script
+  ended_are last seen runs = cycles_of-runs 2 s script.requests last seen runs ∙ cycles_are
 
-  pub run_done : (last : EngineState × ReaderState) (summary : Summary) (seen : List Seen) → Runs EngineSteps engine_read 2 s requests last seen → summary ≡ summary_of (answers_in seen) → Appends w.old w.new (told_of telling requests (answers_in seen) summary)
-      → Appends w.history_old w.history_new (noted_text h requests (answers_in seen)) → Appends w.cycles_old w.cycles_new (cycles_text (cycles_in seen)) → Ends telling input (Ok summary) w
-  run_done last summary seen runs counted told noted cycled =
-      let answers = answers_in seen in
-      let is = answers_are last seen runs in
-      let sum = counted ∙ ap summary_of is in
-      let text = ap (λ (r : List Request). told_of telling r answers summary) asked ∙ ap (λ (xs : List Answered). told_of telling script.requests xs summary) is ∙ ap (told_of telling script.requests (answers_of script)) sum in (
+  pub run_done : (summary : Summary) → EngineEnds (Ok summary) → Ends telling input (Ok summary) w
+  run_done summary ends =
+      let is = answers_are ends.0 ends.1 ends.2 in
+      let sum = ends.3 ∙ ap summary_of is in
+      let text = ap (λ (xs : List Answered). told_of telling script.requests xs summary) is ∙ ap (told_of telling script.requests (answers_of script)) sum in (
         script,
         run,
         sum,
-        subst (Appends w.old w.new) text told,
-        subst (Appends w.history_old w.history_new) (noted_is script requests h asked empty answers ∙ ap (λ (xs : List Answered). spelling (history_with script xs)) is) noted,
-        subst (λ (cs : List Cycle). Appends w.cycles_old w.cycles_new (cycles_text cs)) (ended_are last seen runs) cycled,
+        subst (Appends w.old w.new) text ends.4,
+        subst (Appends w.history_old w.history_new) (ap (λ (xs : List Answered). spelling (history_with script xs)) is) ends.5,
+        subst (λ (cs : List Cycle). Appends w.cycles_old w.cycles_new (cycles_text cs)) (ended_are ends.0 ends.1 ends.2) ends.6,
       )
 
   -- what was written where the lines were stopped
-  stopped : IsStoppedIn EngineSteps engine_read telling s requests w.old w.new w.cycles_old w.cycles_new
+  stopped : IsStoppedIn EngineSteps engine_read telling s script.requests w.old w.new w.cycles_old w.cycles_new
       → AppendsPrefix w.old w.new (views_text telling (viewed_of script)) × AppendsPrefix w.cycles_old w.cycles_new (cycles_text (run_cycles script))
   stopped cut =
-      let texts = prefix_of_all telling s requests w.old w.new w.cycles_old w.cycles_new cut in (
+      let texts = prefix_of_all telling s script.requests w.old w.new w.cycles_old w.cycles_new cut in (
         subst (AppendsPrefix w.old w.new) (ap (views_text telling) lines_are) texts.0,
         subst (λ (cs : List Cycle). AppendsPrefix w.cycles_old w.cycles_new (cycles_text cs)) cycles_are texts.1,
       )
 
-  pub run_cut : (last : EngineState × ReaderState) → (IsStoppedIn EngineSteps engine_read telling s requests w.old w.new w.cycles_old w.cycles_new × Keeps w.history_old w.history_new)
-      ⊎ ((seen : List Seen) × Runs EngineSteps engine_read 2 s requests last seen × AppendsLess w.old w.new (told_of telling requests (answers_in seen) (summary_of (answers_in seen)))
-      × AppendsPrefix w.history_old w.history_new (noted_text h requests (answers_in seen)) × Appends w.cycles_old w.cycles_new (cycles_text (cycles_in seen)))
+  cut_ends : (last : EngineState × ReaderState) → (IsStoppedIn EngineSteps engine_read telling s script.requests w.old w.new w.cycles_old w.cycles_new × Keeps w.history_old w.history_new)
+      ⊎ ((seen : List Seen) × Runs EngineSteps engine_read 2 s script.requests last seen × AppendsLess w.old w.new (told_of telling script.requests (answers_in seen) (summary_of (answers_in seen)))
+      × AppendsPrefix w.history_old w.history_new (noted_text (empty_history script.header.owners script.header.slots) script.requests (answers_in seen)) × Appends w.cycles_old w.cycles_new (cycles_text (cycles_in seen)))
       → Ends telling input (Err faults.Write) w
-  run_cut last (inl early) =
+  cut_ends last (inl early) =
       let texts = stopped early.0 in (
         script,
         run,
@@ -116,18 +121,27 @@ module _ (telling : Telling) (input : List ℕ) (script : Script) (s : EngineSta
         kept_prefix w.history_old w.history_new (spelling (run_history script)) early.1,
         texts.1,
       )
-  run_cut last (inr cut) =
-      let answers = answers_in cut.0 in
-      let is = answers_are last cut.0 cut.1 in
-      let text = ap (λ (r : List Request). told_of telling r answers (summary_of answers)) asked ∙ ap (λ (xs : List Answered). told_of telling script.requests xs (summary_of xs)) is in (
+  cut_ends last (inr cut) =
+      let is = answers_are last cut.0 cut.1 in (
         script,
         run,
-        subst (AppendsLess w.old w.new) text cut.2,
-        subst (AppendsPrefix w.history_old w.history_new) (noted_is script requests h asked empty answers ∙ ap (λ (xs : List Answered). spelling (history_with script xs)) is) cut.3,
+        subst (AppendsLess w.old w.new) (ap (λ (xs : List Answered). told_of telling script.requests xs (summary_of xs)) is) cut.2,
+        subst (AppendsPrefix w.history_old w.history_new) (ap (λ (xs : List Answered). spelling (history_with script xs)) is) cut.3,
         whole_prefix w.cycles_old w.cycles_new (cycles_text (run_cycles script)) (subst (λ (cs : List Cycle). Appends w.cycles_old w.cycles_new (cycles_text cs)) (ended_are last cut.0 cut.1) cut.4),
       )
 
-  pub run_refused : IsStoppedIn EngineSteps engine_read telling s requests w.old w.new w.cycles_old w.cycles_new × Keeps w.history_old w.history_new → Ends telling input (Err faults.OutOfMemory) w
-  run_refused early =
+  pub run_cut : (result : Result Summary Stop) → result ≡ Err stops.Write → EngineEnds result → Ends telling input (Err faults.Write) w
+  run_cut result is ends =
+      let cut = subst EngineEnds is ends in
+      cut_ends cut.0 cut.1
+
+  pub run_refused : (result : Result Summary Stop) → result ≡ Err stops.OutOfMemory → EngineEnds result → Ends telling input (Err faults.OutOfMemory) w
+  run_refused result is ends =
+      let early = subst EngineEnds is ends in
       let texts = stopped early.0 in
       inr (script, run, texts.0, early.1, texts.1)
+
+-- sizes of which a heap was made have no fault
+pub no_fault : {H : Type 0} (fault : Option ConfigFault) (made : Result H HeapError) (heap : H) → ((f : ConfigFault) → (made ≡ Err (heap_errors.Config f)) ↔ (fault ≡ Some f)) → made ≡ Ok heap → fault ≡ None
+no_fault None made heap exact is = refl
+no_fault (Some f) made heap exact is = absurd (err_no_ok made (heap_errors.Config f) heap ((exact f).1 refl) is)

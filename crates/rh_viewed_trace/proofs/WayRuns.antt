@@ -1,5 +1,5 @@
 -- How runs of traces of commands end, where the heap and the recorder begin as the trace says.
-use Rattle.std.proofs.Common.{◌≡◌, ◌⊎◌, ℕ, suc, Bool, false, List, [], ◌∷◌, ◌++◌, Option, refl, None, Ok, Err, inl, inr, ap, subst, ◌∙◌}
+use Rattle.std.proofs.Common.{◌≡◌, ◌⊎◌, ℕ, suc, Bool, false, List, [], ◌∷◌, ◌++◌, Option, Result, refl, None, Ok, Err, inl, inr, ap, subst, ◌∙◌}
 use Rattle.std.specs.Io.KnownBytes.{Appends, Keeps}
 use Rattle.rh_text.specs.Output.{AppendsLess, AppendsPrefix}
 use Rattle.rh_mutator.specs.Config.{fault_of}
@@ -14,6 +14,9 @@ use Rattle.rh_growing.specs.Growing.{GrowingState, growing_step}
 use Rattle.rh_syntax.specs.declared.request.Request.{Request}
 use Rattle.rh_syntax.specs.Spelling.{Script}
 use Rattle.rh_replay.specs.History.{HistoryState, empty_history}
+use Rattle.rh_replay.specs.Spelling.{spelling}
+use Rattle.rh_trace.specs.declared.stop.Stop.{Stop}
+use Rattle.rh_trace.specs.declared.stop.Stop.TheVariants as stops
 use Rattle.rh_trace.specs.declared.summary.Summary.{Summary}
 use Rattle.rh_trace.specs.Answers.{Answered}
 use Rattle.rh_trace.specs.Run.{config_of, summary_of}
@@ -26,45 +29,30 @@ use Rattle.rh_paced_trace.specs.Run as paced
 use Rattle.rh_paced_trace.specs.Run.{IsCommandTrace, IsRun, new_run, sum_of, summary_to}
 use Rattle.rh_paced_trace.proofs.Played.{replies-unaided, summary-unaided, unaided_step}
 use Rattle.rh_viewed_trace.specs.declared.telling.Telling.{Telling}
-use Rattle.rh_viewed_trace.specs.Run.{Written, noted_text, told_of}
+use Rattle.rh_viewed_trace.specs.Run.{Written, history_with, noted_text, told_of}
 use Rattle.rh_viewed_trace.specs.Cycles.{cycles_by, cycles_text, first_read}
-use Rattle.rh_viewed_trace.specs.Runs.{CommandSteps, IsStoppedIn, Runs, Seen, answers_in, cycles_in, total_at}
+use Rattle.rh_viewed_trace.specs.Runs.{CommandSteps, IsStoppedIn, LinesEnd, Runs, Seen, answers_in, cycles_in, total_at}
 use Rattle.rh_viewed_trace.specs.Views.{numbered, views_text}
 use Rattle.rh_viewed_trace.specs.Ways.{EndsGrowing, EndsPaced, IsCut, IsStopped, IsTold, answered_by, growing_answered, growing_cycles, paced_answered, paced_cycles}
 use Rattle.rh_viewed_trace.proofs.CommandRuns.{by_steps, prefix_by_steps, total_at-answers}
 use Rattle.rh_viewed_trace.proofs.EngineRuns.{less_than_all}
-use Rattle.rh_viewed_trace.proofs.ScriptRuns.{keeps_all, kept_prefix, noted_is, unwritten}
+use Rattle.rh_viewed_trace.proofs.ScriptRuns.{keeps_all, kept_prefix, unwritten}
 use Rattle.rh_viewed_trace.proofs.InTurn.{whole_prefix}
 
 -- ---- texts of the requests of a script
 
-module _ (telling : Telling) (script : Script) (requests : List Request) (h : HistoryState) (w : Written)
-    (asked : requests ≡ script.requests) (empty : h ≡ empty_history script.header.owners script.header.slots) where
-  told_all : (answers : List Answered) (summary : Summary) (cycles : List Cycle) → Appends w.old w.new (told_of telling requests answers summary) → Appends w.history_old w.history_new (noted_text h requests answers)
-      → Appends w.cycles_old w.cycles_new (cycles_text cycles) → IsTold telling script answers summary cycles w
-  told_all answers summary cycles told noted cycled = (
-    subst (λ (r : List Request). Appends w.old w.new (told_of telling r answers summary)) asked told,
-    subst (Appends w.history_old w.history_new) (noted_is script requests h asked empty answers) noted,
-    cycled,
-  )
+-- the history that a script begins with
+abbrev begun : Script → HistoryState
+begun script = empty_history script.header.owners script.header.slots
 
-  cut_late : (answers : List Answered) (summary : Summary) (cycles : List Cycle) → AppendsLess w.old w.new (told_of telling requests answers summary) → AppendsPrefix w.history_old w.history_new (noted_text h requests answers)
-      → AppendsPrefix w.cycles_old w.cycles_new (cycles_text cycles) → IsCut telling script answers summary cycles w
-  cut_late answers summary cycles told noted cycled = (
-    subst (λ (r : List Request). AppendsLess w.old w.new (told_of telling r answers summary)) asked told,
-    subst (AppendsPrefix w.history_old w.history_new) (noted_is script requests h asked empty answers) noted,
-    cycled,
-  )
-
-  -- a write failed in the lines: not all of the text was written, and nothing of the history
-  cut_early : (answers : List Answered) (summary : Summary) (cycles : List Cycle) → Keeps w.history_old w.history_new → AppendsPrefix w.old w.new (views_text telling (numbered 2 requests answers))
-      → AppendsPrefix w.cycles_old w.cycles_new (cycles_text cycles) → IsCut telling script answers summary cycles w
-  cut_early answers summary cycles kept told =
-      cut_late answers summary cycles (less_than_all telling summary (views_text telling (numbered 2 requests answers)) w.old w.new told) (kept_prefix w.history_old w.history_new (noted_text h requests answers) kept)
-
-  stopped_at : (answers : List Answered) (cycles : List Cycle) → Keeps w.history_old w.history_new → AppendsPrefix w.old w.new (views_text telling (numbered 2 requests answers))
-      → AppendsPrefix w.cycles_old w.cycles_new (cycles_text cycles) → IsStopped telling script answers cycles w
-  stopped_at answers cycles kept told cycled = (subst (λ (r : List Request). AppendsPrefix w.old w.new (views_text telling (numbered 2 r answers))) asked told, kept, cycled)
+-- a write failed in the lines: not all of the text was written, and nothing of the history
+cut_early : (telling : Telling) (script : Script) (w : Written) (answers : List Answered) (summary : Summary) (cycles : List Cycle) → Keeps w.history_old w.history_new → AppendsPrefix w.old w.new (views_text telling (numbered 2 script.requests answers))
+    → AppendsPrefix w.cycles_old w.cycles_new (cycles_text cycles) → IsCut telling script answers summary cycles w
+cut_early telling script w answers summary cycles kept told cycled = (
+  less_than_all telling summary (views_text telling (numbered 2 script.requests answers)) w.old w.new told,
+  kept_prefix w.history_old w.history_new (spelling (history_with script answers)) kept,
+  cycled,
+)
 
 -- ---- a heap at a pace
 
@@ -88,68 +76,74 @@ cycles-unaided given c s (owned ∷ others) =
     let done = (paced_step s owned.0 owned.1).0 in
     ap (λ (cs : List Cycle). told_cycles (after_step c done).1 ++ cs) (cycles-unaided (λ i. given (suc i)) (after_step c done).0 done others)
 
-module _ (mark : Option ℕ) (telling : Telling) (input : List ℕ) (script : Script) (pace : Pace) (s : PacedState × CyclesState) (requests : List Request) (h : HistoryState) (w : Written)
-    (run : IsRun mark input script pace) (begins : s.0 ≡ new_run script pace) (reads : s.1 ≡ first_read s.0) (asked : requests ≡ script.requests) (empty : h ≡ empty_history script.header.owners script.header.slots) where
+module _ (mark : Option ℕ) (telling : Telling) (input : List ℕ) (script : Script) (pace : Pace) (s : PacedState × CyclesState) (w : Written)
+    (run : IsRun mark input script pace) (begins : s.0 ≡ new_run script pace) (reads : s.1 ≡ first_read s.0) where
+  -- how its lines end
+  abbrev PacedEnds : Result Summary Stop → Type 0
+  PacedEnds result = LinesEnd PacedSteps paced_read (λ x counted. total_at x counted) telling (begun script) s script.requests result w
+
   -- what nothing is given to is answered as in a paced run
-  paced_is : (given : ℕ → Unit {0}) → answered_by (replies_by unaided_step given s.0 (commands_in requests)) ≡ paced_answered script pace
-  paced_is given =
-      ap answered_by (replies-unaided given s.0 (commands_in requests)) ∙ ap (λ (x : PacedState). answered_by (paced_replies x (commands_in requests))) begins
-      ∙ ap (λ (r : List Request). answered_by (paced_replies (new_run script pace) (commands_in r))) asked
+  paced_is : (given : ℕ → Unit {0}) → answered_by (replies_by unaided_step given s.0 (commands_in script.requests)) ≡ paced_answered script pace
+  paced_is given = ap answered_by (replies-unaided given s.0 (commands_in script.requests)) ∙ ap (λ (x : PacedState). answered_by (paced_replies x (commands_in script.requests))) begins
 
   -- and has its cycles
-  paced_ends : (given : ℕ → Unit {0}) → cycles_by itself unaided_step given s.1 s.0 (commands_in requests) ≡ paced_cycles script pace
+  paced_ends : (given : ℕ → Unit {0}) → cycles_by itself unaided_step given s.1 s.0 (commands_in script.requests) ≡ paced_cycles script pace
   paced_ends given =
-      cycles-unaided given s.1 s.0 (commands_in requests) ∙ ap (λ (q : CyclesState). cycles_by itself unaided_step nothing_given q s.0 (commands_in requests)) reads
-      ∙ ap (λ (x : PacedState). cycles_by itself unaided_step nothing_given (first_read x) x (commands_in requests)) begins
-      ∙ ap (λ (r : List Request). cycles_by itself unaided_step nothing_given (first_read (new_run script pace)) (new_run script pace) (commands_in r)) asked
+      cycles-unaided given s.1 s.0 (commands_in script.requests) ∙ ap (λ (q : CyclesState). cycles_by itself unaided_step nothing_given q s.0 (commands_in script.requests)) reads
+      ∙ ap (λ (x : PacedState). cycles_by itself unaided_step nothing_given (first_read x) x (commands_in script.requests)) begins
 
-  paced_sum : (last : PacedState × CyclesState) (seen : List Seen) → Runs PacedSteps paced_read 2 s requests last seen
+  paced_sum : (last : PacedState × CyclesState) (seen : List Seen) → Runs PacedSteps paced_read 2 s script.requests last seen
       → (answers_in seen ≡ paced_answered script pace) × (total_at last.0 (summary_of (answers_in seen)) ≡ sum_of script pace) × (cycles_in seen ≡ paced_cycles script pace)
   paced_sum last seen runs =
-      let played = by_steps tt itself unaided_step 2 s requests last seen runs in
-      let commands = commands_in requests in
+      let played = by_steps tt itself unaided_step 2 s script.requests last seen runs in
+      let commands = commands_in script.requests in
       let replies = replies_by unaided_step played.0 s.0 commands in (
         played.1 ∙ paced_is played.0,
         ap (λ (xs : List Answered). total_at last.0 (summary_of xs)) played.1 ∙ total_at-answers last.0 replies ∙ ap (paced.summary_of replies) played.2 ∙ summary-unaided played.0 s.0 commands
-            ∙ ap (λ (x : PacedState). summary_to x commands) begins ∙ ap (λ (r : List Request). summary_to (new_run script pace) (commands_in r)) asked,
+            ∙ ap (λ (x : PacedState). summary_to x commands) begins,
         played.3 ∙ paced_ends played.0,
       )
 
-  pub paced_done : (last : PacedState × CyclesState) (summary : Summary) (seen : List Seen) → Runs PacedSteps paced_read 2 s requests last seen → summary ≡ total_at last.0 (summary_of (answers_in seen)) → Appends w.old w.new (told_of telling requests (answers_in seen) summary)
-      → Appends w.history_old w.history_new (noted_text h requests (answers_in seen)) → Appends w.cycles_old w.cycles_new (cycles_text (cycles_in seen)) → EndsPaced mark telling input (Ok summary) w
-  paced_done last summary seen runs sum told noted cycled =
-      let is = paced_sum last seen runs in
-      let whole = told_all telling script requests h w asked empty (answers_in seen) summary (cycles_in seen) told noted cycled in
-      (script, pace, run, sum ∙ is.1, subst (λ (cs : List Cycle). IsTold telling script (paced_answered script pace) summary cs w) is.2 (subst (λ (xs : List Answered). IsTold telling script xs summary (cycles_in seen) w) is.0 whole))
+  pub paced_done : (summary : Summary) → PacedEnds (Ok summary) → EndsPaced mark telling input (Ok summary) w
+  paced_done summary ends =
+      let is = paced_sum ends.0 ends.1 ends.2 in
+      let whole : IsTold telling script (answers_in ends.1) summary (cycles_in ends.1) w = (ends.4, ends.5, ends.6) in
+      (script, pace, run, ends.3 ∙ is.1, subst (λ (cs : List Cycle). IsTold telling script (paced_answered script pace) summary cs w) is.2 (subst (λ (xs : List Answered). IsTold telling script xs summary (cycles_in ends.1) w) is.0 whole))
 
-  paced_stop : IsStoppedIn PacedSteps paced_read telling s requests w.old w.new w.cycles_old w.cycles_new
-      → AppendsPrefix w.old w.new (views_text telling (numbered 2 requests (paced_answered script pace))) × AppendsPrefix w.cycles_old w.cycles_new (cycles_text (paced_cycles script pace))
+  paced_stop : IsStoppedIn PacedSteps paced_read telling s script.requests w.old w.new w.cycles_old w.cycles_new
+      → AppendsPrefix w.old w.new (views_text telling (numbered 2 script.requests (paced_answered script pace))) × AppendsPrefix w.cycles_old w.cycles_new (cycles_text (paced_cycles script pace))
   paced_stop cut =
-      let all = prefix_by_steps tt itself unaided_step telling s requests w.old w.new w.cycles_old w.cycles_new cut in (
-        subst (λ (xs : List Answered). AppendsPrefix w.old w.new (views_text telling (numbered 2 requests xs))) (paced_is all.0) all.1,
+      let all = prefix_by_steps tt itself unaided_step telling s script.requests w.old w.new w.cycles_old w.cycles_new cut in (
+        subst (λ (xs : List Answered). AppendsPrefix w.old w.new (views_text telling (numbered 2 script.requests xs))) (paced_is all.0) all.1,
         subst (λ (cs : List Cycle). AppendsPrefix w.cycles_old w.cycles_new (cycles_text cs)) (paced_ends all.0) all.2,
       )
 
-  pub paced_refused : IsStoppedIn PacedSteps paced_read telling s requests w.old w.new w.cycles_old w.cycles_new × Keeps w.history_old w.history_new → EndsPaced mark telling input (Err faults.OutOfMemory) w
-  paced_refused stopped =
-      let texts = paced_stop stopped.0 in
-      inr (script, pace, run, stopped_at telling script requests h w asked empty (paced_answered script pace) (paced_cycles script pace) stopped.1 texts.0 texts.1)
-
-  pub paced_cut : (last : PacedState × CyclesState) → (IsStoppedIn PacedSteps paced_read telling s requests w.old w.new w.cycles_old w.cycles_new × Keeps w.history_old w.history_new)
-      ⊎ ((seen : List Seen) × Runs PacedSteps paced_read 2 s requests last seen × AppendsLess w.old w.new (told_of telling requests (answers_in seen) (total_at last.0 (summary_of (answers_in seen))))
-      × AppendsPrefix w.history_old w.history_new (noted_text h requests (answers_in seen)) × Appends w.cycles_old w.cycles_new (cycles_text (cycles_in seen)))
+  paced_cuts : (last : PacedState × CyclesState) → (IsStoppedIn PacedSteps paced_read telling s script.requests w.old w.new w.cycles_old w.cycles_new × Keeps w.history_old w.history_new)
+      ⊎ ((seen : List Seen) × Runs PacedSteps paced_read 2 s script.requests last seen × AppendsLess w.old w.new (told_of telling script.requests (answers_in seen) (total_at last.0 (summary_of (answers_in seen))))
+      × AppendsPrefix w.history_old w.history_new (noted_text (begun script) script.requests (answers_in seen)) × Appends w.cycles_old w.cycles_new (cycles_text (cycles_in seen)))
       → EndsPaced mark telling input (Err faults.Write) w
-  paced_cut last (inl stopped) =
+  paced_cuts last (inl stopped) =
       let texts = paced_stop stopped.0 in
-      (script, pace, run, cut_early telling script requests h w asked empty (paced_answered script pace) (sum_of script pace) (paced_cycles script pace) stopped.1 texts.0 texts.1)
-  paced_cut last (inr cut) =
+      (script, pace, run, cut_early telling script w (paced_answered script pace) (sum_of script pace) (paced_cycles script pace) stopped.1 texts.0 texts.1)
+  paced_cuts last (inr cut) =
       let seen = cut.0 in
       let is = paced_sum last seen cut.1 in
       let total = total_at last.0 (summary_of (answers_in seen)) in
-      let whole = cut_late telling script requests h w asked empty (answers_in seen) total (cycles_in seen) cut.2 cut.3 (whole_prefix w.cycles_old w.cycles_new (cycles_text (cycles_in seen)) cut.4) in
+      let whole : IsCut telling script (answers_in seen) total (cycles_in seen) w = (cut.2, cut.3, whole_prefix w.cycles_old w.cycles_new (cycles_text (cycles_in seen)) cut.4) in
       let answered = subst (λ (xs : List Answered). IsCut telling script xs total (cycles_in seen) w) is.0 whole in
       let summed = subst (λ (sum : Summary). IsCut telling script (paced_answered script pace) sum (cycles_in seen) w) is.1 answered in
       (script, pace, run, subst (λ (cs : List Cycle). IsCut telling script (paced_answered script pace) (sum_of script pace) cs w) is.2 summed)
+
+  pub paced_cut : (result : Result Summary Stop) → result ≡ Err stops.Write → PacedEnds result → EndsPaced mark telling input (Err faults.Write) w
+  paced_cut result is ends =
+      let cut = subst PacedEnds is ends in
+      paced_cuts cut.0 cut.1
+
+  pub paced_refused : (result : Result Summary Stop) → result ≡ Err stops.OutOfMemory → PacedEnds result → EndsPaced mark telling input (Err faults.OutOfMemory) w
+  paced_refused result is ends =
+      let stopped = subst PacedEnds is ends in
+      let texts = paced_stop stopped.0 in
+      inr (script, pace, run, (texts.0, stopped.1, texts.1))
 
 -- ---- a heap that grows
 
@@ -159,74 +153,78 @@ within s = s.paced
 abbrev pub growing_read : GrowingState → CyclesState → ℕ → EntryCounts → CyclesState × Option Cycle
 growing_read s reader line entries = after_step reader s.paced
 
-module _ (at_most : ℕ) (telling : Telling) (input : List ℕ) (script : Script) (s : GrowingState × CyclesState) (requests : List Request) (h : HistoryState) (w : Written)
-    (run : IsGrowingRun at_most input script) (begins : s.0 ≡ new_growing_run script at_most) (reads : s.1 ≡ first_read s.0.paced) (asked : requests ≡ script.requests) (empty : h ≡ empty_history script.header.owners script.header.slots) where
-  growing_is : (given : ℕ → Bool) → answered_by (replies_by growing_step given s.0 (commands_in requests)) ≡ growing_answered script at_most given
-  growing_is given =
-      ap (λ (x : GrowingState). answered_by (replies_by growing_step given x (commands_in requests))) begins
-      ∙ ap (λ (r : List Request). answered_by (replies_by growing_step given (new_growing_run script at_most) (commands_in r))) asked
+module _ (at_most : ℕ) (telling : Telling) (input : List ℕ) (script : Script) (s : GrowingState × CyclesState) (w : Written)
+    (run : IsGrowingRun at_most input script) (begins : s.0 ≡ new_growing_run script at_most) (reads : s.1 ≡ first_read s.0.paced) where
+  -- how its lines end
+  abbrev GrowingEnds : Result Summary Stop → Type 0
+  GrowingEnds result = LinesEnd (CommandSteps growing_step) growing_read (λ x counted. total_at x.paced counted) telling (begun script) s script.requests result w
 
-  growing_ends : (given : ℕ → Bool) → cycles_by within growing_step given s.1 s.0 (commands_in requests) ≡ growing_cycles script at_most given
+  growing_is : (given : ℕ → Bool) → answered_by (replies_by growing_step given s.0 (commands_in script.requests)) ≡ growing_answered script at_most given
+  growing_is given = ap (λ (x : GrowingState). answered_by (replies_by growing_step given x (commands_in script.requests))) begins
+
+  growing_ends : (given : ℕ → Bool) → cycles_by within growing_step given s.1 s.0 (commands_in script.requests) ≡ growing_cycles script at_most given
   growing_ends given =
-      ap (λ (q : CyclesState). cycles_by within growing_step given q s.0 (commands_in requests)) reads
-      ∙ ap (λ (x : GrowingState). cycles_by within growing_step given (first_read x.paced) x (commands_in requests)) begins
-      ∙ ap (λ (r : List Request). cycles_by within growing_step given (first_read (new_growing_run script at_most).paced) (new_growing_run script at_most) (commands_in r)) asked
+      ap (λ (q : CyclesState). cycles_by within growing_step given q s.0 (commands_in script.requests)) reads
+      ∙ ap (λ (x : GrowingState). cycles_by within growing_step given (first_read x.paced) x (commands_in script.requests)) begins
 
   -- what they add up to, where this was given
-  growing_sum : (last : GrowingState × CyclesState) (seen : List Seen) → Runs (CommandSteps growing_step) growing_read 2 s requests last seen
+  growing_sum : (last : GrowingState × CyclesState) (seen : List Seen) → Runs (CommandSteps growing_step) growing_read 2 s script.requests last seen
       → (given : ℕ → Bool) × (answers_in seen ≡ growing_answered script at_most given) × (total_at last.0.paced (summary_of (answers_in seen)) ≡ growing_sum_of script at_most given)
       × (cycles_in seen ≡ growing_cycles script at_most given)
   growing_sum last seen runs =
-      let played = by_steps false within growing_step 2 s requests last seen runs in
+      let played = by_steps false within growing_step 2 s script.requests last seen runs in
       let given = played.0 in
-      let commands = commands_in requests in
+      let commands = commands_in script.requests in
       let replies = replies_by growing_step given s.0 commands in
-      let sum = λ (x : GrowingState) (r : List Request). paced.summary_of (replies_by growing_step given x (commands_in r)) (after_by growing_step given x (commands_in r)).paced in (
+      let sum = λ (x : GrowingState). paced.summary_of (replies_by growing_step given x commands) (after_by growing_step given x commands).paced in (
         given,
         played.1 ∙ growing_is given,
-        ap (λ (xs : List Answered). total_at last.0.paced (summary_of xs)) played.1 ∙ total_at-answers last.0.paced replies ∙ ap (λ (x : GrowingState). paced.summary_of replies x.paced) played.2
-            ∙ ap (λ (x : GrowingState). sum x requests) begins ∙ ap (sum (new_growing_run script at_most)) asked,
+        ap (λ (xs : List Answered). total_at last.0.paced (summary_of xs)) played.1 ∙ total_at-answers last.0.paced replies ∙ ap (λ (x : GrowingState). paced.summary_of replies x.paced) played.2 ∙ ap sum begins,
         played.3 ∙ growing_ends given,
       )
 
-  pub growing_done : (last : GrowingState × CyclesState) (summary : Summary) (seen : List Seen) → Runs (CommandSteps growing_step) growing_read 2 s requests last seen → summary ≡ total_at last.0.paced (summary_of (answers_in seen))
-      → Appends w.old w.new (told_of telling requests (answers_in seen) summary) → Appends w.history_old w.history_new (noted_text h requests (answers_in seen)) → Appends w.cycles_old w.cycles_new (cycles_text (cycles_in seen))
-      → EndsGrowing at_most telling input (Ok summary) w
-  growing_done last summary seen runs sum told noted cycled =
-      let is = growing_sum last seen runs in
-      let whole = told_all telling script requests h w asked empty (answers_in seen) summary (cycles_in seen) told noted cycled in
-      let answered = subst (λ (xs : List Answered). IsTold telling script xs summary (cycles_in seen) w) is.1 whole in
-      (script, is.0, run, sum ∙ is.2, subst (λ (cs : List Cycle). IsTold telling script (growing_answered script at_most is.0) summary cs w) is.3 answered)
+  pub growing_done : (summary : Summary) → GrowingEnds (Ok summary) → EndsGrowing at_most telling input (Ok summary) w
+  growing_done summary ends =
+      let is = growing_sum ends.0 ends.1 ends.2 in
+      let whole : IsTold telling script (answers_in ends.1) summary (cycles_in ends.1) w = (ends.4, ends.5, ends.6) in
+      let answered = subst (λ (xs : List Answered). IsTold telling script xs summary (cycles_in ends.1) w) is.1 whole in
+      (script, is.0, run, ends.3 ∙ is.2, subst (λ (cs : List Cycle). IsTold telling script (growing_answered script at_most is.0) summary cs w) is.3 answered)
 
-  growing_stop : IsStoppedIn (CommandSteps growing_step) growing_read telling s requests w.old w.new w.cycles_old w.cycles_new
-      → (given : ℕ → Bool) × AppendsPrefix w.old w.new (views_text telling (numbered 2 requests (growing_answered script at_most given))) × AppendsPrefix w.cycles_old w.cycles_new (cycles_text (growing_cycles script at_most given))
+  growing_stop : IsStoppedIn (CommandSteps growing_step) growing_read telling s script.requests w.old w.new w.cycles_old w.cycles_new
+      → (given : ℕ → Bool) × AppendsPrefix w.old w.new (views_text telling (numbered 2 script.requests (growing_answered script at_most given))) × AppendsPrefix w.cycles_old w.cycles_new (cycles_text (growing_cycles script at_most given))
   growing_stop cut =
-      let all = prefix_by_steps false within growing_step telling s requests w.old w.new w.cycles_old w.cycles_new cut in (
+      let all = prefix_by_steps false within growing_step telling s script.requests w.old w.new w.cycles_old w.cycles_new cut in (
         all.0,
-        subst (λ (xs : List Answered). AppendsPrefix w.old w.new (views_text telling (numbered 2 requests xs))) (growing_is all.0) all.1,
+        subst (λ (xs : List Answered). AppendsPrefix w.old w.new (views_text telling (numbered 2 script.requests xs))) (growing_is all.0) all.1,
         subst (λ (cs : List Cycle). AppendsPrefix w.cycles_old w.cycles_new (cycles_text cs)) (growing_ends all.0) all.2,
       )
 
-  pub growing_refused : IsStoppedIn (CommandSteps growing_step) growing_read telling s requests w.old w.new w.cycles_old w.cycles_new × Keeps w.history_old w.history_new → EndsGrowing at_most telling input (Err faults.OutOfMemory) w
-  growing_refused stopped =
-      let all = growing_stop stopped.0 in
-      inr (script, all.0, run, stopped_at telling script requests h w asked empty (growing_answered script at_most all.0) (growing_cycles script at_most all.0) stopped.1 all.1 all.2)
-
-  pub growing_cut : (last : GrowingState × CyclesState) → (IsStoppedIn (CommandSteps growing_step) growing_read telling s requests w.old w.new w.cycles_old w.cycles_new × Keeps w.history_old w.history_new)
-      ⊎ ((seen : List Seen) × Runs (CommandSteps growing_step) growing_read 2 s requests last seen × AppendsLess w.old w.new (told_of telling requests (answers_in seen) (total_at last.0.paced (summary_of (answers_in seen))))
-      × AppendsPrefix w.history_old w.history_new (noted_text h requests (answers_in seen)) × Appends w.cycles_old w.cycles_new (cycles_text (cycles_in seen)))
+  growing_cuts : (last : GrowingState × CyclesState) → (IsStoppedIn (CommandSteps growing_step) growing_read telling s script.requests w.old w.new w.cycles_old w.cycles_new × Keeps w.history_old w.history_new)
+      ⊎ ((seen : List Seen) × Runs (CommandSteps growing_step) growing_read 2 s script.requests last seen × AppendsLess w.old w.new (told_of telling script.requests (answers_in seen) (total_at last.0.paced (summary_of (answers_in seen))))
+      × AppendsPrefix w.history_old w.history_new (noted_text (begun script) script.requests (answers_in seen)) × Appends w.cycles_old w.cycles_new (cycles_text (cycles_in seen)))
       → EndsGrowing at_most telling input (Err faults.Write) w
-  growing_cut last (inl stopped) =
+  growing_cuts last (inl stopped) =
       let all = growing_stop stopped.0 in
-      (script, all.0, run, cut_early telling script requests h w asked empty (growing_answered script at_most all.0) (growing_sum_of script at_most all.0) (growing_cycles script at_most all.0) stopped.1 all.1 all.2)
-  growing_cut last (inr cut) =
+      (script, all.0, run, cut_early telling script w (growing_answered script at_most all.0) (growing_sum_of script at_most all.0) (growing_cycles script at_most all.0) stopped.1 all.1 all.2)
+  growing_cuts last (inr cut) =
       let seen = cut.0 in
       let is = growing_sum last seen cut.1 in
       let total = total_at last.0.paced (summary_of (answers_in seen)) in
-      let whole = cut_late telling script requests h w asked empty (answers_in seen) total (cycles_in seen) cut.2 cut.3 (whole_prefix w.cycles_old w.cycles_new (cycles_text (cycles_in seen)) cut.4) in
+      let whole : IsCut telling script (answers_in seen) total (cycles_in seen) w = (cut.2, cut.3, whole_prefix w.cycles_old w.cycles_new (cycles_text (cycles_in seen)) cut.4) in
       let answered = subst (λ (xs : List Answered). IsCut telling script xs total (cycles_in seen) w) is.1 whole in
       let summed = subst (λ (sum : Summary). IsCut telling script (growing_answered script at_most is.0) sum (cycles_in seen) w) is.2 answered in
       (script, is.0, run, subst (λ (cs : List Cycle). IsCut telling script (growing_answered script at_most is.0) (growing_sum_of script at_most is.0) cs w) is.3 summed)
+
+  pub growing_cut : (result : Result Summary Stop) → result ≡ Err stops.Write → GrowingEnds result → EndsGrowing at_most telling input (Err faults.Write) w
+  growing_cut result is ends =
+      let cut = subst GrowingEnds is ends in
+      growing_cuts cut.0 cut.1
+
+  pub growing_refused : (result : Result Summary Stop) → result ≡ Err stops.OutOfMemory → GrowingEnds result → EndsGrowing at_most telling input (Err faults.OutOfMemory) w
+  growing_refused result is ends =
+      let stopped = subst GrowingEnds is ends in
+      let all = growing_stop stopped.0 in
+      inr (script, all.0, run, (all.1, stopped.1, all.2))
 
 -- why there is no heap that grows so: nothing was written
 pub ends_ungrown : (at_most : ℕ) (telling : Telling) (input : List ℕ) (script : Script) (fault : PacedFault) (a b c : Option (List ℕ)) → IsCommandTrace input script → fault_of (config_of script.header) ≡ None

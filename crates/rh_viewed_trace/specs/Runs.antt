@@ -1,5 +1,6 @@
 -- Requests run one after the other on what plays them.
-use Rattle.std.specs.Prelude.{◌≡◌, ℕ, ◌+◌, List, [], ◌∷◌, map, take, Option, Result}
+use Rattle.std.specs.Prelude.{◌≡◌, ◌⊎◌, ℕ, ◌+◌, List, [], ◌∷◌, map, take, Option, Result, Ok, Err}
+use Rattle.std.specs.Io.KnownBytes.{Appends, Keeps}
 use Rattle.std.specs.List.{flat_map}
 use Rattle.rh_layout.specs.declared.command.Command.{Command}
 use Rattle.rh_layout.specs.declared.command.Reply.{Reply}
@@ -8,14 +9,19 @@ use Rattle.rh_pace.specs.Paced.{PacedState}
 use Rattle.rh_cycles.specs.declared.cycle.Cycle.{Cycle}
 use Rattle.rh_cycles.specs.declared.cycle.EntryCounts.{EntryCounts}
 use Rattle.rh_cycles.specs.Cycles.{told_cycles}
-use Rattle.rh_text.specs.Output.{AppendsPrefix}
+use Rattle.rh_text.specs.Output.{AppendsLess, AppendsPrefix}
 use Rattle.rh_syntax.specs.declared.request.Request.{Request}
 use Rattle.rh_syntax.specs.declared.request.Request.TheVariants as requests
+use Rattle.rh_replay.specs.History.{HistoryState}
+use Rattle.rh_trace.specs.declared.stop.Stop.{Stop}
+use Rattle.rh_trace.specs.declared.stop.Stop.TheVariants as stops
 use Rattle.rh_trace.specs.declared.summary.Summary.{Summary}
 use Rattle.rh_trace.specs.Answers as answers
 use Rattle.rh_trace.specs.Answers.{Answered}
+use Rattle.rh_trace.specs.Run.{summary_of}
 use Rattle.rh_viewed_trace.specs.declared.telling.Telling.{Telling}
 use Rattle.rh_viewed_trace.specs.Cycles.{cycles_text, entries_of}
+use Rattle.rh_viewed_trace.specs.Run.{Written, noted_text, told_of}
 use Rattle.rh_viewed_trace.specs.Views.{numbered, views_text}
 
 -- what is seen of a line: what it was answered, and the cycle that ended at it
@@ -56,6 +62,30 @@ module _ {S R : Type 0} (Steps : S → Request → S → Answered → Type 0)
       (k : ℕ) × (last : S × R) × (seen : List Seen) × Runs 2 s (take k requests) last seen
       × AppendsPrefix old new (views_text telling (numbered 2 (take k requests) (answers_in seen)))
       × AppendsPrefix cycles_old cycles_new (cycles_text (cycles_in seen))
+
+  -- How lines end whose history begins so, and which the player totals so: with all texts written;
+  -- where a write failed in the lines, or after them with a prefix of each text and not all of the
+  -- first; and where memory was refused in the lines. Nothing of the history is written in the lines.
+  abbrev pub LinesEnd : (S → Summary → Summary) → Telling → HistoryState → S × R → List Request
+      → Result Summary Stop → Written → Type 0
+  LinesEnd total telling h s requests (Ok summary) w =
+      (last : S × R) × (seen : List Seen) × Runs 2 s requests last seen
+      × (summary ≡ total last.0 (summary_of (answers_in seen)))
+      × Appends w.old w.new (told_of telling requests (answers_in seen) summary)
+      × Appends w.history_old w.history_new (noted_text h requests (answers_in seen))
+      × Appends w.cycles_old w.cycles_new (cycles_text (cycles_in seen))
+  LinesEnd total telling h s requests (Err stops.Write) w =
+      (last : S × R)
+      × ((IsStoppedIn telling s requests w.old w.new w.cycles_old w.cycles_new
+      × Keeps w.history_old w.history_new)
+      ⊎ ((seen : List Seen) × Runs 2 s requests last seen
+      × AppendsLess w.old w.new
+      (told_of telling requests (answers_in seen) (total last.0 (summary_of (answers_in seen))))
+      × AppendsPrefix w.history_old w.history_new (noted_text h requests (answers_in seen))
+      × Appends w.cycles_old w.cycles_new (cycles_text (cycles_in seen))))
+  LinesEnd total telling h s requests (Err stops.OutOfMemory) w =
+      IsStoppedIn telling s requests w.old w.new w.cycles_old w.cycles_new
+      × Keeps w.history_old w.history_new
 
 module _ {X S : Type 0} (step : X → S → ℕ → Command → S × Result Reply Refusal) where
   -- A heap that collects by itself plays commands alone. Each is one step of it, in which something

@@ -1,26 +1,112 @@
 //! A trace of commands, run on a new heap that grows by itself, and seen in other ways.
 
-ghost use Rattle.std.specs.Prelude.{◌≡◌, ◌≤◌, List, ℕ, length, false, IfOk, IfSome, IsErrOf};
+ghost use Rattle.std.specs.Prelude.{◌≡◌, ◌<◌, ◌≤◌, List, ℕ, None, length, false, IfOk, IfSome, IsErrOf};
 ghost use Rattle.std.specs.Io.KnownBytes.{Consumes};
+ghost use Rattle.rh_mutator.specs.Config.{fault_of};
 ghost use Rattle.rh_text.specs.IoLog.{AreSpent, CountsDown};
+ghost use Rattle.rh_trace.specs.Run.{config_of};
+ghost use Rattle.rh_paced_trace.specs.Growing.{IsGrowingRun, new_growing_run};
+ghost use Rattle.rh_viewed_trace.specs.Run.{IsTrace};
 ghost use Rattle.rh_viewed_trace.specs.Ways.{EndsGrowing, IsToldPlainly};
 
 use crate::collecting::first_read;
 use crate::laws::the_history_of_plain_replies_is_legal;
-use crate::lines::run_lines;
-use crate::recording::recorder_for;
-use crate::stop::Stop;
+use crate::lines::run_trace;
 use crate::telling::Telling;
-use rh_layout::OutOfMemory;
-use rh_layout::limits::MAX_INPUT_BYTES;
+use rh_growing::GrowingHeap;
+use rh_layout::limits::{MAX_INPUT_BYTES, MAX_LINES};
 use rh_paced_trace::laws::growing::growing_heaps_answer_traces_as_plain_heaps;
-use rh_paced_trace::laws::the_first_line_that_is_no_command_is_told;
 use rh_paced_trace::{PacedFault, growth_of, new_heap, other_fault};
-use rh_syntax::{ParseError, parse};
+use rh_syntax::{ParseError, Trace, parse};
 use rh_text::{InputFault, IoLog, read_all};
-use rh_trace::{Summary, config_of};
+use rh_trace::{Stop, Summary, config_of};
 use std::alloc::Allocator;
 use std::io;
+
+/// Runs the commands of a trace on its new heap.
+fn run_heap<A: Allocator + Copy, W: io::Write, H: io::Write, C: io::Write>(
+    alloc: A,
+    heap: &mut GrowingHeap<A>,
+    trace: &Trace<A>,
+    telling: Telling,
+    out: &mut W,
+    history: &mut H,
+    cycles: &mut C,
+    writes: &mut IoLog,
+) -> Result<Summary, PacedFault>
+    requires sizes { fault_of (config_of trace.now.header) ≡ None }
+    requires none_failed { writes.old.failed ≡ false }
+    ensures ends { (at_most : ℕ) (input : List ℕ) → IsGrowingRun at_most input trace.now
+        → heap.old ≡ new_growing_run trace.now at_most
+        → EndsGrowing at_most telling input result (record {
+          old = W.contents out.old;
+          new = W.contents out.new;
+          history_old = H.contents history.old;
+          history_new = H.contents history.new;
+          cycles_old = C.contents cycles.old;
+          cycles_new = C.contents cycles.new;
+        }) }
+    ensures never_read { ¬ IsErrOf result PacedFault.Read }
+    ensures failed { IsErrOf result PacedFault.Write → AreSpent writes.new }
+    ensures none_failed { ¬ IsErrOf result PacedFault.Write → writes.new.failed ≡ false }
+{
+    let mut reader = first_read(heap.paced());
+    match run_trace(
+        alloc,
+        heap,
+        &mut reader,
+        trace,
+        telling,
+        out,
+        history,
+        cycles,
+        writes,
+    ) {
+        Ok(summary) => Ok(summary),
+        Err(Stop::Write) => Err(PacedFault::Write),
+        Err(Stop::OutOfMemory) => Err(PacedFault::OutOfMemory),
+    }
+}
+
+/// Runs a trace that was read.
+fn run_read<A: Allocator + Copy, W: io::Write, H: io::Write, C: io::Write>(
+    alloc: A,
+    trace: &Trace<A>,
+    at_most: u32,
+    telling: Telling,
+    out: &mut W,
+    history: &mut H,
+    cycles: &mut C,
+    writes: &mut IoLog,
+) -> Result<Summary, PacedFault>
+    requires few { length trace.now.requests < MAX_LINES }
+    requires none_failed { writes.old.failed ≡ false }
+    ensures ends { (input : List ℕ) → IsTrace input trace.now
+        → EndsGrowing at_most telling input result (record {
+          old = W.contents out.old;
+          new = W.contents out.new;
+          history_old = H.contents history.old;
+          history_new = H.contents history.new;
+          cycles_old = C.contents cycles.old;
+          cycles_new = C.contents cycles.new;
+        }) }
+    ensures never_read { ¬ IsErrOf result PacedFault.Read }
+    ensures failed { IsErrOf result PacedFault.Write → AreSpent writes.new }
+    ensures none_failed { ¬ IsErrOf result PacedFault.Write → writes.new.failed ≡ false }
+{
+    if let Some(fault) = other_fault(trace.requests()) {
+        return Err(PacedFault::Trace(fault));
+    }
+    if let Some(fault) = config_of(trace.header()).fault() {
+        return Err(PacedFault::New(fault));
+    }
+    match new_heap(alloc, growth_of(trace.header(), trace.requests(), at_most)) {
+        Ok(mut heap) => run_heap(
+            alloc, &mut heap, trace, telling, out, history, cycles, writes,
+        ),
+        Err(fault) => Err(fault),
+    }
+}
 
 /// Runs the trace of commands that the input spells.
 fn run_input<A: Allocator + Copy, W: io::Write, H: io::Write, C: io::Write>(
@@ -47,45 +133,12 @@ fn run_input<A: Allocator + Copy, W: io::Write, H: io::Write, C: io::Write>(
     ensures failed { IsErrOf result PacedFault.Write → AreSpent writes.new }
     ensures none_failed { ¬ IsErrOf result PacedFault.Write → writes.new.failed ≡ false }
 {
-    // The law from which it follows that all lines are commands.
-    the_first_line_that_is_no_command_is_told();
-    let trace = match parse(alloc, input) {
-        Ok(trace) => trace,
-        Err(ParseError::Fault(fault)) => return Err(PacedFault::Trace(fault)),
-        Err(ParseError::OutOfMemory) => return Err(PacedFault::OutOfMemory),
-    };
-    let lines = trace.len();
-    if let Some(fault) = other_fault(trace.requests()) {
-        return Err(PacedFault::Trace(fault));
-    }
-    if let Some(fault) = config_of(trace.header()).fault() {
-        return Err(PacedFault::New(fault));
-    }
-    let growth = growth_of(trace.header(), trace.requests(), at_most);
-    let mut heap = match new_heap(alloc, growth) {
-        Ok(heap) => heap,
-        Err(fault) => return Err(fault),
-    };
-    let mut recorder = match recorder_for(alloc, trace.header(), lines) {
-        Ok(recorder) => recorder,
-        Err(OutOfMemory) => return Err(PacedFault::OutOfMemory),
-    };
-    let mut reader = first_read(heap.paced());
-    match run_lines(
-        alloc,
-        &mut heap,
-        &mut reader,
-        trace.requests(),
-        telling,
-        &mut recorder,
-        out,
-        history,
-        cycles,
-        writes,
-    ) {
-        Ok(summary) => Ok(summary),
-        Err(Stop::Write) => Err(PacedFault::Write),
-        Err(Stop::OutOfMemory) => Err(PacedFault::OutOfMemory),
+    match parse(alloc, input) {
+        Ok(trace) => run_read(
+            alloc, &trace, at_most, telling, out, history, cycles, writes,
+        ),
+        Err(ParseError::Fault(fault)) => Err(PacedFault::Trace(fault)),
+        Err(ParseError::OutOfMemory) => Err(PacedFault::OutOfMemory),
     }
 }
 

@@ -19,7 +19,6 @@ mod reports;
 mod request_text;
 mod running;
 mod sort;
-mod stop;
 mod telling;
 mod viewing;
 

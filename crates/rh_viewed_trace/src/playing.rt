@@ -17,7 +17,6 @@ ghost use Rattle.rh_viewed_trace.specs.Views.{numbered, told_text, views_text};
 
 use crate::answering::put_line;
 use crate::player::Player;
-use crate::stop::Stop;
 use crate::telling::Telling;
 use crate::viewing::{is_structured, put_view};
 use rh_cycles::{Cycle, EntryCounts, HEADER, put_cycle};
@@ -25,7 +24,7 @@ use rh_layout::{Command, OutOfMemory, Refusal, Reply};
 use rh_replay::Recorder;
 use rh_syntax::{Request, put_answer_text};
 use rh_text::{IoLog, LineText, send};
-use rh_trace::Summary;
+use rh_trace::{Stop, Summary};
 use std::alloc::Allocator;
 use std::io;
 

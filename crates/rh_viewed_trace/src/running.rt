@@ -1,19 +1,18 @@
 //! A trace run on a new heap, and seen in other ways.
 
-ghost use Rattle.std.specs.Prelude.{◌≡◌, ◌≤◌, List, ℕ, length, false, IfOk, IfSome, IsErrOf};
+ghost use Rattle.std.specs.Prelude.{◌≡◌, ◌≤◌, List, ℕ, None, length, false, IfOk, IfSome, IsErrOf};
 ghost use Rattle.std.specs.Io.KnownBytes.{Appends, Consumes};
+ghost use Rattle.rh_core.specs.Config.{fault_of};
 ghost use Rattle.rh_text.specs.IoLog.{AreSpent, CountsDown};
 ghost use Rattle.rh_syntax.specs.Spelling.{Script};
 ghost use Rattle.rh_replay.specs.Legal.{IsLegal};
 ghost use Rattle.rh_replay.specs.Spelling.{spelling};
 ghost use Rattle.rh_trace.specs.Answers.{Answered};
-ghost use Rattle.rh_trace.specs.Run.{IsPlainRun, summary_of};
-ghost use Rattle.rh_viewed_trace.specs.Run.{Ends, history_with, told_of};
+ghost use Rattle.rh_trace.specs.Run.{IsPlainRun, config_of, new_run, summary_of};
+ghost use Rattle.rh_viewed_trace.specs.Run.{Ends, IsTrace, history_with, told_of};
 
 use crate::laws::the_history_of_plain_answers_is_legal;
-use crate::lines::run_lines;
-use crate::recording::recorder_for;
-use crate::stop::Stop;
+use crate::lines::run_trace;
 use crate::telling::Telling;
 use rh_core::laws::heaps_answer_as_plain_heaps;
 use rh_core::laws::runs::{
@@ -23,14 +22,99 @@ use rh_core::laws::runs::{
 use rh_core::{Heap, HeapError};
 use rh_cycles::CycleReader;
 use rh_engine::Engine;
-use rh_layout::OutOfMemory;
 use rh_layout::limits::MAX_INPUT_BYTES;
-use rh_syntax::{ParseError, parse};
+use rh_syntax::{ParseError, Trace, parse};
 use rh_text::{InputFault, IoLog, read_all};
 use rh_trace::laws::dumps::a_heap_has_the_dump_of_its_plain_heap;
-use rh_trace::{RunFault, Summary, config_of};
+use rh_trace::{RunFault, Stop, Summary, config_of};
 use std::alloc::Allocator;
 use std::io;
+
+/// Runs the lines of a trace on its new engine.
+fn run_engine<A: Allocator + Copy, W: io::Write, H: io::Write, C: io::Write>(
+    alloc: A,
+    engine: &mut Engine<A>,
+    trace: &Trace<A>,
+    telling: Telling,
+    out: &mut W,
+    history: &mut H,
+    cycles: &mut C,
+    writes: &mut IoLog,
+) -> Result<Summary, RunFault>
+    requires begins { engine.old ≡ new_run trace.now }
+    requires sizes { fault_of (config_of trace.now.header) ≡ None }
+    requires none_failed { writes.old.failed ≡ false }
+    ensures ends { (input : List ℕ) → IsTrace input trace.now → Ends telling input result (record {
+      old = W.contents out.old;
+      new = W.contents out.new;
+      history_old = H.contents history.old;
+      history_new = H.contents history.new;
+      cycles_old = C.contents cycles.old;
+      cycles_new = C.contents cycles.new;
+    }) }
+    ensures never_read { ¬ IsErrOf result RunFault.Read }
+    ensures failed { IsErrOf result RunFault.Write → AreSpent writes.new }
+    ensures none_failed { ¬ IsErrOf result RunFault.Write → writes.new.failed ≡ false }
+{
+    let mut reader = CycleReader::new(&engine.heap().stat());
+    match run_trace(
+        alloc,
+        engine,
+        &mut reader,
+        trace,
+        telling,
+        out,
+        history,
+        cycles,
+        writes,
+    ) {
+        Ok(summary) => Ok(summary),
+        Err(Stop::Write) => Err(RunFault::Write),
+        Err(Stop::OutOfMemory) => Err(RunFault::OutOfMemory),
+    }
+}
+
+/// Runs a trace that was read.
+fn run_read<A: Allocator + Copy, W: io::Write, H: io::Write, C: io::Write>(
+    alloc: A,
+    trace: &Trace<A>,
+    telling: Telling,
+    out: &mut W,
+    history: &mut H,
+    cycles: &mut C,
+    writes: &mut IoLog,
+) -> Result<Summary, RunFault>
+    requires none_failed { writes.old.failed ≡ false }
+    ensures ends { (input : List ℕ) → IsTrace input trace.now → Ends telling input result (record {
+      old = W.contents out.old;
+      new = W.contents out.new;
+      history_old = H.contents history.old;
+      history_new = H.contents history.new;
+      cycles_old = C.contents cycles.old;
+      cycles_new = C.contents cycles.new;
+    }) }
+    ensures never_read { ¬ IsErrOf result RunFault.Read }
+    ensures failed { IsErrOf result RunFault.Write → AreSpent writes.new }
+    ensures none_failed { ¬ IsErrOf result RunFault.Write → writes.new.failed ≡ false }
+{
+    match Heap::new(alloc, config_of(trace.header())) {
+        Ok(heap) => {
+            let mut engine = Engine::new(alloc, heap);
+            run_engine(
+                alloc,
+                &mut engine,
+                trace,
+                telling,
+                out,
+                history,
+                cycles,
+                writes,
+            )
+        }
+        Err(HeapError::Config(fault)) => Err(RunFault::New(fault)),
+        Err(HeapError::OutOfMemory) => Err(RunFault::OutOfMemory),
+    }
+}
 
 /// Runs the trace that the input spells.
 fn run_input<A: Allocator + Copy, W: io::Write, H: io::Write, C: io::Write>(
@@ -56,41 +140,10 @@ fn run_input<A: Allocator + Copy, W: io::Write, H: io::Write, C: io::Write>(
     ensures failed { IsErrOf result RunFault.Write → AreSpent writes.new }
     ensures none_failed { ¬ IsErrOf result RunFault.Write → writes.new.failed ≡ false }
 {
-    let trace = match parse(alloc, input) {
-        Ok(trace) => trace,
-        Err(ParseError::Fault(fault)) => return Err(RunFault::Trace(fault)),
-        Err(ParseError::OutOfMemory) => return Err(RunFault::OutOfMemory),
-    };
-    let config = config_of(trace.header());
-    if let Some(fault) = config.fault() {
-        return Err(RunFault::New(fault));
-    }
-    let heap = match Heap::new(alloc, config) {
-        Ok(heap) => heap,
-        Err(HeapError::Config(fault)) => return Err(RunFault::New(fault)),
-        Err(HeapError::OutOfMemory) => return Err(RunFault::OutOfMemory),
-    };
-    let mut recorder = match recorder_for(alloc, trace.header(), trace.len()) {
-        Ok(recorder) => recorder,
-        Err(OutOfMemory) => return Err(RunFault::OutOfMemory),
-    };
-    let mut reader = CycleReader::new(&heap.stat());
-    let mut engine = Engine::new(alloc, heap);
-    match run_lines(
-        alloc,
-        &mut engine,
-        &mut reader,
-        trace.requests(),
-        telling,
-        &mut recorder,
-        out,
-        history,
-        cycles,
-        writes,
-    ) {
-        Ok(summary) => Ok(summary),
-        Err(Stop::Write) => Err(RunFault::Write),
-        Err(Stop::OutOfMemory) => Err(RunFault::OutOfMemory),
+    match parse(alloc, input) {
+        Ok(trace) => run_read(alloc, &trace, telling, out, history, cycles, writes),
+        Err(ParseError::Fault(fault)) => Err(RunFault::Trace(fault)),
+        Err(ParseError::OutOfMemory) => Err(RunFault::OutOfMemory),
     }
 }
 
