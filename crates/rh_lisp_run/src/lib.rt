@@ -10,4 +10,4 @@ mod running;
 pub use fault::LispFault;
 pub use limits::{HeapWords, Limits, MAX_OUTPUT, MAX_TEXT_BYTES, MOST_STEPS};
 pub use rh_lisp::{Fault, FaultKind, Outcome, Program, Source};
-pub use running::{Ended, program_of, run_lisp, run_program};
+pub use running::{Ended, program_of, run_lisp, run_lisp_logged, run_program};
