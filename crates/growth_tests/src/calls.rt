@@ -1,5 +1,6 @@
 //! Each call of a heap that grows, as it is meant, and the texts of its faults.
 
+use crate::expectations::expect_equal;
 use rh_core::HeapError;
 use rh_growing::{GrowingError, GrowingHeap, Growth};
 use rh_layout::{Command, Operand, Reply, RootId};
@@ -55,7 +56,7 @@ const FAULTS: &[(GrowingError, &str)] = &[
 /// Ends the test unless the heap makes the answers of the rows.
 fn expect_rows<R: Abort, A: Allocator + Copy>(rt: &R, heap: &mut GrowingHeap<A>) {
     for (command, reply) in ROWS {
-        assert_eq!(rt; heap.command(1, command), Ok(*reply));
+        expect_equal(rt, heap.command(1, command), Ok(*reply));
     }
 }
 
@@ -64,35 +65,47 @@ fn expect_rows<R: Abort, A: Allocator + Copy>(rt: &R, heap: &mut GrowingHeap<A>)
 fn a_heap_of_the_least_words(rt: HostRuntime) {
     let refused = GrowingHeap::new(rt.alloc(), 8_617).err();
     let need = PaceError::TooSmall { need: 8_618 };
-    assert_eq!(rt; refused, Some(GrowingError::Pace(need)));
+    expect_equal(&rt, refused, Some(GrowingError::Pace(need)));
     let heap = GrowingHeap::new(rt.alloc(), 8_618).expect(&rt, "memory is ample");
-    assert_eq!(rt; heap.growth(), Growth::up_to(8_618));
-    assert_eq!(rt; heap.paced().heap().config().words, 8_618);
+    expect_equal(&rt, heap.growth(), Growth::up_to(8_618));
+    expect_equal(&rt, heap.paced().heap().config().words, 8_618);
+}
+
+/// Stores, and reads what was stored.
+fn expect_stores(rt: &impl Abort, heap: &mut GrowingHeap) {
+    let raw = Command::Raw { dst: B, fields: 2 };
+    expect_equal(rt, heap.insist(1, &raw), Ok(Reply::Raw(2)));
+    expect_equal(rt, heap.put_text(1, B, 0, b"seven and"), Ok(()));
+    expect_equal(rt, heap.store_all(1, A, 1, &[7, 8]), Ok(()));
+    expect_equal(rt, heap.peek(1, A, 2), Ok(Reply::Int(8)));
+}
+
+/// Watches two objects, and one of them no more.
+fn expect_watches(rt: &impl Abort, heap: &mut GrowingHeap) {
+    expect_equal(rt, heap.watch_room(2), Ok(()));
+    expect_equal(rt, heap.watch(1, A), Ok(0));
+    expect_equal(rt, heap.watch(1, B), Ok(1));
+    assert!(rt; heap.unwatch(1));
+}
+
+/// Collects, and gives memory back.
+fn expect_collected(rt: &impl Abort, heap: &mut GrowingHeap) {
+    assert!(rt; !heap.increment().began);
+    expect_equal(rt, heap.collect().map(|f| f.live_words), Ok(13));
+    expect_equal(rt, heap.next_gone(), None);
+    expect_equal(rt, heap.release(), Ok(()));
+    expect_equal(rt, heap.peek(1, A, 1), Ok(Reply::Int(7)));
 }
 
 /// Each call is made once.
 #[test]
 fn each_call_is_answered(rt: HostRuntime) {
     let mut heap = GrowingHeap::new(rt.alloc(), 100_000).expect(&rt, "memory is ample");
-    assert_eq!(rt; heap.paced().heap().config().words, 40_000);
+    expect_equal(&rt, heap.paced().heap().config().words, 40_000);
     expect_rows(&rt, &mut heap);
-    assert_eq!(rt;
-        heap.insist(1, &Command::Raw { dst: B, fields: 2 }),
-        Ok(Reply::Raw(2))
-    );
-    assert_eq!(rt; heap.put_text(1, B, 0, b"seven and"), Ok(()));
-    assert_eq!(rt; heap.store_all(1, A, 1, &[7, 8]), Ok(()));
-    assert_eq!(rt; heap.peek(1, A, 2), Ok(Reply::Int(8)));
-    assert_eq!(rt; heap.watch_room(2), Ok(()));
-    assert_eq!(rt; heap.watch(1, A), Ok(0));
-    assert_eq!(rt; heap.watch(1, B), Ok(1));
-    assert!(rt; heap.unwatch(1));
-    assert!(rt; !heap.increment().began);
-    let flipped = heap.collect();
-    assert!(rt; flipped.is_ok_and(|f| f.live_words == 13), "{flipped:?}");
-    assert_eq!(rt; heap.next_gone(), None);
-    assert_eq!(rt; heap.release(), Ok(()));
-    assert_eq!(rt; heap.peek(1, A, 1), Ok(Reply::Int(7)));
+    expect_stores(&rt, &mut heap);
+    expect_watches(&rt, &mut heap);
+    expect_collected(&rt, &mut heap);
 }
 
 /// Each fault has its text.
@@ -100,6 +113,6 @@ fn each_call_is_answered(rt: HostRuntime) {
 fn faults_have_their_texts(rt: HostRuntime) {
     for &(fault, text) in FAULTS {
         let shown = format!(in rt.alloc(); "{fault}").expect(&rt, "memory is ample");
-        assert_eq!(rt; shown.as_str(), text);
+        expect_equal(&rt, shown.as_str(), text);
     }
 }

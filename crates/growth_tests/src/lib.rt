@@ -4,6 +4,8 @@
 #[cfg(test)]
 mod calls;
 #[cfg(test)]
+mod expectations;
+#[cfg(test)]
 mod growing;
 #[cfg(test)]
 mod numbers;

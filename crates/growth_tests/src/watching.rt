@@ -1,5 +1,6 @@
 //! Tickets of a heap that grows, and shrinks again.
 
+use crate::expectations::expect_equal;
 use rh_core::WatchError;
 use rh_growing::{GrowingHeap, Growth};
 use rh_layout::{Command, Operand, RootId};
@@ -83,7 +84,7 @@ fn tell<A: Allocator + Copy>(rt: &impl Abort, heap: &mut GrowingHeap<A>, kept: &
         let Some(ticket) = heap.next_gone() else {
             return told;
         };
-        assert_eq!(rt; kept.get(ticket as usize), Some(&false));
+        expect_equal(rt, kept.get(ticket as usize), Some(&false));
     }
     1_000
 }
@@ -95,30 +96,39 @@ fn tell_all<A: Allocator + Copy>(rt: &impl Abort, heap: &mut GrowingHeap<A>, kep
     tell(rt, heap, kept)
 }
 
-/// A list grows, between whose cells others are left out. All are watched, and the space grows and
-/// shrinks: each cell that was left out is told once, and a cell of the list isn't while it is
-/// there.
+/// Makes a list, between whose cells others are left out. All are watched. Answers how many tickets
+/// were told.
+fn make_list(rt: &impl Abort, heap: &mut GrowingHeap, kept: &mut Vec<bool>) -> u32 {
+    let mut told: u32 = 0;
+    for _ in 0..300u32 {
+        for keeps in [false, true] {
+            play(rt, heap, &[NEW_CELL]);
+            watch(rt, heap, kept, keeps);
+        }
+        play(rt, heap, PUT);
+        told = told.saturating_add(tell(rt, heap, kept));
+    }
+    told
+}
+
+/// The space grows and shrinks: each cell that was left out is told once, and a cell of the list
+/// isn't while it is there.
+fn grow_and_shrink(rt: &impl Abort, heap: &mut GrowingHeap, kept: &mut Vec<bool>) {
+    let told = make_list(rt, heap, kept);
+    assert!(rt; told > 100, "{told}");
+    expect_equal(rt, told.saturating_add(tell_all(rt, heap, kept)), 300);
+    assert!(rt; words(heap) > 20 * GROWTH.at_least);
+    play(rt, heap, DROPS);
+    for keeps in kept.iter_mut() {
+        *keeps = false;
+    }
+    expect_equal(rt, tell_all(rt, heap, kept), 300);
+    assert!(rt; words(heap) < 200);
+}
+
 #[test]
 fn tickets_live_over_resizes(rt: HostRuntime) {
     let mut heap = GrowingHeap::of(rt.alloc(), GROWTH).expect(&rt, "memory is ample");
     let mut kept = Vec::new(rt.alloc());
-    let mut told: u32 = 0;
-    for _ in 0..300u32 {
-        for keeps in [false, true] {
-            play(&rt, &mut heap, &[NEW_CELL]);
-            watch(&rt, &mut heap, &mut kept, keeps);
-        }
-        play(&rt, &mut heap, PUT);
-        told = told.saturating_add(tell(&rt, &mut heap, &kept));
-    }
-    assert!(rt; told > 100, "{told}");
-    told = told.saturating_add(tell_all(&rt, &mut heap, &kept));
-    assert_eq!(rt; told, 300);
-    assert!(rt; words(&heap) > 20 * GROWTH.at_least);
-    play(&rt, &mut heap, DROPS);
-    for keeps in &mut kept {
-        *keeps = false;
-    }
-    assert_eq!(rt; tell_all(&rt, &mut heap, &kept), 300);
-    assert!(rt; words(&heap) < 200);
+    grow_and_shrink(&rt, &mut heap, &mut kept);
 }
