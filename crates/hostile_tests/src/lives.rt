@@ -1,6 +1,6 @@
 //! Heaps that live long in a small space.
 
-use crate::both::{Both, TIGHT};
+use crate::both::{Both, Counts, TIGHT};
 use crate::expectations::{Row, expect_each, expect_equal, expect_limit, expect_same_dump};
 use crate::numbers::{Numbers, count};
 use crate::tickets::Tickets;
@@ -14,6 +14,33 @@ use std::process::Abort;
 
 /// More events than a thousand cycles take.
 const MANY: usize = 400_000;
+
+/// Expects that all that may come about came about often.
+fn expect_counts(rt: &impl Abort, counts: &Counts) {
+    expect_equal(rt, counts.flips, 1000);
+    expect_each(rt, &counts.gives, 100);
+    let mut gives: u64 = 0;
+    for count in counts.gives {
+        gives = gives.saturating_add(count);
+    }
+    expect_each(rt, &[gives], 1000);
+    let (invented, dealt) = (&counts.invented, &counts.dealt);
+    expect_each(rt, &[invented.joined, dealt.joined], 1000);
+    expect_each(rt, &[invented.repeated, dealt.repeated], 1000);
+    expect_each(rt, &[invented.stale, dealt.stale], 10);
+    expect_each(rt, &[invented.placed, dealt.placed], 40);
+    expect_each(rt, &[counts.idles_spent], 40);
+    expect_each(rt, &[counts.commands], 20_000);
+    expect_each(rt, &[counts.full], 500);
+    expect_each(rt, &[counts.logs_full], 40);
+    expect_each(rt, &[counts.recalls, counts.abandons, counts.idles], 300);
+    expect_each(rt, &[counts.lost, counts.mended], 50);
+    let resizes = &counts.resizes;
+    expect_each(rt, &resizes.accepted, 100);
+    expect_each(rt, &resizes.refused, 20);
+    expect_each(rt, &resizes.releases, 100);
+    expect_equal(rt, resizes.out_of_memory, [0, 0]);
+}
 
 /// A heap whose collector does anything at any moment, gives what nobody dealt, loses pieces,
 /// recalls, abandons, resizes and watches: each answer is that of the heap that never moves, or the
@@ -29,30 +56,7 @@ fn a_heap_through_a_thousand_cycles(rt: HostRuntime) {
             both.live(&rt, &mut numbers);
         }
     }
-    let counts = &both.counts;
-    expect_equal(&rt, counts.flips, 1000);
-    expect_each(&rt, &counts.gives, 100);
-    let mut gives: u64 = 0;
-    for count in counts.gives {
-        gives = gives.saturating_add(count);
-    }
-    expect_each(&rt, &[gives], 1000);
-    let (invented, dealt) = (&counts.invented, &counts.dealt);
-    expect_each(&rt, &[invented.joined, dealt.joined], 1000);
-    expect_each(&rt, &[invented.repeated, dealt.repeated], 1000);
-    expect_each(&rt, &[invented.stale, dealt.stale], 10);
-    expect_each(&rt, &[invented.placed, dealt.placed], 40);
-    expect_each(&rt, &[counts.idles_spent], 40);
-    expect_each(&rt, &[counts.commands], 20_000);
-    expect_each(&rt, &[counts.full], 500);
-    expect_each(&rt, &[counts.logs_full], 40);
-    expect_each(&rt, &[counts.recalls, counts.abandons, counts.idles], 300);
-    expect_each(&rt, &[counts.lost, counts.mended], 50);
-    let resizes = &counts.resizes;
-    expect_each(&rt, &resizes.accepted, 100);
-    expect_each(&rt, &resizes.refused, 20);
-    expect_each(&rt, &resizes.releases, 100);
-    expect_equal(&rt, resizes.out_of_memory, [0, 0]);
+    expect_counts(&rt, &both.counts);
     expect_tickets(&rt, &both.tickets);
     both.settle(&rt);
 }
