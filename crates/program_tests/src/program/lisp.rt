@@ -5,6 +5,7 @@ use crate::expectations::{Row, expect_bytes, expect_equal};
 use refusing::RefusingAllocator;
 use rh_cli::{Ask, HeapWords, Limits, PLAIN, Subcommand, drive, drive_lisp};
 use std::alloc::Allocator;
+use std::io::{Read, Write};
 use std::process::Abort;
 
 /// A heap that grows as far as a heap can, and more steps than a program here does.
@@ -122,18 +123,38 @@ const PROGRAMS: &[(Limits, &[u8], u8, &[u8], &[u8])] = &[
     ),
 ];
 
+/// Runs a program, and expects this status and what is told.
+fn expect_told<R: AllocGlobal + Abort, I: Read, W: Write>(
+    rt: &R,
+    limits: Limits,
+    reader: &mut I,
+    out: &mut W,
+    (status, told): (u8, &[u8]),
+) {
+    let mut err = Vec::new(rt.alloc());
+    let ended = drive_lisp(rt.alloc(), "p", limits, reader, out, &mut err);
+    expect_equal(rt, ended, status);
+    expect_bytes(rt, &err, told);
+}
+
+/// Runs a program that a slow reader gives, and expects that this is printed, in one write.
+fn expect_printed<R: AllocGlobal + Abort>(
+    rt: &R,
+    limits: Limits,
+    text: &[u8],
+    printed: &[u8],
+    due: (u8, &[u8]),
+) {
+    let mut out = SlowWriter::new(rt, 1_000, 0);
+    expect_told(rt, limits, &mut SlowReader::new(text, 0), &mut out, due);
+    expect_bytes(rt, &out.text, printed);
+    expect_equal(rt, out.writes <= 1, true);
+}
+
 #[test]
 fn programs_print_and_end_as_their_rows_say(rt: HostRuntime) {
     for (row, &(limits, text, status, printed, told)) in PROGRAMS.iter().enumerate() {
-        let rt = Row { rt: &rt, row };
-        let mut reader = SlowReader::new(text, 0);
-        let mut out = SlowWriter::new(&rt, 1_000, 0);
-        let mut err = Vec::new(rt.alloc());
-        let ended = drive_lisp(rt.alloc(), "p", limits, &mut reader, &mut out, &mut err);
-        expect_equal(&rt, ended, status);
-        expect_bytes(&rt, &out.text, printed);
-        expect_bytes(&rt, &err, told);
-        expect_equal(&rt, out.writes <= 1, true);
+        expect_printed(&Row { rt: &rt, row }, limits, text, printed, (status, told));
     }
 }
 
@@ -169,59 +190,44 @@ fn a_program_without_a_file_is_told_without_its_place(rt: HostRuntime) {
     }
 }
 
-#[test]
-fn a_text_of_a_byte_more_is_too_long(rt: HostRuntime) {
-    for (row, &(bytes, status, told)) in [
-        (1_048_576usize, 0u8, b"".as_slice()),
-        (1_048_577, 1, b"rheap: too long\n".as_slice()),
-    ]
-    .iter()
-    .enumerate()
-    {
-        let rt = Row { rt: &rt, row };
-        let mut text = Vec::new(rt.alloc());
-        for _ in 0..bytes {
-            text.push(b'\n').expect(&rt, "memory is ample");
-        }
-        let mut reader = text.as_slice();
-        let mut out = Vec::new(rt.alloc());
-        let mut err = Vec::new(rt.alloc());
-        let ended = drive_lisp(rt.alloc(), "p", AMPLE, &mut reader, &mut out, &mut err);
-        expect_equal(&rt, (ended, out.len()), (status, 0));
-        expect_bytes(&rt, &err, told);
-    }
+/// Runs a text of so many empty lines, which prints nothing.
+fn expect_blank<R: AllocGlobal + Abort>(rt: &R, bytes: usize, due: (u8, &[u8])) {
+    let mut text = Vec::new(rt.alloc());
+    text.resize(bytes, b'\n').expect(rt, "memory is ample");
+    let mut out: Vec<u8> = Vec::new(rt.alloc());
+    expect_told(rt, AMPLE, &mut text.as_slice(), &mut out, due);
+    expect_equal(rt, out.len(), 0);
 }
 
 #[test]
-fn failed_reads_and_writes_of_a_program_are_told(rt: HostRuntime) {
-    let text: &[u8] = b"(display 123)";
-    let mut err = Vec::new(rt.alloc());
-    let mut unread = SlowReader::new(text, 3);
-    let mut out = Vec::new(rt.alloc());
-    let ended = drive_lisp(rt.alloc(), "p", AMPLE, &mut unread, &mut out, &mut err);
-    expect_equal(&rt, (ended, out.len()), (1, 0));
-    expect_bytes(&rt, &err, b"rheap: read failed\n");
-    let mut reader = text;
+fn a_text_of_a_byte_more_is_too_long(rt: HostRuntime) {
+    expect_blank(&rt, 1_048_576, (0, b""));
+    expect_blank(&rt, 1_048_577, (1, b"rheap: too long\n"));
+}
+
+/// What prints something.
+const PRINTS: &[u8] = b"(display 123)";
+
+#[test]
+fn a_failed_read_of_a_program_is_told(rt: HostRuntime) {
+    let mut out: Vec<u8> = Vec::new(rt.alloc());
+    let due: (u8, &[u8]) = (1, b"rheap: read failed\n");
+    expect_told(&rt, AMPLE, &mut SlowReader::new(PRINTS, 3), &mut out, due);
+    expect_equal(&rt, out.len(), 0);
+}
+
+#[test]
+fn a_failed_write_of_a_program_is_told(rt: HostRuntime) {
     let mut full = SlowWriter::new(&rt, 1, 3);
-    err.clear();
-    let ended = drive_lisp(rt.alloc(), "p", AMPLE, &mut reader, &mut full, &mut err);
-    expect_equal(&rt, ended, 1);
+    let due: (u8, &[u8]) = (1, b"rheap: write failed\n");
+    expect_told(&rt, AMPLE, &mut { PRINTS }, &mut full, due);
     expect_bytes(&rt, &full.text, b"12");
-    expect_bytes(&rt, &err, b"rheap: write failed\n");
-    let mut reader = text;
-    let mut unflushed = Unflushed;
-    err.clear();
-    let ended = drive_lisp(
-        rt.alloc(),
-        "p",
-        AMPLE,
-        &mut reader,
-        &mut unflushed,
-        &mut err,
-    );
-    expect_equal(&rt, ended, 1);
-    expect_bytes(&rt, &err, b"rheap: write failed\n");
-    let mut reader = text;
+    expect_told(&rt, AMPLE, &mut { PRINTS }, &mut Unflushed, due);
+}
+
+#[test]
+fn a_program_ends_where_nothing_can_be_told(rt: HostRuntime) {
+    let mut reader = PRINTS;
     let ended = drive_lisp(
         rt.alloc(),
         "p",
@@ -237,19 +243,27 @@ fn failed_reads_and_writes_of_a_program_are_told(rt: HostRuntime) {
 /// prints what it prints.
 fn is_refused<A: Allocator + Copy>(rt: &(impl AllocGlobal + Abort), alloc: A, nth: u64) -> bool {
     let memory = RefusingAllocator::new(alloc, nth);
-    let mut reader = b"(display \"ab\") (car 5)".as_slice();
     let mut out = Vec::new(rt.alloc());
     let mut err = Vec::new(rt.alloc());
-    let ended = drive_lisp(&memory, "p", SMALL, &mut reader, &mut out, &mut err);
-    if memory.has_refused() {
-        expect_equal(rt, (ended, out.len()), (3, 0));
-        expect_bytes(rt, &err, b"rheap: out of memory\n");
-        return true;
-    }
-    expect_equal(rt, ended, 1);
-    expect_bytes(rt, &out, b"ab");
-    expect_bytes(rt, &err, b"p:1:16: car: not a pair\n");
-    false
+    let ended = drive_lisp(&memory, "p", SMALL, &mut { STOPS }, &mut out, &mut err);
+    let is_refused = memory.has_refused();
+    expect_stopped(rt, is_refused, ended, &out, &err);
+    is_refused
+}
+
+/// What prints something, and stops.
+const STOPS: &[u8] = b"(display \"ab\") (car 5)";
+
+/// Expects that it ended so, and wrote and told this.
+fn expect_stopped(rt: &impl Abort, is_refused: bool, ended: u8, out: &[u8], err: &[u8]) {
+    let (status, printed, told): (u8, &[u8], &[u8]) = if is_refused {
+        (3, b"", b"rheap: out of memory\n")
+    } else {
+        (1, b"ab", b"p:1:16: car: not a pair\n")
+    };
+    expect_equal(rt, ended, status);
+    expect_bytes(rt, out, printed);
+    expect_bytes(rt, err, told);
 }
 
 #[test]
