@@ -7,7 +7,10 @@ use Rattle.rh_trace.specs.declared.summary.Summary.{Summary}
 use Rattle.rh_shell.specs.declared.fault.ShellFault.{ShellFault}
 use Rattle.rh_shell.specs.declared.fault.ShellFault.TheVariants as shell_faults
 use Rattle.rh_shell.specs.Typing.{AnswersEnded, AnswersFirst, Ends, StopsWithin}
-use Rattle.rh_cli.specs.Session.{AnswersWithin, ConcludesSession, IsSessionStatus}
+use Rattle.rh_cli.specs.declared.ending.Ending.{Ending}
+use Rattle.rh_cli.specs.declared.fault.LineFault.{LineFault}
+use Rattle.rh_cli.specs.declared.fault.LineFault.TheVariants as faults
+use Rattle.rh_cli.specs.Session.{AnswersWithin, ConcludesSession, IsSessionStatus, session_told_as}
 use Rattle.rh_cli.proofs.Counted.{known_so}
 use Rattle.rh_cli.proofs.Inputs.{begun_input, whole_input}
 
@@ -51,3 +54,10 @@ session_read (Err shell_faults.Read) status known left old new e s = (e.0, e.4, 
 session_read (Err shell_faults.Write) status known left old new (inl e) s = (e.0, e.2, (Err shell_faults.Write, inl (within_read known left old new e), s))
 session_read (Err shell_faults.Write) status known left old new (inr e) s = (e.0, e.4, (Err shell_faults.Write, inr (e.1, e.2, e.3, e.6, e.7, e.8), s))
 session_read (Err shell_faults.OutOfMemory) status known left old new e s = (e.0, e.2, (Err shell_faults.OutOfMemory, within_read known left old new e, s))
+
+-- what is told as a failed read came from one
+pub session_unread : (fault : ShellFault) (told : LineFault) (known left old new : Option (List ℕ)) → told ≡ session_told_as fault → ◌≡◌ {A = Result Ending LineFault} (Err told) (Err faults.Read) → Ends (Err fault) known left old new
+    → Ends (Err shell_faults.Read) known left old new
+session_unread shell_faults.Read told known left old new is read ends = ends
+session_unread shell_faults.Write told known left old new is read ends = absurd cc
+session_unread shell_faults.OutOfMemory told known left old new is read ends = absurd cc

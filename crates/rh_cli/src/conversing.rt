@@ -1,8 +1,9 @@
 //! A session, whose lines are answered as they are typed.
 
-ghost use Rattle.std.specs.Prelude.{◌≡◌, List, ℕ, IfSome, IfErr};
+ghost use Rattle.std.specs.Prelude.{◌≡◌, List, ℕ, Err, IfSome, IfErr};
 ghost use Rattle.std.specs.Io.KnownBytes.{Consumes};
 ghost use Rattle.rh_cli.specs.Fault.{status_of, status_after, IsUsualFault};
+ghost use Rattle.rh_shell.specs.Typing.{Ends};
 ghost use Rattle.rh_cli.specs.Session.{ConcludesSession, session_status, session_told_as};
 
 use crate::ending::Ending;
@@ -76,6 +77,10 @@ pub(crate) fn converse<A: Allocator + Copy, R: Read, O: Write, H: Host>(
         × ConcludesSession input (status_after result) (O.contents out.old)
         (O.contents out.new) }
     ensures late { IfErr result (λ fault. IsUsualFault fault) }
+    // Where a read failed, all ended lines of what was read are answered, and nothing else.
+    ensures unread { result ≡ Err LineFault.Read → Ends (Err ShellFault.Read)
+        (R.remaining reader.old) (R.remaining reader.new) (O.contents out.old)
+        (O.contents out.new) }
 {
     match run_shell(alloc, reader, out, host) {
         Ok(_) => Ok(Ending::Done),
