@@ -1,5 +1,5 @@
 -- What the statuses say of how what is viewed ended.
-use Rattle.std.proofs.Common.{◌≡◌, ◌≢◌, ◌∙◌, ◌⊎◌, inl, inr, ℕ, Bool, List, Option, Some, None, Result, Ok, Err, refl, subst, arith}
+use Rattle.std.proofs.Common.{◌≡◌, ◌≢◌, ◌↔◌, ◌∙◌, ◌⊎◌, true, false, inl, inr, ℕ, Bool, List, Option, Some, None, Result, Ok, Err, refl, subst, arith}
 use Rattle.std.specs.Io.KnownBytes.{Appends}
 use Rattle.rh_layout.specs.declared.command.Reply.{Reply}
 use Rattle.rh_layout.specs.declared.refusal.Refusal.{Refusal}
@@ -113,6 +113,19 @@ pub viewed_run_0 : (telling : Telling) (input : List ℕ) (log : ViewLogState) (
     → (script : Script) × IsRun input script × Appends w.old w.new (view_of_run telling script) × Appends w.history_old w.history_new (spelling (run_history script))
     × Appends w.cycles_old w.cycles_new (cycles_text (run_cycles script))
 viewed_run_0 telling input log w c = view_is_0 c.0 telling input w c.1 c.2
+
+-- no call failed of a run that is done
+unflushed : (failed : Bool) → (◌≡◌ {A = ℕ} 0 1) ↔ (failed ≡ true) → failed ≡ false
+unflushed true iff = absurd (omega (arith, iff.1 refl))
+unflushed false iff = refl
+
+unfailed : (outcome : Result Summary RunFault) (log : ViewLogState) → IsRunStatus outcome 0 → HasCause Summary RunFault run_faults.Read run_faults.Write outcome 0 log
+    → (log.reads.failed ≡ false) × (log.writes.failed ≡ false) × (log.flush_failed ≡ false)
+unfailed (Ok summary) log is cause = (cause.no_read_failed (λ e. absurd cc), cause.no_write_failed (λ e. absurd cc), unflushed log.flush_failed (cause.flush_failed refl))
+unfailed (Err fault) log is cause = absurd (run_fault_is_not_0 fault is)
+
+pub viewed_run_unfailed : (telling : Telling) (input : List ℕ) (log : ViewLogState) (w : Written) → ConcludesViewed telling Run input 0 log w → (log.reads.failed ≡ false) × (log.writes.failed ≡ false) × (log.flush_failed ≡ false)
+viewed_run_unfailed telling input log w c = unfailed c.0 log c.2 c.3
 
 -- of a paced run, and of a growing one
 paced_is_told : (outcome : Result Summary PacedFault) (mark : Option ℕ) (telling : Telling) (input : List ℕ) (w : Written) → EndsPaced mark telling input outcome w → IsPacedStatus outcome 0

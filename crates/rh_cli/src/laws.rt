@@ -32,7 +32,7 @@ ghost use Rattle.rh_paced_trace.specs.declared.fault.PacedFault.{PacedFault as P
 ghost use Rattle.rh_paced_trace.specs.Growing.{IsGrowingRun, growing_sum_of, growing_text_of};
 ghost use Rattle.rh_paced_trace.specs.Run.{IsPlainRun, IsRun, AreSumsOf, output_of, sum_of, text_of};
 ghost use Rattle.rh_shared_trace.specs.Run.{IsHistoryOf, IsSharedRun};
-ghost use Rattle.rh_cli.specs.Ask.{command_and_file_of, explains_of, is_taken, viewed_of};
+ghost use Rattle.rh_cli.specs.Ask.{command_and_file_of, explains_of, has_options, is_taken, viewed_of};
 ghost use Rattle.rh_cli.specs.Count.{counts_line};
 ghost use Rattle.rh_cli.specs.Drive.{Concludes, run_status};
 ghost use Rattle.rh_cli.specs.Fault.{ending_status, status_of, IsLateStatus};
@@ -249,6 +249,10 @@ pub fn what_is_viewed_ends_with_the_same_statuses()
         × Appends w.old w.new (view_of_run telling script)
         × Appends w.history_old w.history_new (spelling (run_history script))
         × Appends w.cycles_old w.cycles_new (cycles_text (run_cycles script)) }
+    ensures unfailed { (telling : TellingOf) (input : List ℕ) (log : ViewLogState) (w : Written)
+        → ConcludesViewed telling SubcommandOf.Run input 0 log w
+        → (log.reads.failed ≡ false) × (log.writes.failed ≡ false)
+        × (log.flush_failed ≡ false) }
     ensures paced { (mark : Option ℕ) (telling : TellingOf) (input : List ℕ)
         (log : ViewLogState) (w : Written)
         → ConcludesViewed telling (SubcommandOf.RunPaced mark) input 0 log w
@@ -287,6 +291,8 @@ pub fn a_viewed_run_that_ends_with_1_has_its_cause()
 /// line without a subcommand, without a file, with an unknown subcommand or with a part too many
 /// isn't taken.
 pub fn worked_command_lines()
+    // Where help is asked for, each command has its options.
+    ensures help { (name : List ℕ) → IsTrue (has_options (codes "help") name) }
     ensures run { command_and_file_of (codes "rheap" ∷ codes "run" ∷ codes "x" ∷ [])
         ≡ Ok (SubcommandOf.Run, codes "x") }
     ensures replay { command_and_file_of (codes "rheap" ∷ codes "replay" ∷ codes "x" ∷ [])

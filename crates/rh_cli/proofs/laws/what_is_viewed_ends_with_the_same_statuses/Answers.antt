@@ -1,4 +1,4 @@
-use Rattle.rh_cli.proofs.ViewStatuses.{viewed_dump_0, viewed_growing_0, viewed_late, viewed_paced_0, viewed_replay_0, viewed_replay_4, viewed_run_0}
+use Rattle.rh_cli.proofs.ViewStatuses.{viewed_dump_0, viewed_growing_0, viewed_late, viewed_paced_0, viewed_replay_0, viewed_replay_4, viewed_run_0, viewed_run_unfailed}
 use Rattle.rh_cli.proofs.laws.what_is_viewed_ends_with_the_same_statuses.Goals as goal
 
 pub returns-clause-late : goal.returns-clause-late
@@ -6,6 +6,9 @@ returns-clause-late c = viewed_late
 
 pub returns-clause-run : goal.returns-clause-run
 returns-clause-run c = viewed_run_0
+
+pub returns-clause-unfailed : goal.returns-clause-unfailed
+returns-clause-unfailed c = viewed_run_unfailed
 
 pub returns-clause-paced : goal.returns-clause-paced
 returns-clause-paced c = viewed_paced_0

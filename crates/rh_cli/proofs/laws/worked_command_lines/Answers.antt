@@ -5,6 +5,9 @@ use Rattle.rh_text.specs.Number.{number_of}
 use Rattle.rh_cli.specs.Ask.{command_and_file_of, explains_of, is_taken, viewed_of}
 use Rattle.rh_cli.proofs.laws.worked_command_lines.Goals as goal
 
+pub returns-clause-help : goal.returns-clause-help
+returns-clause-help c = λ name. refl
+
 pub returns-clause-run : goal.returns-clause-run
 unfolding command_and_file_of clap_on_literals
 returns-clause-run c = refl
