@@ -1,7 +1,7 @@
 //! Where the texts of a request go: standard output, a file, or nowhere.
 
 ghost use Rattle.std.specs.Prelude.{◌≡◌, option_map, IfOk, IfErr};
-ghost use Rattle.rh_cli.specs.Outputs.{GoesTo};
+ghost use Rattle.rh_cli.specs.Outputs.{GoesTo, answers_file};
 
 use crate::arguments::is_output;
 use crate::ask::Views;
@@ -38,9 +38,15 @@ where
 fn answers_output<'a, R>(rt: &'a R, views: &Views<'_>) -> Result<Output<'a, R>, LineFault>
 where
     R: Files + Print,
-    ensures { IfErr result (λ fault. fault ≡ LineFault.Write) }
+    ensures goes { IfOk result (λ output. GoesTo (answers_file
+        (option_map (λ t. t.now) views.now.cycles) (option_map (λ t. t.now) views.now.history))
+        output) }
+    ensures write { IfErr result (λ fault. fault ≡ LineFault.Write) }
 {
-    if is_output(views.cycles) || is_output(views.history) {
+    if is_output(views.cycles) {
+        return output_of(rt, None);
+    }
+    if is_output(views.history) {
         return output_of(rt, None);
     }
     output_of(rt, Some("-"))
@@ -54,6 +60,9 @@ pub(crate) fn outputs_of<'a, R>(
 ) -> Result<(Output<'a, R>, Output<'a, R>, Output<'a, R>), LineFault>
 where
     R: Files + Print,
+    ensures answers { IfOk result (λ outputs. GoesTo (answers_file
+        (option_map (λ t. t.now) views.now.cycles) (option_map (λ t. t.now) views.now.history))
+        outputs.0) }
     ensures history { IfOk result (λ outputs.
         GoesTo (option_map (λ t. t.now) views.now.history) outputs.1) }
     ensures cycles { IfOk result (λ outputs.
