@@ -1,11 +1,11 @@
 -- What the ends of what is viewed come from.
-use Rattle.std.proofs.Common.{◌≡◌, ◌⊎◌, ◌↔◌, ℕ, Bool, true, false, List, Option, Result, Ok, Err, OnOk, OnErr, inl, inr, refl, sym, ap, subst, ◌∙◌, arith}
-use Rattle.std.specs.Prelude.{IsErrOf, IsOk, IsTrue, not}
+use Rattle.std.proofs.Common.{◌≡◌, ◌≢◌, ◌⊎◌, ◌↔◌, ℕ, ◌+◌, ◌<◌, ◌≤◌, Bool, true, false, List, Option, Result, Ok, Err, OnOk, OnErr, inl, inr, refl, sym, ap, subst, ◌∙◌, arith}
+use Rattle.std.specs.Prelude.{◌-◌, ◌^◌, IsErrOf, IsOk, IsTrue, not}
 use Rattle.std.specs.Io.KnownBytes.{Appends, Keeps}
 use Rattle.rh_text.specs.declared.output.Write.{Write}
 use Rattle.rh_text.specs.Output.{AppendsLess}
 use Rattle.rh_text.specs.lemmas.Appends.{Keeps-same}
-use Rattle.rh_text.specs.IoLog.{IoLogState, AreSpent, CountsDown}
+use Rattle.rh_text.specs.IoLog.{IoLogState, AreSpent, CountsDown, one_more}
 use Rattle.rh_dump.specs.declared.reading.fault.DumpFault.{DumpFault}
 use Rattle.rh_dump.specs.Dump.{GraphState}
 use Rattle.rh_dump.specs.texts.Reading.{graph_of_text}
@@ -19,8 +19,10 @@ use Rattle.rh_cli.specs.Drive.{IsRunStatus}
 use Rattle.rh_cli.specs.Paced.{IsPacedStatus}
 use Rattle.rh_cli.specs.Replay.{IsReplayStatus, TellsLegal, TellsWrong}
 use Rattle.rh_viewed_trace.specs.declared.telling.Telling.{Telling}
-use Rattle.rh_cli.specs.ViewLog.{HasCause, ViewLogState}
-use Rattle.rh_cli.specs.Views.{ConcludesCounts, told_counts}
+use Rattle.rh_cli.specs.ViewLog.{FlushedSince, HasCause, ViewLogState}
+use Rattle.rh_cli.specs.Views.{ConcludesCounts, told_counts, viewed_texts}
+use Rattle.rh_cli.specs.declared.ask.Subcommand.{Subcommand}
+use Rattle.rh_cli.specs.declared.ask.Subcommand.TheVariants.{Run, RunPaced, RunGrowing, Replay, Dump}
 use Rattle.rh_cli.proofs.Flushed.{Appends-kept, AppendsLess-kept}
 use Rattle.rh_cli.specs.declared.fault.LineFault.{LineFault}
 use Rattle.rh_cli.specs.declared.fault.LineFault.TheVariants as faults
@@ -115,6 +117,27 @@ uncounted_unread telling input log a cause = (Err faults.Read, Keeps-same a, ref
 
 pub uncounted_refused : (telling : Telling) (input : List ℕ) (log : ViewLogState) (a : Option (List ℕ)) → HasCause (Unit {0}) LineFault faults.Read faults.Write (Err faults.OutOfMemory) 3 log → ConcludesCounts telling input 3 log a a
 uncounted_refused telling input log a cause = (Err faults.OutOfMemory, Keeps-same a, refl, cause)
+
+-- flushes that a log counts one by one
+pub flushed_once : (before after : ℕ) → after ≡ one_more before → after < 2 ^ 64 - 1 → before + 1 ≤ after
+flushed_once before after is few = omega (arith, is, few)
+
+pub flushed_thrice : (before after : ℕ) → after ≡ one_more (one_more (one_more before)) → after < 2 ^ 64 - 1 → before + 3 ≤ after
+flushed_thrice before after is few =
+    let third = flushed_once (one_more (one_more before)) after is few in
+    let second = flushed_once (one_more before) (one_more (one_more before)) refl (omega (arith, third, few)) in
+    let first = flushed_once before (one_more before) refl (omega (arith, second, third, few)) in
+    omega (arith, first, second, third)
+
+-- what has no views flushes nothing
+pub none_flushed : (subcommand : Subcommand) (log : ViewLogState) → subcommand ≢ Run → ((mark : Option ℕ) → subcommand ≢ RunPaced mark) → ((at_most : ℕ) → subcommand ≢ RunGrowing at_most) → subcommand ≢ Replay → subcommand ≢ Dump
+    → FlushedSince (viewed_texts subcommand) log log
+none_flushed Run log run paced growing replay dump = absurd (run refl)
+none_flushed (RunPaced mark) log run paced growing replay dump = absurd (paced mark refl)
+none_flushed (RunGrowing at_most) log run paced growing replay dump = absurd (growing at_most refl)
+none_flushed Replay log run paced growing replay dump = absurd (replay refl)
+none_flushed Dump log run paced growing replay dump = absurd (dump refl)
+none_flushed other log run paced growing replay dump = λ few. omega arith
 
 -- no read was made
 pub none_counted : (log : IoLogState) → CountsDown log.left log log

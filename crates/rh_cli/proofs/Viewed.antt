@@ -1,11 +1,12 @@
 -- How a subcommand without views of its own is viewed.
 use Rattle.std.proofs.Common.{◌≡◌, ◌≢◌, ℕ, List, Option, refl, sym, subst}
+use Rattle.rh_text.specs.IoLog.{no_calls}
 use Rattle.rh_text.specs.lemmas.Appends.{Keeps-same}
 use Rattle.rh_viewed_trace.specs.Run.{Written}
 use Rattle.rh_viewed_trace.specs.declared.telling.Telling.{Telling}
 use Rattle.rh_cli.specs.Drive.{Concludes}
 use Rattle.rh_cli.specs.ViewLog.{ViewLogState}
-use Rattle.rh_cli.specs.Views.{ConcludesCounts, ConcludesReport, ConcludesViewed, KeepsOthers}
+use Rattle.rh_cli.specs.Views.{ConcludesCounts, ConcludesReport, ConcludesViewed, KeepsOthers, reads_given}
 use Rattle.rh_cli.specs.declared.ask.Subcommand.{Subcommand}
 use Rattle.rh_cli.specs.declared.ask.Subcommand.TheVariants.{Run, RunPaced, RunGrowing, Threads, Replay, Dump, Dot, Draw, Session, Lisp, Completions}
 
@@ -33,6 +34,11 @@ pub viewed_count : (telling : Telling) (subcommand : Subcommand) (status : ℕ) 
     → (input : List ℕ) → ConcludesCounts telling input status log old new → ConcludesViewed telling subcommand input status log (told_alone old new history cycles)
 viewed_count telling subcommand status log old new history cycles is input ends =
     subst (λ (s : Subcommand). ConcludesViewed telling s input status log (told_alone old new history cycles)) (sym is) (ends, others_kept old new history cycles)
+
+-- what isn't a dump's input has as many reads as a trace
+pub other_reads : (subcommand : Subcommand) → subcommand ≢ Dump → reads_given subcommand ≡ no_calls
+other_reads Dump other = absurd (other refl)
+other_reads subcommand other = refl
 
 -- it ends as it does without
 pub unviewed : (telling : Telling) (subcommand : Subcommand) (status : ℕ) (log : ViewLogState) (old new history cycles : Option (List ℕ)) → subcommand ≢ Run → ((mark : Option ℕ) → subcommand ≢ RunPaced mark)

@@ -1,7 +1,7 @@
 -- How what is seen in other ways ends the program.
 use Rattle.std.specs.Prelude.{◌≡◌, ◌≢◌, ◌⊎◌, ℕ, ◌<◌, ◌≤◌, true, Option, None, List, length, Result, Ok, Err}
 use Rattle.std.specs.Io.KnownBytes.{Appends, Keeps}
-use Rattle.rh_text.specs.IoLog.{AreSpent}
+use Rattle.rh_text.specs.IoLog.{IoLogState, AreSpent, no_calls}
 use Rattle.rh_text.specs.Output.{AppendsLess}
 use Rattle.rh_core.specs.Config.{fault_of}
 use Rattle.rh_dump.specs.Dump.{GraphState}
@@ -116,6 +116,20 @@ ConcludesCounts telling input status log old new =
 -- nothing was written but to the first writer
 abbrev pub KeepsOthers : Written → Type 0
 KeepsOthers w = Keeps w.history_old w.history_new × Keeps w.cycles_old w.cycles_new
+
+-- how many reads may take the input of a subcommand that is viewed: a dump may be longer
+abbrev pub reads_given : Subcommand → IoLogState
+reads_given Dump = record no_calls { left = 536870912 }
+reads_given subcommand = no_calls
+
+-- how many texts what is viewed has, each with a writer of its own
+abbrev pub viewed_texts : Subcommand → ℕ
+viewed_texts Run = 3
+viewed_texts (RunPaced mark) = 3
+viewed_texts (RunGrowing at_most) = 3
+viewed_texts Replay = 1
+viewed_texts Dump = 1
+viewed_texts subcommand = 0
 
 -- What a subcommand that is viewed does with this input ended with this status, with these bytes
 -- written, and its calls went so that it ended so. What has no views does what it does without.

@@ -1,10 +1,11 @@
 //! Reports on histories and counts of dumps that are told in other ways.
 
-ghost use Rattle.std.specs.Prelude.{◌≡◌, ◌≤◌, List, ℕ, Ok, false, length, IfOk, IfSome, IfErr, IsErrOf};
+ghost use Rattle.std.specs.Prelude.{◌≡◌, ◌≤◌, List, ℕ, Ok, false, length, IfOk, IfSome, IfErr, IsErrOf, IsOk};
 ghost use Rattle.std.specs.Io.KnownBytes.{Consumes};
 ghost use Rattle.rh_text.specs.IoLog.{AreSpent, CountsDown};
 ghost use Rattle.rh_dump.specs.texts.Reading.{graph_of_text};
 ghost use Rattle.rh_cli.specs.Fault.{status_after, IsUsualFault};
+ghost use Rattle.rh_cli.specs.ViewLog.{FlushedSince};
 ghost use Rattle.rh_cli.specs.Views.{told_counts, told_report, ConcludesCounts, ConcludesReport, ReportEnds};
 
 use crate::counting::{conclude as conclude_count, put_counts};
@@ -40,6 +41,7 @@ pub(crate) fn view_report<A: Allocator + Copy, R: Read, O: Write>(
         (O.contents out.new) }
     ensures late { IfErr result (λ fault. IsUsualFault fault) }
     ensures reads_counted { CountsDown log.old.reads.left log.old.reads log.new.reads }
+    ensures flushed { IsOk result → FlushedSince 1 log.old log.new }
 {
     match read_all(alloc, reader, &mut log.reads) {
         Ok(input) => view_report_of(alloc, &input, telling, out, log),
@@ -64,6 +66,7 @@ fn view_report_of<A: Allocator + Copy, O: Write>(
         (O.contents out.old) (O.contents out.new) }
     ensures late { IfErr result (λ fault. IsUsualFault fault) }
     ensures reads { log.new.reads ≡ log.old.reads }
+    ensures flushed { FlushedSince 1 log.old log.new }
 {
     let reported = report_on(alloc, input, telling, out, &mut log.writes);
     let _ = log.flush(out);
@@ -148,6 +151,7 @@ pub(crate) fn view_count<A: Allocator + Copy, R: Read, O: Write>(
         (O.contents out.new) }
     ensures late { IfErr result (λ fault. IsUsualFault fault) }
     ensures reads_counted { CountsDown log.old.reads.left log.old.reads log.new.reads }
+    ensures flushed { IsOk result → FlushedSince 1 log.old log.new }
 {
     match read_dump_logged(alloc, reader, &mut log.reads) {
         Ok(graph) => write_count(&graph, telling, out, log),
@@ -184,6 +188,7 @@ fn write_count<A: Allocator, O: Write>(
         (O.contents out.new) }
     ensures late { IfErr result (λ fault. IsUsualFault fault) }
     ensures reads { log.new.reads ≡ log.old.reads }
+    ensures flushed { FlushedSince 1 log.old log.new }
 {
     let mut text = LineText::new();
     put_told_counts(&mut text, graph, telling);

@@ -2,14 +2,15 @@
 
 ghost use Rattle.std.specs.Prelude.{◌≡◌, true, OnErr, OnOk};
 ghost use Rattle.std.specs.Io.KnownBytes.{Keeps};
+ghost use Rattle.rh_text.specs.IoLog.{one_more};
 ghost use Rattle.rh_cli.specs.ViewLog.{new_log};
 
 use rh_text::IoLog;
 use std::io::{self, Write};
 use std::marker::Model;
 
-/// A log of the calls of what is viewed: of its reads, of its writes to all writers, and whether a
-/// flush failed.
+/// A log of the calls of what is viewed: of its reads, of its writes to all writers, whether a flush
+/// failed, and how many were made.
 #[derive(Drop)]
 pub struct ViewLog {
     /// The log of the reads.
@@ -18,6 +19,8 @@ pub struct ViewLog {
     pub(crate) writes: IoLog,
     /// Whether a flush failed.
     flush_failed: bool,
+    /// How many flushes were made, counted up to 2^64 - 1.
+    flushes: u64,
 }
 
 impl Model for ViewLog {
@@ -29,6 +32,7 @@ impl Model for ViewLog {
       reads = l.reads;
       writes = l.writes;
       flush_failed = l.flush_failed;
+      flushes = l.flushes;
     } };
 }
 
@@ -41,6 +45,7 @@ impl ViewLog {
             reads,
             writes: IoLog::new(),
             flush_failed: false,
+            flushes: 0,
         }
     }
 
@@ -51,6 +56,13 @@ impl ViewLog {
         self.flush_failed
     }
 
+    /// How many flushes were made, counted up to 2^64 - 1.
+    pub fn flushes(&self) -> u64
+        ensures { result ≡ self.now.flushes }
+    {
+        self.flushes
+    }
+
     /// One flush, whose answer it hands on. It fails where it answers an error, also where it was
     /// interrupted.
     pub(crate) fn flush<W: Write>(&mut self, writer: &mut W) -> io::Result<()>
@@ -59,7 +71,9 @@ impl ViewLog {
         ensures writes { self.new.writes ≡ self.old.writes }
         ensures failed { OnErr result (self.new.flush_failed ≡ true) }
         ensures fine { OnOk result (self.new.flush_failed ≡ self.old.flush_failed) }
+        ensures flushes { self.new.flushes ≡ one_more self.old.flushes }
     {
+        self.flushes = self.flushes.saturating_add(1);
         let flushed = writer.flush();
         if flushed.is_err() {
             self.flush_failed = true;
@@ -81,6 +95,7 @@ impl ViewLog {
         ensures writes { self.new.writes ≡ self.old.writes }
         // Once a flush failed, that stays known.
         ensures failed { self.old.flush_failed ≡ true → self.new.flush_failed ≡ true }
+        ensures flushes { self.new.flushes ≡ one_more (one_more (one_more self.old.flushes)) }
     {
         let _ = self.flush(out);
         let _ = self.flush(history);

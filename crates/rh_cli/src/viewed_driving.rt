@@ -1,11 +1,11 @@
 //! Doing what was asked, seen in other ways.
 
-ghost use Rattle.std.specs.Prelude.{◌≡◌, ◌≢◌, ◌⊎◌, List, ℕ, false, IfSome, IfErr};
+ghost use Rattle.std.specs.Prelude.{◌≡◌, ◌≢◌, ◌⊎◌, List, ℕ, false, IfSome, IfErr, IsOk};
 ghost use Rattle.std.specs.Io.KnownBytes.{Consumes, Keeps};
 ghost use Rattle.rh_cli.specs.Fault.{status_of, status_after, IsLateFault, IsLateStatus};
 ghost use Rattle.rh_text.specs.IoLog.{CountsDown};
-ghost use Rattle.rh_cli.specs.ViewLog.{ViewLogState};
-ghost use Rattle.rh_cli.specs.Views.{ConcludesViewed};
+ghost use Rattle.rh_cli.specs.ViewLog.{FlushedSince, ViewLogState};
+ghost use Rattle.rh_cli.specs.Views.{ConcludesViewed, reads_given, viewed_texts};
 ghost use Rattle.rh_cli.specs.declared.ask.Subcommand.TheVariants.{Replay};
 
 use crate::ask::{Ask, Subcommand};
@@ -28,7 +28,8 @@ use std::thread::Threads;
 
 /// How many reads may take what is asked: a dump may be longer than a trace or a history.
 fn reads_for(subcommand: Subcommand) -> IoLog
-    ensures { result.failed ≡ false }
+    ensures given { result ≡ reads_given subcommand }
+    ensures none_failed { result.failed ≡ false }
 {
     match subcommand {
         Subcommand::Dump => IoLog::limited(MAX_DUMP_READS),
@@ -93,8 +94,8 @@ where
 }
 
 /// Does what is asked as `drive_viewed` does, and tells in `log` whether a read, a write or a flush
-/// failed. As many reads are made at most as `log` has left. What has no views leaves the log as it
-/// was.
+/// failed, and how many flushes were made. As many reads are made at most as `log` has left. What
+/// has no views leaves the log as it was.
 pub fn drive_viewed_logged<T, A, R, O, H, C, E>(
     rt: &T,
     alloc: A,
@@ -145,6 +146,9 @@ where
     ensures late { IsLateStatus result }
     // Each read that was made took one of those that were left.
     ensures reads_counted { CountsDown log.old.reads.left log.old.reads log.new.reads }
+    // Where it is done, and where a history that was read is wrong, each text was flushed.
+    ensures flushed { (result ≡ 0) ⊎ ((result ≡ 4) × (ask.now.subcommand ≡ Replay))
+        → FlushedSince (viewed_texts ask.now.subcommand) log.old log.new }
 {
     let telling = ask.views.telling;
     match act_viewed(
@@ -228,6 +232,7 @@ where
         }) }
     ensures late { IfErr result (λ fault. IsLateFault fault) }
     ensures reads_counted { CountsDown log.old.reads.left log.old.reads log.new.reads }
+    ensures flushed { IsOk result → FlushedSince (viewed_texts subcommand) log.old log.new }
     ensures check { subcommand ≡ Replay → IfErr result (λ fault. status_of fault ≢ 4) }
 {
     match subcommand {

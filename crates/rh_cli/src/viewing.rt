@@ -4,6 +4,7 @@ ghost use Rattle.std.specs.Prelude.{◌≡◌, List, ℕ, false, IfSome, IfErr};
 ghost use Rattle.std.specs.Io.KnownBytes.{Consumes};
 ghost use Rattle.rh_text.specs.IoLog.{CountsDown};
 ghost use Rattle.rh_cli.specs.Fault.{status_after, IsUsualFault};
+ghost use Rattle.rh_cli.specs.ViewLog.{FlushedSince};
 ghost use Rattle.rh_cli.specs.Views.{ConcludesView, ConcludesViewGrowing, ConcludesViewPaced};
 
 use crate::ending::Ending;
@@ -51,6 +52,7 @@ pub(crate) fn view_run<A: Allocator + Copy, R: Read, O: Write, H: Write, C: Writ
         }) }
     ensures late { IfErr result (λ fault. IsUsualFault fault) }
     ensures reads_counted { CountsDown log.old.reads.left log.old.reads log.new.reads }
+    ensures flushed { FlushedSince 3 log.old log.new }
 {
     let ran = run_viewed_logged(
         alloc,
@@ -101,6 +103,7 @@ pub(crate) fn view_run_by_mark<A: Allocator + Copy, R: Read, O: Write, H: Write,
         }) }
     ensures late { IfErr result (λ fault. IsUsualFault fault) }
     ensures reads_counted { CountsDown log.old.reads.left log.old.reads log.new.reads }
+    ensures flushed { FlushedSince 3 log.old log.new }
 {
     let ran = run_viewed_paced_logged(
         alloc,
@@ -152,6 +155,7 @@ pub(crate) fn view_run_by_growth<A: Allocator + Copy, R: Read, O: Write, H: Writ
         }) }
     ensures late { IfErr result (λ fault. IsUsualFault fault) }
     ensures reads_counted { CountsDown log.old.reads.left log.old.reads log.new.reads }
+    ensures flushed { FlushedSince 3 log.old log.new }
 {
     let ran = run_viewed_growing_logged(
         alloc,

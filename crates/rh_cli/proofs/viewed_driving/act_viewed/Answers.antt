@@ -1,5 +1,5 @@
 use Rattle.rh_cli.specs.Fault.{status_after}
-use Rattle.rh_cli.proofs.Causes.{none_counted}
+use Rattle.rh_cli.proofs.Causes.{none_counted, none_flushed}
 use Rattle.rh_cli.proofs.Counted.{known_so}
 use Rattle.rh_cli.proofs.Viewed.{unviewed, viewed_check, viewed_count}
 use Rattle.rh_cli.proofs.viewed_driving.act_viewed.Goals as goal
@@ -41,3 +41,6 @@ returns-in_default-clause-read g c =
 
 pub returns-in_default-clause-reads_counted : goal.returns-in_default-clause-reads_counted
 returns-in_default-clause-reads_counted g c = none_counted c.args.log.now.reads
+
+pub returns-in_default-clause-flushed : goal.returns-in_default-clause-flushed
+returns-in_default-clause-flushed g c = λ ok. none_flushed c.args.subcommand c.args.log.now c.in_default.not-Run c.in_default.not-RunPaced c.in_default.not-RunGrowing c.in_default.not-Replay c.in_default.not-Dump

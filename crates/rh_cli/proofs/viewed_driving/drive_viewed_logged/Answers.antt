@@ -1,4 +1,4 @@
-use Rattle.std.proofs.Common.{◌≡◌}
+use Rattle.std.proofs.Common.{◌≡◌, refl}
 use Rattle.rh_cli.specs.declared.ask.Subcommand.TheVariants.{Replay}
 use Rattle.rh_text.specs.lemmas.Appends.{Keeps-same}
 use Rattle.rh_cli.specs.Fault.{status_of}
@@ -28,3 +28,9 @@ returns-in-Ok-clause-late g c = late_of_ending c.in-Ok.ending c.status.result c.
 
 pub returns-after-explains-clause-late : goal.returns-after-explains-clause-late
 returns-after-explains-clause-late g c = late_of_fault c.tell_as-status.result (status_of c.in-Err.fault) c.tell_as-status.ensures c.in-Err.ensures.late
+
+pub returns-in-Ok-clause-flushed : goal.returns-in-Ok-clause-flushed
+returns-in-Ok-clause-flushed g c = λ is. c.in-Ok.ensures.flushed refl
+
+pub returns-after-explains-clause-flushed : goal.returns-after-explains-clause-flushed
+returns-after-explains-clause-flushed g c = λ is. absurd (late_is_told (c.args.ask.now.subcommand ≡ Replay) c.tell_as-status.result (status_of c.in-Err.fault) c.tell_as-status.ensures c.in-Err.ensures.late c.in-Err.ensures.check is)

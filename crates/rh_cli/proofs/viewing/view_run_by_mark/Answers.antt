@@ -1,5 +1,5 @@
-use Rattle.std.proofs.Common.{◌≡◌, ◌↔◌, Bool, sym, ap, subst}
-use Rattle.std.specs.Prelude.{IsOk, IsTrue, not}
+use Rattle.std.proofs.Common.{◌≡◌, ◌↔◌, ℕ, ◌+◌, ◌<◌, ◌≤◌, Bool, sym, ap, subst}
+use Rattle.std.specs.Prelude.{◌-◌, ◌^◌, IsOk, IsTrue, not}
 use Rattle.rh_text.specs.IoLog.{IoLogState, CountsDown}
 use Rattle.rh_trace.specs.declared.summary.Summary.{Summary}
 use Rattle.rh_paced_trace.specs.declared.fault.PacedFault.{PacedFault}
@@ -7,7 +7,7 @@ use Rattle.rh_paced_trace.specs.declared.fault.PacedFault.TheVariants as run_fau
 use Rattle.rh_viewed_trace.specs.Run.{Written}
 use Rattle.rh_cli.specs.Fault.{status_after}
 use Rattle.rh_cli.specs.ViewLog.{ViewLogState}
-use Rattle.rh_cli.proofs.Causes.{caused, paced_flushed}
+use Rattle.rh_cli.proofs.Causes.{caused, flushed_thrice, paced_flushed}
 use Rattle.rh_cli.proofs.Counted.{known_so}
 use Rattle.rh_cli.proofs.ViewsFlushed.{AreKept, view_paced_concludes}
 use Rattle.rh_cli.proofs.viewing.view_run_by_mark.Goals as goal
@@ -59,3 +59,8 @@ pub returns-clause-reads_counted : goal.returns-clause-reads_counted
 returns-clause-reads_counted g c =
     subst (λ (l : IoLogState). CountsDown l.left l c.flush_all.new.self.reads) (ap (λ (x : ViewLogState). x.reads) c.log.view_is)
     (subst (λ (l : IoLogState). CountsDown c.log.inside.reads.left c.log.inside.reads l) (sym c.flush_all.ensures.reads) c.run_viewed_paced_logged-ran.ensures.reads_counted)
+
+pub returns-clause-flushed : goal.returns-clause-flushed
+returns-clause-flushed g c =
+    let after = c.flush_all.new.self.flushes in
+    subst (λ (before : ℕ). after < 2 ^ 64 - 1 → before + 3 ≤ after) (ap (λ (x : ViewLogState). x.flushes) c.log.view_is) (flushed_thrice c.log.inside.flushes after c.flush_all.ensures.flushes)
