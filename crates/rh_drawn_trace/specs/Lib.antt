@@ -1,1 +1,2 @@
 pub mod Partway
+pub mod Drawing

@@ -5,13 +5,62 @@ ghost use Rattle.std.specs.Io.KnownBytes.{Appends, Keeps};
 ghost use Rattle.rh_text.specs.IoLog.{AreSpent};
 ghost use Rattle.rh_text.specs.Output.{AppendsLess};
 ghost use Rattle.rh_draw.specs.Picture.{IsWhole};
+ghost use Rattle.rh_drawn_trace.specs.Drawing.{DrawsTrace};
 
 use crate::partway::engine_at;
+use rh_core::Heap;
 use rh_draw::{DrawError, draw_logged};
 use rh_text::{InputFault, IoLog, read_all};
-use rh_trace::{ParseError, RunFault, parse};
+use rh_trace::{ParseError, RunFault, Trace, parse};
 use std::alloc::Allocator;
 use std::io;
+
+/// Writes the picture of a heap, once so many lines were played.
+fn draw_heap<A: Allocator + Copy, W: io::Write>(
+    alloc: A,
+    heap: &Heap<A>,
+    played: u32,
+    writer: &mut W,
+    writes: &mut IoLog,
+) -> Result<(), RunFault>
+    requires { writes.old.failed ≡ false }
+    ensures drawn { DrawsTrace result (W.contents writer.old) (W.contents writer.new) }
+    ensures never_read { ¬ IsErrOf result RunFault.Read }
+    ensures failed { IsErrOf result RunFault.Write → AreSpent writes.new }
+    ensures none_failed { ¬ IsErrOf result RunFault.Write → writes.new.failed ≡ false }
+{
+    let Ok(title) = format!(in alloc; "The heap after line {played}") else {
+        return Err(RunFault::OutOfMemory);
+    };
+    match draw_logged(alloc, heap, title.as_str(), writer, writes) {
+        Ok(()) => Ok(()),
+        Err(DrawError::Write) => Err(RunFault::Write),
+        Err(DrawError::OutOfMemory) => Err(RunFault::OutOfMemory),
+    }
+}
+
+/// Writes the picture of the heap of a trace, once so many lines were played.
+fn draw_read<A: Allocator + Copy, W: io::Write>(
+    alloc: A,
+    trace: &Trace<A>,
+    lines: u32,
+    writer: &mut W,
+    writes: &mut IoLog,
+) -> Result<(), RunFault>
+    requires { writes.old.failed ≡ false }
+    ensures drawn { DrawsTrace result (W.contents writer.old) (W.contents writer.new) }
+    ensures never_read { ¬ IsErrOf result RunFault.Read }
+    ensures failed { IsErrOf result RunFault.Write → AreSpent writes.new }
+    ensures none_failed { ¬ IsErrOf result RunFault.Write → writes.new.failed ≡ false }
+{
+    match engine_at(alloc, trace, lines) {
+        Ok(engine) => {
+            let played = (trace.len() as u32 + 1).min(lines.max(1));
+            draw_heap(alloc, engine.heap(), played, writer, writes)
+        }
+        Err(fault) => Err(fault),
+    }
+}
 
 /// Writes the picture of the heap of the trace that the input spells, once so many lines were played.
 fn draw_input<A: Allocator + Copy, W: io::Write>(
@@ -22,33 +71,15 @@ fn draw_input<A: Allocator + Copy, W: io::Write>(
     writes: &mut IoLog,
 ) -> Result<(), RunFault>
     requires { writes.old.failed ≡ false }
-    ensures appended { OnOk result ((text : List ℕ) × IsWhole text
-        × Appends (W.contents writer.old) (W.contents writer.new) text) }
-    ensures prefix { IsErrOf result RunFault.Write → (text : List ℕ)
-        × IsWhole text × AppendsLess (W.contents writer.old) (W.contents writer.new) text }
-    ensures nothing { IfErr result (λ e. ¬ (e ≡ RunFault.Write)
-        → Keeps (W.contents writer.old) (W.contents writer.new)) }
+    ensures drawn { DrawsTrace result (W.contents writer.old) (W.contents writer.new) }
     ensures never_read { ¬ IsErrOf result RunFault.Read }
     ensures failed { IsErrOf result RunFault.Write → AreSpent writes.new }
     ensures none_failed { ¬ IsErrOf result RunFault.Write → writes.new.failed ≡ false }
 {
-    let trace = match parse(alloc, input) {
-        Ok(trace) => trace,
-        Err(ParseError::Fault(fault)) => return Err(RunFault::Trace(fault)),
-        Err(ParseError::OutOfMemory) => return Err(RunFault::OutOfMemory),
-    };
-    let engine = match engine_at(alloc, &trace, lines) {
-        Ok(engine) => engine,
-        Err(fault) => return Err(fault),
-    };
-    let played = (trace.len() as u32 + 1).min(lines.max(1));
-    let Ok(title) = format!(in alloc; "The heap after line {played}") else {
-        return Err(RunFault::OutOfMemory);
-    };
-    match draw_logged(alloc, engine.heap(), title.as_str(), writer, writes) {
-        Ok(()) => Ok(()),
-        Err(DrawError::Write) => Err(RunFault::Write),
-        Err(DrawError::OutOfMemory) => Err(RunFault::OutOfMemory),
+    match parse(alloc, input) {
+        Ok(trace) => draw_read(alloc, &trace, lines, writer, writes),
+        Err(ParseError::Fault(fault)) => Err(RunFault::Trace(fault)),
+        Err(ParseError::OutOfMemory) => Err(RunFault::OutOfMemory),
     }
 }
 
