@@ -504,3 +504,90 @@ pub const LIST: &[Instruction] = &[
         to: 1,
     },
 ];
+
+/// Turns the digits of 9,041 round, by the instructions that name a number, and adds what the number
+/// in a field, 27, is above 20.
+pub const DIGITS: &[Instruction] = &[
+    Instruction::Number {
+        dst: Number::N0,
+        value: 9_041,
+    },
+    Instruction::Divide {
+        quotient: Number::N0,
+        rest: Number::N1,
+        a: Number::N0,
+        divisor: 10,
+    },
+    Instruction::ComputeWith {
+        operation: Operation::Mul,
+        dst: Number::N2,
+        a: Number::N2,
+        value: 10,
+    },
+    Instruction::Compute {
+        operation: Operation::Add,
+        dst: Number::N2,
+        a: Number::N2,
+        b: Number::N1,
+    },
+    Instruction::JumpWith {
+        relation: Relation::Equal,
+        is: false,
+        a: Number::N0,
+        value: 0,
+        to: 1,
+    },
+    Instruction::Alloc {
+        dst: Register::A,
+        fields: Index::At(1),
+    },
+    Instruction::Store {
+        obj: Register::A,
+        field: Index::At(0),
+        value: Source::Value(27),
+    },
+    Instruction::Load {
+        dst: Register::Val,
+        src: Register::A,
+        field: Index::At(0),
+    },
+    Instruction::Seen {
+        dst: Number::N3,
+        divisor: 16,
+        rest: 12,
+        to: 14,
+    },
+    Instruction::Seen {
+        dst: Number::N3,
+        divisor: 16,
+        rest: 11,
+        to: 11,
+    },
+    Instruction::Fail { why: 1 },
+    Instruction::JumpWhere {
+        relation: Relation::Less,
+        is: true,
+        a: Number::N2,
+        b: Number::N3,
+        to: 14,
+    },
+    Instruction::ComputeWith {
+        operation: Operation::Sub,
+        dst: Number::N3,
+        a: Number::N3,
+        value: 20,
+    },
+    Instruction::Jump {
+        when: When::Always,
+        to: 15,
+    },
+    Instruction::Fail { why: 2 },
+    Instruction::Compute {
+        operation: Operation::Add,
+        dst: Number::N2,
+        a: Number::N2,
+        b: Number::N3,
+    },
+    Instruction::Put { number: Number::N2 },
+    Instruction::Halt,
+];

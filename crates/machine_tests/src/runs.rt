@@ -1,6 +1,6 @@
 //! Runs of one code on each kind of heap.
 
-use crate::codes::{COUNT, LIST, TAK};
+use crate::codes::{COUNT, DIGITS, LIST, TAK};
 use rh_core::{Config, Heap};
 use rh_growing::{GrowingHeap, Growth, Short};
 use rh_layout::Refusal;
@@ -173,6 +173,17 @@ fn a_loop_counts_on_each_heap(rt: HostRuntime) {
     assert!(rt; expect_on_paced(&rt, COUNT, came) > 10);
     assert!(rt; expect_on_growing(&rt, COUNT, came).0 > 10);
     expect_on_heap(&rt, COUNT, came);
+}
+
+#[test]
+fn instructions_name_their_numbers(rt: HostRuntime) {
+    let came = Some(Came {
+        ending: Ending::Halted,
+        line: 18,
+        output: Some(1_416),
+        steps: STEPS - 28,
+    });
+    assert!(rt; expect_on_paced(&rt, DIGITS, came) == 0);
 }
 
 #[test]
