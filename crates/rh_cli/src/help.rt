@@ -341,7 +341,8 @@ Statuses:
 
 A program that stops has printed what it printed before, and standard error has one line, as
 `FILE:3:15: car: not a pair`, with the line and the column of the form that was done. Where that is
-in a procedure of the language, the place is that of the program's last call. So are told
+in a procedure of the language, the place is that of the program's last call, but for calls of
+functions that one definition gives. So are told
 
   unbound variable, not a pair, not a number, not a procedure, not a vector, not a string,
   not a character, wrong number of arguments, too many arguments, out of range, division by zero,
