@@ -73,6 +73,9 @@ const TWO_FLIPS_HISTORY: &[u8] = b"history 2 2\n\
 /// to the lines of cycles, and to standard error.
 type Viewed = (Subcommand, Telling, &'static [u8], u8, [&'static [u8]; 4]);
 
+/// A dump of two objects.
+const COUNTED: &[u8] = b"rheap 2\nroots 1\n1.0 @0\nobjects 2\n@0 1 @1\n@1 0\nend\n";
+
 /// What is asked for and viewed, and what comes of it.
 const VIEWED: &[Viewed] = &[
     (
@@ -216,14 +219,14 @@ const VIEWED: &[Viewed] = &[
     (
         Subcommand::Dump,
         Telling::Json,
-        b"rheap 2\nroots 1\n1.0 @0\nobjects 2\n@0 1 @1\n@1 0\nend\n",
+        COUNTED,
         0,
         [b"{\"roots\":1,\"objects\":2}\n", b"", b"", b""],
     ),
     (
         Subcommand::Dump,
         Telling::Echo,
-        b"rheap 2\nroots 1\n1.0 @0\nobjects 2\n@0 1 @1\n@1 0\nend\n",
+        COUNTED,
         0,
         [b"roots 1 objects 2\n", b"", b"", b""],
     ),
@@ -334,18 +337,24 @@ fn each_cycle_has_its_line(rt: HostRuntime) {
     }
 }
 
-/// Runs a trace on these writers, of which a flush fails: that is a failed write, and the log says
-/// what failed.
-fn expect_write_fault<R, O, H, C>(rt: &R, out: &mut O, history: &mut H, cycles: &mut C)
+/// Does what is asked with this text, and tells it to these writers, of which a flush fails: that is a
+/// failed write, and the log says what failed, and that each text was flushed.
+fn expect_write_fault<R, O, H, C>(
+    rt: &R,
+    (subcommand, text, flushes): (Subcommand, &[u8], u64),
+    out: &mut O,
+    history: &mut H,
+    cycles: &mut C,
+)
 where
     R: AllocGlobal + Abort + Threads + Wait + Sync,
     O: Write,
     H: Write,
     C: Write,
 {
-    let mut reader = KeptReader::passing(rt.alloc(), STORED);
+    let mut reader = KeptReader::passing(rt.alloc(), text);
     let mut err = Vec::new(rt.alloc());
-    let ask = told(Subcommand::Run, Telling::Json);
+    let ask = told(subcommand, Telling::Json);
     let mut log = ViewLog::new(IoLog::new());
     let status = drive_viewed_logged(
         rt,
@@ -361,14 +370,29 @@ where
     );
     expect_equal(rt, status, 1);
     expect_equal(rt, log.has_flush_failed(), true);
+    expect_equal(rt, log.flushes(), flushes);
     expect_bytes(rt, &err, b"{\"fault\":\"write failed\"}\n");
 }
 
+/// What is viewed, by its text, and how many texts are flushed.
+const FLUSHED: &[(Subcommand, &[u8], u64)] = &[
+    (Subcommand::Run, STORED, 3),
+    (Subcommand::RunPaced { mark: None }, TWO_FLIPS, 3),
+    (Subcommand::RunGrowing { at_most: 64 }, TWO_FLIPS, 3),
+    (Subcommand::Replay, RIGHT, 1),
+    (Subcommand::Replay, WRONG, 1),
+    (Subcommand::Dump, COUNTED, 1),
+];
+
 #[test]
 fn a_failed_flush_of_each_writer_is_a_failed_write(rt: HostRuntime) {
-    expect_write_fault(&rt, &mut Unflushed, &mut io::sink(), &mut io::sink());
-    expect_write_fault(&rt, &mut io::sink(), &mut Unflushed, &mut io::sink());
-    expect_write_fault(&rt, &mut io::sink(), &mut io::sink(), &mut Unflushed);
+    let run = (Subcommand::Run, STORED, 3);
+    expect_write_fault(&rt, run, &mut io::sink(), &mut Unflushed, &mut io::sink());
+    expect_write_fault(&rt, run, &mut io::sink(), &mut io::sink(), &mut Unflushed);
+    for (row, &asked) in FLUSHED.iter().enumerate() {
+        let rt = Row { rt: &rt, row };
+        expect_write_fault(&rt, asked, &mut Unflushed, &mut io::sink(), &mut io::sink());
+    }
 }
 
 /// Whether memory was refused. What is told is then a prefix, and no history is written.
