@@ -153,6 +153,36 @@ const PROGRAMS: &[(&[u8], &[u8])] = &[
         b"(define quote 5) (write quote) (write (let ((quote -)) '5)) (write (and 1 2 3 (or #f #f 4)))",
         b"5-54",
     ),
+    // A function that a name has for good is called directly, and no other is.
+    (
+        b"(define (f) 1) (define (h) (set! f (lambda () 3))) (h) (display (f))",
+        b"3",
+    ),
+    (b"(if #f (define (abs x) 'mine)) (display (abs -5))", b"5"),
+    (
+        b"(letrec ((f (lambda () 1))) (set! f (lambda () 2)) (display (f)))",
+        b"2",
+    ),
+    (
+        b"(define (g f) ((lambda () (define (f) 2) (f))) (f)) (display (g (lambda () 1)))",
+        b"1",
+    ),
+    (
+        b"(define (f x) (list (<= 3 x) (>= 3 x) (< 3 x) (> 3 x))) (display (map f '(2 3 4)))",
+        b"((#f #t #f #t) (#t #t #f #f) (#t #f #t #f))",
+    ),
+    (
+        b"(define (f x) (list (<= x 3) (>= x 3) (< x 3) (> x 3))) (display (map f '(2 3 4)))",
+        b"((#t #f #t #f) (#t #t #f #f) (#f #t #f #t))",
+    ),
+    (
+        b"(define (f) 1) (display (f)) (define (f) 2) (display (f))",
+        b"12",
+    ),
+    (
+        b"(define (f a) (define (i x) (list x a)) (define (g b) (lambda () (define (h c) (lambda () (list a b c (i 4)))) ((h 3)))) ((g 2))) (display (f 1))",
+        b"(1 2 3 (4 1))",
+    ),
 ];
 
 /// Programs that stop, and their messages.
@@ -203,6 +233,18 @@ const STOPS: &[(&[u8], &[u8])] = &[
         b"p:1:15: bad: 1 y",
     ),
     (b"(+ 1 1152921504606846975 0)", b"p:1:1: overflow"),
+    (
+        b"(string-ref \"abc\" 3)",
+        b"p:1:1: string-ref: out of range",
+    ),
+    (
+        b"(letrec ((a (lambda () b)) (b (a))) b)",
+        b"p:1:24: b: unbound variable",
+    ),
+    (
+        b"(define r (if #f (define (f) 1) 0)) (f)",
+        b"p:1:38: f: unbound variable",
+    ),
 ];
 
 /// Texts that are no programs, and their first faults.
