@@ -48,8 +48,10 @@ fn config_of(size: u32) -> Config {
     }
 }
 
-/// A map of so many keys is made, copied and joined with the copy. What was refused hands all back.
-fn map<M: Allocator + Copy>(rt: &impl Abort, memory: M, size: u32) -> Option<()> {
+type Map<M> = MapOf<u32, MaxOf, M>;
+
+/// A map of so many keys. What was refused hands all back.
+fn map_of<M: Allocator + Copy>(rt: &impl Abort, memory: M, size: u32) -> Option<Map<M>> {
     let mut map = MapOf::new(memory);
     for key in 0..size {
         match map.add(key, MaxOf(1)) {
@@ -60,16 +62,29 @@ fn map<M: Allocator + Copy>(rt: &impl Abort, memory: M, size: u32) -> Option<()>
             }
         }
     }
+    Some(map)
+}
+
+/// A map of so many keys is joined with its copy. What was refused hands all back.
+fn join_with_copy<M: Allocator + Copy>(rt: &impl Abort, map: Map<M>, size: u32) -> Option<()> {
     let copy = map.copy().ok()?;
     match map.join(copy) {
-        Ok(joined) => expect_equal(rt, joined.len(), size as usize),
+        Ok(joined) => {
+            expect_equal(rt, joined.len(), size as usize);
+            Some(())
+        }
         Err(unjoined) => {
             let lengths = (unjoined.left.len(), unjoined.right.len());
             expect_equal(rt, lengths, (size as usize, size as usize));
-            return None;
+            None
         }
     }
-    let reserved: MapOf<u32, MaxOf, M> = MapOf::reserved(memory, size as usize).ok()?;
+}
+
+/// A map of so many keys is made, copied and joined with the copy, and one is made with room.
+fn map<M: Allocator + Copy>(rt: &impl Abort, memory: M, size: u32) -> Option<()> {
+    join_with_copy(rt, map_of(rt, memory, size)?, size)?;
+    let reserved: Map<M> = MapOf::reserved(memory, size as usize).ok()?;
     expect_equal(rt, reserved.len(), 0);
     Some(())
 }
@@ -95,15 +110,14 @@ fn pieces<R: AllocGlobal + Abort>(rt: &R, size: u32) -> Vec<Piece> {
     pieces
 }
 
-/// A replica takes so many items in pieces, is copied, and joined with the fold of the pieces.
-fn replica<R: AllocGlobal + Abort, M: Allocator + Copy>(
-    rt: &R,
+/// A replica of these pieces, taken one by one.
+fn taken<M: Allocator + Copy>(
+    rt: &impl Abort,
     memory: M,
-    size: u32,
-) -> Option<()> {
-    let pieces = pieces(rt, size);
+    pieces: &[Piece],
+) -> Option<PartialReplica<M>> {
     let mut replica = PartialReplica::empty(memory, 1);
-    for piece in &pieces {
+    for piece in pieces {
         let before = replica.len();
         match replica.take(piece) {
             Ok(more) => replica = more,
@@ -114,16 +128,40 @@ fn replica<R: AllocGlobal + Abort, M: Allocator + Copy>(
             }
         }
     }
-    let copy = replica.copy().ok()?;
-    let folded = fold(memory, 1, &pieces).ok()?;
-    let both = (size as usize, size as usize);
+    Some(replica)
+}
+
+/// Joins two replicas of so many items each. What was refused hands both back.
+fn join<M: Allocator + Copy>(
+    rt: &impl Abort,
+    copy: PartialReplica<M>,
+    folded: PartialReplica<M>,
+    size: u32,
+) -> Option<()> {
     match copy.join(folded) {
-        Ok(joined) => expect_equal(rt, (joined.len(), replica.len()), both),
+        Ok(joined) => {
+            expect_equal(rt, joined.len(), size as usize);
+            Some(())
+        }
         Err(unjoined) => {
+            let both = (size as usize, size as usize);
             expect_equal(rt, (unjoined.left.len(), unjoined.right.len()), both);
-            return None;
+            None
         }
     }
+}
+
+/// A replica takes so many items in pieces, is copied, and joined with the fold of the pieces.
+fn replica<R: AllocGlobal + Abort, M: Allocator + Copy>(
+    rt: &R,
+    memory: M,
+    size: u32,
+) -> Option<()> {
+    let pieces = pieces(rt, size);
+    let replica = taken(rt, memory, &pieces)?;
+    let copy = replica.copy().ok()?;
+    join(rt, copy, fold(memory, 1, &pieces).ok()?, size)?;
+    expect_equal(rt, replica.len(), size as usize);
     Some(())
 }
 
@@ -144,8 +182,8 @@ fn plain<M: Allocator + Copy>(rt: &impl Abort, memory: M, size: u32) -> Option<(
     Some(())
 }
 
-/// A heap is made, and so many events happen to it, or none.
-fn run<R: AllocGlobal + Abort, M: Allocator + Copy>(rt: &R, memory: M, size: u32) -> Option<()> {
+/// So many events.
+fn events_of<R: AllocGlobal + Abort, M: Allocator + Copy>(rt: &R, size: u32) -> Vec<Event<M>> {
     let mut events = Vec::new(rt.alloc());
     for _ in 0..size {
         let event: Event<M> = Event::Command {
@@ -154,11 +192,22 @@ fn run<R: AllocGlobal + Abort, M: Allocator + Copy>(rt: &R, memory: M, size: u32
         };
         events.push(event).ok().expect(rt, "memory is ample");
     }
+    events
+}
+
+/// A heap for a chain of so many objects, unless it lacks memory.
+fn heap_of<M: Allocator + Copy>(rt: &impl Abort, memory: M, size: u32) -> Option<Heap<M>> {
     let made = Heap::new(memory, config_of(size));
     if let Err(error) = &made {
         expect_equal(rt, *error, HeapError::OutOfMemory);
     }
-    let mut heap = made.ok()?;
+    made.ok()
+}
+
+/// A heap is made, and so many events happen to it, or none.
+fn run<R: AllocGlobal + Abort, M: Allocator + Copy>(rt: &R, memory: M, size: u32) -> Option<()> {
+    let events: Vec<Event<M>> = events_of(rt, size);
+    let mut heap = heap_of(rt, memory, size)?;
     let mut answers = Vec::new(memory);
     let done = heap.run(&events, &mut answers);
     if done == Err(OutOfMemory) {
@@ -169,24 +218,40 @@ fn run<R: AllocGlobal + Abort, M: Allocator + Copy>(rt: &R, memory: M, size: u32
     Some(())
 }
 
-/// The graphs of a chain of so many objects, in a heap and in a plain heap.
-fn graphs<R: AllocGlobal + Abort, M: Allocator + Copy>(rt: &R, memory: M, size: u32) -> Option<()> {
-    let mut heap = Heap::new(rt.alloc(), config_of(size))
-        .ok()
-        .expect(rt, "a heap");
-    let mut plain = Plain::new(rt.alloc(), 2, 2).ok().expect(rt, "a plain heap");
+/// Makes a chain of so many objects in a heap and in a plain heap, which answer the same.
+fn link<A: Allocator + Copy>(rt: &impl Abort, heap: &mut Heap<A>, plain: &mut Plain<A>, size: u32) {
     for _ in 0..size {
         for command in LINK {
             let answer = heap.command(1, command).ok();
             expect_equal(rt, answer, plain.command(1, command).ok());
         }
     }
-    let moving = graph(memory, &heap).ok()?;
+}
+
+/// The graphs of these heaps, which have so many objects.
+fn graphs_of<A: Allocator + Copy, M: Allocator + Copy>(
+    rt: &impl Abort,
+    memory: M,
+    heap: &Heap<A>,
+    plain: &Plain<A>,
+    size: u32,
+) -> Option<()> {
+    let moving = graph(memory, heap).ok()?;
     expect_equal(rt, moving.objects(), size.into());
     assert!(rt; plain.objects() <= MAX_OBJECTS as usize);
-    let still = plain_graph(memory, &plain).ok()?;
+    let still = plain_graph(memory, plain).ok()?;
     expect_equal(rt, still.objects(), size.into());
     Some(())
+}
+
+/// The graphs of a chain of so many objects, in a heap and in a plain heap.
+fn graphs<R: AllocGlobal + Abort, M: Allocator + Copy>(rt: &R, memory: M, size: u32) -> Option<()> {
+    let mut heap = Heap::new(rt.alloc(), config_of(size))
+        .ok()
+        .expect(rt, "a heap");
+    let mut plain = Plain::new(rt.alloc(), 2, 2).ok().expect(rt, "a plain heap");
+    link(rt, &mut heap, &mut plain, size);
+    graphs_of(rt, memory, &heap, &plain, size)
 }
 
 /// So many calls are recorded and checked.

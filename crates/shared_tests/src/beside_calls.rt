@@ -55,6 +55,14 @@ fn call_between<R: Wait>(
     is_seen(&signs.0.folded, missed);
 }
 
+/// Checks that two replicators were stopped, of which the second had nothing left to fold.
+fn expect_ended(rt: &impl Abort, mut ended: Vec<(Replicator, RunEnd)>) {
+    let (mut second, end) = ended.pop().expect(rt, "the second");
+    expect_equal(rt, (end, second.step()), (RunEnd::Stopped, Stepped::Idle));
+    let (_first, end) = ended.pop().expect(rt, "the first");
+    expect_equal(rt, (end, ended.len()), (RunEnd::Stopped, 0));
+}
+
 /// Plays the replicators behind gates, beside a call that gives what the second one folded before
 /// the first one may. Each steps only once both gates were asked: so none of this happens where one
 /// thread plays both, nor where they are played before the work or after it.
@@ -84,42 +92,66 @@ fn play<R: Threads + Wait + Sync + AllocGlobal + Abort>(
     let ended = crew(rt, rt.alloc(), replicators, &stop, LOOKS, || {
         call_between(rt, shared, one, (&signs.0, &signs.1), &missed);
     });
-    let mut ended = ended.ok().expect(rt, "they start");
     assert!(rt; !missed.load(Ordering::SeqCst));
-    let (mut second, end) = ended.pop().expect(rt, "the second");
-    expect_equal(rt, (end, second.step()), (RunEnd::Stopped, Stepped::Idle));
-    let (_first, end) = ended.pop().expect(rt, "the first");
-    expect_equal(rt, (end, ended.len()), (RunEnd::Stopped, 0));
+    expect_ended(rt, ended.ok().expect(rt, "they start"));
+}
+
+/// Plays the two replicators that have these ends beside a call of this owner.
+fn play_both<R: Threads + Wait + Sync + AllocGlobal + Abort>(
+    rt: &R,
+    shared: &SharedHeap,
+    one: &mut Mutator,
+    mut ends: Vec<ReplicatorEnds>,
+)
+    requires { AllByRecursion IsFresh ends.items }
+{
+    let second = last_of(rt.alloc(), &mut ends).expect(rt, "the second");
+    let first = last_of(rt.alloc(), &mut ends).expect(rt, "the first");
+    play(rt, shared, one, first, second);
+}
+
+/// Makes the calls after which each replicator has a piece, and plays both beside one more.
+fn call_beside<R: Threads + Wait + Sync + AllocGlobal + Abort>(
+    rt: &R,
+    shared: &SharedHeap,
+    one: &mut Mutator,
+    ends: Vec<ReplicatorEnds>,
+)
+    requires { AllByRecursion IsFresh ends.items }
+{
+    for (row, &(command, answer)) in PUSHED.iter().enumerate() {
+        let rt = &Row { rt, row };
+        expect_equal(rt, one.call(rt, shared, command), answer);
+    }
+    play_both(rt, shared, one, ends);
+}
+
+/// Checks what the heap has counted, once it is closed.
+fn expect_closed<R: AllocGlobal + Abort>(rt: &R, shared: SharedHeap, mutators: Vec<Mutator>) {
+    let kept = close(shared, mutators).ok();
+    let kept = kept.expect(rt, "all calls are there");
+    let numbers = ((6, 2, false, 1), (16, 12, 2, 0), Some(4));
+    expect_equal(rt, numbers_of(rt, &kept), numbers);
 }
 
 /// Two replicators fold beside the calls, and each piece is given under the lock.
 fn meet<R: Threads + Wait + Sync + AllocGlobal + Abort>(rt: &R) -> Result<(), &'static str> {
     let start = Start::new(rt.alloc(), SMALL, GATE).ok().ok_or("it starts")?;
-    let Ok((shared, mut mutators, mut ends)) = SharedHeap::new(rt.alloc(), start) else {
+    let Ok((shared, mut mutators, ends)) = SharedHeap::new(rt.alloc(), start) else {
         return Err("memory is ample");
     };
-    let mut one = mutators.pop().expect(rt, "owner 1");
-    for (row, &(command, answer)) in PUSHED.iter().enumerate() {
-        let rt = &Row { rt, row };
-        expect_equal(rt, one.call(rt, &shared, command), answer);
-    }
-    let second = last_of(rt.alloc(), &mut ends).expect(rt, "the second");
-    let first = last_of(rt.alloc(), &mut ends).expect(rt, "the first");
-    play(rt, &shared, &mut one, first, second);
+    let mut one = mutators.pop().ok_or("owner 1")?;
+    call_beside(rt, &shared, &mut one, ends);
     // The fourth call gave what the second one had folded; an increment gives what the first has.
     let last = shared.increment(rt);
-    let _ = mutators.push(one);
-    let kept = close(shared, mutators)
-        .ok()
-        .expect(rt, "all calls are there");
     let flipped = Did {
         given: 1,
         flipped: true,
         ..NOTHING
     };
     expect_equal(rt, last, flipped);
-    let numbers = ((6, 2, false, 1), (16, 12, 2, 0), Some(4));
-    expect_equal(rt, numbers_of(rt, &kept), numbers);
+    let _ = mutators.push(one);
+    expect_closed(rt, shared, mutators);
     Ok(())
 }
 
