@@ -183,6 +183,19 @@ const PROGRAMS: &[(&[u8], &[u8])] = &[
         b"(define (f a) (define (i x) (list x a)) (define (g b) (lambda () (define (h c) (lambda () (list a b c (i 4)))) ((h 3)))) ((g 2))) (display (f 1))",
         b"(1 2 3 (4 1))",
     ),
+    // A name that is bound again means what it did, once that has ended.
+    (
+        b"(define (f) (define (g) 1) (let ((g (lambda () 2))) (display (g))) ((lambda (g) (display (g))) (lambda () 3)) (display (g))) (f)",
+        b"231",
+    ),
+    (
+        b"(define (f g) (letrec ((g (lambda (n) (if (= n 0) (list g) (g (- n 1)))))) (procedure? (car (g 2))))) (display (f 0))",
+        b"#t",
+    ),
+    (
+        b"(define (f x) (define (g) (define x 3) (let* ((x 4) (x (+ x 1))) (display x)) x) (list x (g) x)) (display (f 1))",
+        b"5(1 3 1)",
+    ),
 ];
 
 /// Programs that stop, and their messages.
