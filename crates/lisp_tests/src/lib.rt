@@ -5,3 +5,5 @@
 mod expectations;
 #[cfg(test)]
 mod programs;
+#[cfg(test)]
+mod texts;

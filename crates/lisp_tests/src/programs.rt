@@ -1,6 +1,7 @@
 //! Programs, what they print, and where they stop.
 
 use crate::expectations::{Row, expect_bytes};
+use crate::texts::each_kind;
 use refusing::RefusingAllocator;
 use rh_growing::GrowingHeap;
 use rh_lisp::{Fault, FaultKind, Outcome, Printed, Program, ReadKind};
@@ -8,6 +9,13 @@ use rh_pace::{PacedHeap, Sizes};
 use std::alloc::{Allocator, Global};
 use std::process::Abort;
 use std::rt::HostRuntime;
+
+/// Programs that write a datum that has one of each kind in it: one makes it, and one quotes its
+/// text.
+const WRITERS: &[&[u8]] = &[
+    b"(write (cons 10 (cons (cons -7 #\\a) (cons (string #\\a #\\\" #\\\\ #\\newline #\\tab) (cons (vector 'x '() #t) (cons #\\newline (cons #f #\\space)))))))",
+    b"(write '(10 (-7 . #\\a) \"a\\\"\\\\\\n\\t\" #(x () #t) #\\newline #f . #\\space))",
+];
 
 /// Programs, and what they print: what another Scheme prints.
 const PROGRAMS: &[(&[u8], &[u8])] = &[
@@ -381,6 +389,13 @@ fn fault_of<A: Allocator + Copy>(alloc: A, text: &[u8]) -> Option<String<A>> {
 fn programs_print_what_another_scheme_prints(rt: HostRuntime) {
     for (row, &(text, output)) in PROGRAMS.iter().enumerate() {
         expect_run(&Row { rt: &rt, row }, text, Some(output), b"");
+    }
+}
+
+#[test]
+fn a_datum_of_each_kind_is_written_as_its_text(rt: HostRuntime) {
+    for (row, &text) in WRITERS.iter().enumerate() {
+        expect_run(&Row { rt: &rt, row }, text, Some(each_kind()), b"");
     }
 }
 
