@@ -1,29 +1,24 @@
 //! The arguments of the program.
 
-ghost use Rattle.std.specs.Prelude.{◌≡◌, ◌≢◌, ◌≤◌, ◌⊎◌, [], map, option_map, false, Ok, Err, IsTrue, IfOk, IfErr, codes};
-ghost use Rattle.clap.specs.declared.builder.command.Command.TheViews.{out-Command as fields_of};
-ghost use Rattle.clap.specs.Words.{kind_of, app_of, new_app, subcommand_rows_of};
-ghost use Rattle.rh_cli.specs.Ask.{command_asked, grown_app, is_output, output_texts, replay_app, telling_of, told_app, viewed_in, viewed_of, command_and_file, command_and_file_in, command_and_file_of, command_named, completions_app, completions_asked, completions_for, error_kinds, explains_in, explains_of, file_or_input, draw_app, draw_asked, dump_app, dump_asked, file_app, growing_asked, marked_app, number_within, once, run_app, run_given, rheap_app_for, command_for, has_options, names_command, first_word, is_crossed, is_same_file, is_set, is_taken, run_asked, threads_app, threads_asked, shell_app};
+ghost use Rattle.std.specs.Prelude.{◌≡◌, ◌≢◌, ◌≤◌, ◌⊎◌, [], map, option_map, Ok, Err, IsTrue, IfOk, IfErr};
+ghost use Rattle.clap.specs.Words.{kind_of, subcommand_rows_of};
+ghost use Rattle.rh_cli.specs.Ask.{command_asked, is_output, output_texts, telling_of, viewed_in, viewed_of, command_and_file, command_and_file_in, command_and_file_of, command_named, completions_asked, completions_for, error_kinds, explains_in, explains_of, file_or_input, draw_asked, dump_asked, growing_asked, number_within, once, run_given, is_crossed, is_same_file, is_set, is_taken, run_asked, threads_asked};
 ghost use Rattle.rh_cli.specs.Fault.{IsArgumentsFault, IsClapFault};
 ghost use Rattle.rh_cli.specs.declared.ask.Ask.{Ask};
 
 use crate::ask::{Ask, Shell, Subcommand, Views};
+use crate::commands::{command_line, first_word};
 use crate::fault::LineFault;
-use crate::help;
-use crate::lisp_arguments::{lisp_asked, lisp_command};
-use crate::version::VERSION;
+use crate::lisp_arguments::lisp_asked;
+use clap::ArgMatches;
 use clap::error::ErrorKind;
-use clap::{Arg, ArgAction, ArgMatches, Command};
 use rh_shared::MAX_REPLICATORS;
 use rh_text::read_number;
 use rh_viewed_trace::Telling;
-use std::alloc::{AllocError, Global};
+use std::alloc::Global;
 
 /// The replicators of `threads` where it isn't said how many.
 const USUAL_REPLICATORS: u32 = 2;
-
-/// What the flag does that asks for JSON.
-const JSON_HELP: &str = "Prints objects of JSON, one a line";
 
 /// The most idle words of an increment that can be asked for.
 const MAX_IDLE: u32 = 65_535;
@@ -47,279 +42,6 @@ struct Options<'a> {
     echo: Option<&'a str>,
     json: Option<&'a str>,
     file: Option<&'a str>,
-}
-
-/// The command line as clap knows it, where the word is the first. If that names a command, only
-/// this command has its options.
-fn command_line<'a>(alloc: Global, word: &str) -> Result<Command<'a>, AllocError>
-    ensures { IfOk result (λ command. app_of command ≡ rheap_app_for word.now) }
-{
-    Command::new(alloc, "rheap")
-        .about("A managed heap, proved to answer as one that never moves its objects")
-        .version(VERSION)
-        .subcommand_required(true)
-        .bin_name("rheap")?
-        .subcommand(run_command(alloc, word)?)?
-        .subcommand(threads_command(alloc, word)?)?
-        .subcommand(replay_command(alloc, word)?)?
-        .subcommand(dump_command(alloc, word)?)?
-        .subcommand(draw_command(alloc, word)?)?
-        .subcommand(shell_command(alloc))?
-        .subcommand(lisp_command(alloc, word)?)?
-        .subcommand(completions_command(alloc, word)?)
-}
-
-/// The command `run` as clap knows it, where the word is the first.
-fn run_command<'a>(alloc: Global, word: &str) -> Result<Command<'a>, AllocError>
-    ensures app { IfOk result (λ command.
-        app_of command ≡ command_for word.now (codes "run") run_app) }
-    ensures local { IfOk result (λ command. (fields_of command).has_globals ≡ false) }
-{
-    let about = "Runs a trace, and prints an answer for each of its lines";
-    if !has_options(word, "run") {
-        return Ok(named_command(alloc, "run", about));
-    }
-    let cycles = Arg::new(alloc, "cycles")
-        .long("cycles")
-        .value_name("OUT")
-        .help("Writes a line for each cycle to the file OUT; - is standard output");
-    let history = Arg::new(alloc, "history")
-        .long("history")
-        .value_name("OUT")
-        .help("Writes the history of the commands to the file OUT; - is standard output");
-    told_command(
-        alloc,
-        grown_command(alloc, about)?.arg(cycles)?.arg(history)?,
-    )
-}
-
-/// A command with the flags that say how it is told on standard output, as clap knows it.
-fn told_command<'a>(alloc: Global, command: Command<'a>) -> Result<Command<'a>, AllocError>
-    ensures app { IfOk result (λ told. app_of told ≡ told_app (app_of command.entry)) }
-    ensures local { (fields_of command.entry).has_globals ≡ false
-        → IfOk result (λ told. (fields_of told).has_globals ≡ false) }
-{
-    let echo = Arg::new(alloc, "echo")
-        .long("echo")
-        .action(ArgAction::SetTrue)
-        .help("Prints each line's number, its text and its answer, with tabs between");
-    let json = Arg::new(alloc, "json")
-        .long("json")
-        .action(ArgAction::SetTrue)
-        .help(JSON_HELP);
-    command.arg(echo)?.arg(json)
-}
-
-/// The command `run` with its options but those that view a run, as clap knows it.
-fn grown_command<'a>(alloc: Global, about: &'a str) -> Result<Command<'a>, AllocError>
-    ensures app { IfOk result (λ command. app_of command ≡ grown_app) }
-    ensures local { IfOk result (λ command. (fields_of command).has_globals ≡ false) }
-{
-    let grow = Arg::new(alloc, "grow").long("grow").value_name("N").help(
-        "With --paced, without --mark: each of its spaces grows to at most N words",
-    );
-    marked_command(alloc, about)?.arg(grow)
-}
-
-/// The command `run` with the options of a heap that doesn't grow, as clap knows it.
-fn marked_command<'a>(alloc: Global, about: &'a str) -> Result<Command<'a>, AllocError>
-    ensures app { IfOk result (λ command. app_of command ≡ marked_app) }
-    ensures local { IfOk result (λ command. (fields_of command).has_globals ≡ false) }
-{
-    let paced = Arg::new(alloc, "paced")
-        .long("paced")
-        .action(ArgAction::SetTrue)
-        .help("Runs a trace of commands alone, on a heap that collects by itself");
-    let mark = Arg::new(alloc, "mark").long("mark").value_name("N").help(
-        "With --paced: a cycle begins where fewer than N words are free",
-    );
-    file_command(alloc, "run", about, help::RUN)?
-        .arg(paced)?
-        .arg(mark)
-}
-
-/// The command `threads` as clap knows it, where the word is the first.
-fn threads_command<'a>(alloc: Global, word: &str) -> Result<Command<'a>, AllocError>
-    ensures app { IfOk result (λ command.
-        app_of command ≡ command_for word.now (codes "threads") threads_app) }
-    ensures local { IfOk result (λ command. (fields_of command).has_globals ≡ false) }
-{
-    let about = "Plays a trace of commands in threads, and prints the history of the calls";
-    if !has_options(word, "threads") {
-        return Ok(named_command(alloc, "threads", about));
-    }
-    let replicators = Arg::new(alloc, "replicators")
-        .long("replicators")
-        .value_name("N")
-        .help("The replicators, in threads of their own: 0 to 8, 2 where it isn't said");
-    let idle = Arg::new(alloc, "idle").long("idle").value_name("N").help(
-        "The idle words of an increment in a cycle: 0 to 65535, 0 if it isn't said",
-    );
-    file_command(alloc, "threads", about, help::THREADS)?
-        .arg(replicators)?
-        .arg(idle)
-}
-
-/// The command `replay` as clap knows it, where the word is the first.
-fn replay_command<'a>(alloc: Global, word: &str) -> Result<Command<'a>, AllocError>
-    ensures app { IfOk result (λ command.
-        app_of command ≡ command_for word.now (codes "replay") replay_app) }
-    ensures local { IfOk result (λ command. (fields_of command).has_globals ≡ false) }
-{
-    let about = "Checks a history against a heap that never moves its objects, and reports on it";
-    if !has_options(word, "replay") {
-        return Ok(named_command(alloc, "replay", about));
-    }
-    told_command(alloc, file_command(alloc, "replay", about, help::REPLAY)?)
-}
-
-/// The command `dump` as clap knows it, where the word is the first.
-fn dump_command<'a>(alloc: Global, word: &str) -> Result<Command<'a>, AllocError>
-    ensures app { IfOk result (λ command.
-        app_of command ≡ command_for word.now (codes "dump") dump_app) }
-    ensures local { IfOk result (λ command. (fields_of command).has_globals ≡ false) }
-{
-    let about = "Reads a dump, and prints how many roots and objects it has";
-    if !has_options(word, "dump") {
-        return Ok(named_command(alloc, "dump", about));
-    }
-    let dot = Arg::new(alloc, "dot")
-        .long("dot")
-        .action(ArgAction::SetTrue)
-        .help("Prints its graph instead, as a text for Graphviz");
-    let json = Arg::new(alloc, "json")
-        .long("json")
-        .action(ArgAction::SetTrue)
-        .help(JSON_HELP);
-    file_command(alloc, "dump", about, help::DUMP)?
-        .arg(dot)?
-        .arg(json)
-}
-
-/// The command `draw` as clap knows it, where the word is the first.
-fn draw_command<'a>(alloc: Global, word: &str) -> Result<Command<'a>, AllocError>
-    ensures app { IfOk result (λ command.
-        app_of command ≡ command_for word.now (codes "draw") draw_app) }
-    ensures local { IfOk result (λ command. (fields_of command).has_globals ≡ false) }
-{
-    let about = "Draws the heap of a trace after one of its lines, in SVG";
-    if !has_options(word, "draw") {
-        return Ok(named_command(alloc, "draw", about));
-    }
-    let line = Arg::new(alloc, "line").long("line").value_name("N").help(
-        "The line after which it is drawn, from 1; the last if it isn't said",
-    );
-    file_command(alloc, "draw", about, help::DRAW)?.arg(line)
-}
-
-/// The command `shell` as clap knows it.
-fn shell_command<'a>(alloc: Global) -> Command<'a>
-    ensures app { app_of result ≡ shell_app }
-    ensures local { (fields_of result).has_globals ≡ false }
-{
-    Command::new(alloc, "shell")
-        .about("Answers the lines of a trace as they are typed, and draws the heap")
-        .after_help(help::SHELL)
-}
-
-/// The command `completions` as clap knows it, where the word is the first.
-fn completions_command<'a>(alloc: Global, word: &str) -> Result<Command<'a>, AllocError>
-    ensures app { IfOk result (λ command.
-        app_of command ≡ command_for word.now (codes "completions") completions_app) }
-    ensures local { IfOk result (λ command. (fields_of command).has_globals ≡ false) }
-{
-    let about = "Prints completions of the program's command lines for a shell";
-    if !has_options(word, "completions") {
-        return Ok(named_command(alloc, "completions", about));
-    }
-    let shell = Arg::new(alloc, "SHELL")
-        .required(true)
-        .help("The shell: bash, zsh or fish");
-    Command::new(alloc, "completions")
-        .about(about)
-        .after_help(help::COMPLETIONS)
-        .arg(shell)
-}
-
-/// The command of this name without its options, as clap knows it.
-pub(crate) fn named_command<'a>(alloc: Global, name: &'a str, about: &'a str) -> Command<'a>
-    ensures app { app_of result ≡ new_app name.entry.now }
-    ensures local { (fields_of result).has_globals ≡ false }
-{
-    Command::new(alloc, name).about(about)
-}
-
-/// Whether the command of this name has its options, where the word is the first. It has them if
-/// the word names it, or no command.
-pub(crate) fn has_options(word: &str, name: &str) -> bool
-    ensures { result ≡ has_options word.now name.now }
-{
-    if names_command(word) {
-        return word == name;
-    }
-    true
-}
-
-/// Whether a word is the name of a command.
-fn names_command(word: &str) -> bool
-    ensures { result ≡ names_command word.now }
-{
-    if word == "run" {
-        return true;
-    }
-    if word == "threads" {
-        return true;
-    }
-    if word == "replay" {
-        return true;
-    }
-    if word == "dump" {
-        return true;
-    }
-    if word == "draw" {
-        return true;
-    }
-    if word == "shell" {
-        return true;
-    }
-    if word == "lisp" {
-        return true;
-    }
-    word == "completions"
-}
-
-/// The first word after the program's name; empty where there is none.
-fn first_word<'a>(arguments: &[&'a str]) -> &'a str
-    ensures { result.now ≡ first_word (map (λ a. a.now) arguments.now) }
-{
-    match arguments {
-        [_, word, ..] => word,
-        _ => "",
-    }
-}
-
-/// The command of this name, which takes a file, as clap knows it.
-fn file_command<'a>(
-    alloc: Global,
-    name: &'a str,
-    about: &'a str,
-    after_help: &'a str,
-) -> Result<Command<'a>, AllocError>
-    ensures app { IfOk result (λ command. app_of command ≡ file_app name.entry.now) }
-    ensures local { IfOk result (λ command. (fields_of command).has_globals ≡ false) }
-{
-    let file = Arg::new(alloc, "FILE")
-        .required(true)
-        .help("The file to read; - is standard input");
-    let explain = Arg::new(alloc, "explain")
-        .long("explain")
-        .action(ArgAction::SetTrue)
-        .help("Shows the part of a line that is wrong, and says what may stand there");
-    Command::new(alloc, name)
-        .about(about)
-        .after_help(after_help)
-        .arg(file)?
-        .arg(explain)
 }
 
 /// What the arguments ask for. The first one is the program's name. Clap takes its memory from the

@@ -3,6 +3,7 @@
 
 mod arguments;
 mod ask;
+mod commands;
 mod completing;
 mod completions;
 mod conversing;

@@ -6,8 +6,8 @@ ghost use Rattle.clap.specs.Words.{app_of};
 ghost use Rattle.rh_cli.specs.Ask.{command_for, heap_words, lisp_app, lisp_asked, sized_app, steps_given};
 ghost use Rattle.rh_cli.specs.Fault.{IsArgumentsFault};
 
-use crate::arguments::{has_options, named_command};
 use crate::ask::Subcommand;
+use crate::commands::{has_options, named_command};
 use crate::fault::LineFault;
 use crate::help;
 use clap::{Arg, Command};

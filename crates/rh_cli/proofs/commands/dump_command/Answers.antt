@@ -3,7 +3,7 @@ use Rattle.std.proofs.lemmas.Result.{IfOk-weaker}
 use Rattle.clap.specs.Words.{app_of, rule_of, with_rule}
 use Rattle.rh_cli.specs.Ask.{dot_rule, dump_app, file_app, has_options, json_rule}
 use Rattle.rh_cli.proofs.Wholes.{whole-command_for}
-use Rattle.rh_cli.proofs.arguments.dump_command.Goals as goal
+use Rattle.rh_cli.proofs.commands.dump_command.Goals as goal
 
 pub returns-clause-app : goal.returns-clause-app
 returns-clause-app c =

@@ -2,7 +2,7 @@ use Rattle.std.proofs.Common.{rules, ap₂, ◌≡◌, ◌∙◌}
 use Rattle.std.proofs.lemmas.Result.{IfOk-weaker}
 use Rattle.clap.specs.Words.{rule_of, with_rule}
 use Rattle.rh_cli.specs.Ask.{grow_rule}
-use Rattle.rh_cli.proofs.arguments.grown_command.Goals as goal
+use Rattle.rh_cli.proofs.commands.grown_command.Goals as goal
 
 pub returns-clause-app : goal.returns-clause-app
 returns-clause-app c =

@@ -3,7 +3,7 @@ use Rattle.std.proofs.lemmas.Result.{IfOk-weaker}
 use Rattle.clap.specs.Words.{app_of, rule_of, with_rule}
 use Rattle.rh_cli.specs.Ask.{cycles_rule, grown_app, has_options, history_rule, run_app, told_app}
 use Rattle.rh_cli.proofs.Wholes.{whole-command_for}
-use Rattle.rh_cli.proofs.arguments.run_command.Goals as goal
+use Rattle.rh_cli.proofs.commands.run_command.Goals as goal
 
 pub returns-clause-app : goal.returns-clause-app
 returns-clause-app c =

@@ -4,7 +4,7 @@ use Rattle.clap.specs.Words.{app_of, rule_of, new_app, with_rule}
 use Rattle.clap.specs.Simple.{app_of_fields}
 use Rattle.rh_cli.specs.Ask.{completions_app, has_options, shell_rule}
 use Rattle.rh_cli.proofs.Wholes.{whole-command_for}
-use Rattle.rh_cli.proofs.arguments.completions_command.Goals as goal
+use Rattle.rh_cli.proofs.commands.completions_command.Goals as goal
 
 pub returns-clause-app : goal.returns-clause-app
 returns-clause-app c =

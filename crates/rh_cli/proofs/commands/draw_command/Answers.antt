@@ -3,7 +3,7 @@ use Rattle.std.proofs.lemmas.Result.{IfOk-weaker}
 use Rattle.clap.specs.Words.{rule_of, with_rule}
 use Rattle.rh_cli.specs.Ask.{draw_app, has_options, line_rule}
 use Rattle.rh_cli.proofs.Wholes.{whole-command_for}
-use Rattle.rh_cli.proofs.arguments.draw_command.Goals as goal
+use Rattle.rh_cli.proofs.commands.draw_command.Goals as goal
 
 pub returns-clause-app : goal.returns-clause-app
 returns-clause-app c =

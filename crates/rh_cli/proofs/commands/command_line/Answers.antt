@@ -3,7 +3,7 @@ use Rattle.std.proofs.lemmas.Result.{IfOk-weaker}
 use Rattle.clap.specs.Words.{App, Shape, Text, app_of, new_app, with_subcommand}
 use Rattle.clap.specs.Simple.{app_of_fields, on_top}
 use Rattle.rh_cli.specs.Ask.{command_for, rheap_top, run_app, threads_app, replay_app, dump_app, draw_app, shell_app, lisp_app}
-use Rattle.rh_cli.proofs.arguments.command_line.Goals as goal
+use Rattle.rh_cli.proofs.commands.command_line.Goals as goal
 
 abbrev versioned : App → App
 versioned = on_top (λ (s : Shape). record s { has_version = true })

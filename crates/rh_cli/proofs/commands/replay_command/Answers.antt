@@ -2,7 +2,7 @@ use Rattle.std.proofs.Common.{ap, ◌∙◌, rules, codes, true, ◌≡◌}
 use Rattle.std.proofs.lemmas.Result.{IfOk-weaker}
 use Rattle.rh_cli.specs.Ask.{has_options, replay_app, told_app}
 use Rattle.rh_cli.proofs.Wholes.{whole-command_for}
-use Rattle.rh_cli.proofs.arguments.replay_command.Goals as goal
+use Rattle.rh_cli.proofs.commands.replay_command.Goals as goal
 
 pub returns-clause-app : goal.returns-clause-app
 returns-clause-app c =

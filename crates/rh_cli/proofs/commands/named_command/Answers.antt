@@ -1,6 +1,6 @@
 use Rattle.std.proofs.Common.{ap, ◌∙◌}
 use Rattle.clap.specs.Simple.{app_of_fields}
-use Rattle.rh_cli.proofs.arguments.named_command.Goals as goal
+use Rattle.rh_cli.proofs.commands.named_command.Goals as goal
 
 pub returns-clause-app : goal.returns-clause-app
 returns-clause-app c = ap app_of_fields c.about.ensures ∙ c.new.ensures.app

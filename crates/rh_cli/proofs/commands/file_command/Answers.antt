@@ -3,7 +3,7 @@ use Rattle.std.proofs.lemmas.Result.{IfOk-weaker}
 use Rattle.clap.specs.Words.{app_of, rule_of, new_app, with_rule}
 use Rattle.clap.specs.Simple.{app_of_fields}
 use Rattle.rh_cli.specs.Ask.{file_rule, explain_rule}
-use Rattle.rh_cli.proofs.arguments.file_command.Goals as goal
+use Rattle.rh_cli.proofs.commands.file_command.Goals as goal
 
 pub returns-clause-app : goal.returns-clause-app
 returns-clause-app c =

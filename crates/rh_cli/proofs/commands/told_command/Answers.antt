@@ -2,7 +2,7 @@ use Rattle.std.proofs.Common.{rules, ap, ap₂, ◌≡◌, ◌∙◌}
 use Rattle.std.proofs.lemmas.Result.{IfOk-weaker}
 use Rattle.clap.specs.Words.{app_of, rule_of, with_rule}
 use Rattle.rh_cli.specs.Ask.{echo_rule, json_rule}
-use Rattle.rh_cli.proofs.arguments.told_command.Goals as goal
+use Rattle.rh_cli.proofs.commands.told_command.Goals as goal
 
 pub returns-clause-app : goal.returns-clause-app
 returns-clause-app c =

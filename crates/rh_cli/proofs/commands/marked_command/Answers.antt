@@ -2,7 +2,7 @@ use Rattle.std.proofs.Common.{rules, ap₂, ◌≡◌, ◌∙◌, codes}
 use Rattle.std.proofs.lemmas.Result.{IfOk-weaker}
 use Rattle.clap.specs.Words.{app_of, rule_of, with_rule}
 use Rattle.rh_cli.specs.Ask.{file_app, paced_rule, mark_rule}
-use Rattle.rh_cli.proofs.arguments.marked_command.Goals as goal
+use Rattle.rh_cli.proofs.commands.marked_command.Goals as goal
 
 pub returns-clause-app : goal.returns-clause-app
 returns-clause-app c =
