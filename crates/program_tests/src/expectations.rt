@@ -74,24 +74,3 @@ pub fn expect_prefix(rt: &impl Abort, text: &[u8], prefix: &[u8]) {
         prefix.escape_ascii()
     );
 }
-
-/// Ends the test unless the value is shown as this text.
-pub fn expect_text<R, D>(rt: &R, value: D, text: &str)
-where
-    R: AllocGlobal + Abort,
-    D: Display + Drop,
-{
-    let shown = format!(in rt.alloc(); "{value}").expect(rt, "memory is ample");
-    expect_equal(rt, shown.as_str(), text);
-}
-
-/// Ends the test unless each value is shown as the text beside it.
-pub fn expect_texts<R, D>(rt: &R, texts: &[(D, &str)])
-where
-    R: AllocGlobal + Abort,
-    D: Display + Copy + Drop,
-{
-    for &(value, text) in texts {
-        expect_text(rt, value, text);
-    }
-}

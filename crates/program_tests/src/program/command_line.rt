@@ -2,8 +2,8 @@
 
 use crate::expectations::{Row, expect_bytes, expect_equal, expect_prefix};
 use crate::program::terminal::Terminal;
-use crate::texts::{COLUMNS, WITHOUT_FIELDS, WITHOUT_FIELDS_ANSWERS};
 use rh_cli::{Ask, LineFault, PLAIN, Subcommand, Terminals, play, read_words, tell};
+use samples::texts::{COLUMNS, WITHOUT_FIELDS, WITHOUT_FIELDS_ANSWERS};
 use std::cell::RefCell;
 use std::process::Abort;
 use std::sync::Wait;

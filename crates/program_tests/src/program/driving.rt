@@ -1,9 +1,9 @@
 //! The program's commands, over a text and two writers.
 
-use crate::devices::InterruptedReader;
 use crate::expectations::{Row, expect_bytes, expect_equal, expect_prefix};
-use crate::texts::without_last_line;
 use rh_cli::{Ask, PLAIN, Subcommand, drive};
+use samples::devices::InterruptedReader;
+use samples::texts::without_last_line;
 use std::alloc::Allocator;
 use std::process::Abort;
 use std::sync::Wait;

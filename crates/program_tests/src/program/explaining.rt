@@ -1,11 +1,11 @@
 //! What is told of a text that fails, where it is explained.
 
-use crate::devices::SlowReader;
 use crate::expectations::{Row, expect_bytes, expect_equal, expect_refusals};
 use crate::program::driving::{DUMP, PACED, REPLAY, RUN, THREADS};
-use crate::texts::{WHOLE_CYCLE, WHOLE_CYCLE_ANSWERS};
 use refusing::refused_in_turn;
 use rh_cli::{Ask, KeptReader, PLAIN, Subcommand, drive_explained};
+use samples::devices::SlowReader;
+use samples::texts::{WHOLE_CYCLE, WHOLE_CYCLE_ANSWERS};
 use std::alloc::Allocator;
 use std::process::Abort;
 use std::sync::Wait;

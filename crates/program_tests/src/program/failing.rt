@@ -1,20 +1,17 @@
 //! Each command of the program over texts that are cut, devices that fail, and memory that is
 //! refused, at each place in turn.
 
-use crate::devices::{Broken, SlowReader, SlowWriter, Unflushed};
 use crate::expectations::{Row, expect_bytes, expect_equal, expect_prefix, expect_refusals};
 use crate::program::driving::{DOT, DUMP, PACED, REPLAY, RUN, THREADS, is_refused};
-use crate::texts::{
-    JOINED, JOINED_ANSWERS, RIGHT, RIGHT_REPORT, STORED, STORED_HISTORY, TWO_FLIPS,
-    TWO_FLIPS_ANSWERS, WHOLE_CYCLE, WHOLE_CYCLE_ANSWERS, WITHOUT_FIELDS, WITHOUT_FIELDS_ANSWERS,
-    WRONG, WRONG_REPORT, add_numbered, ended_lines, repeated, without_last_line,
-};
+use crate::texts::{STORED, STORED_HISTORY, TWO_FLIPS_ANSWERS, ended_lines};
 use refusing::refused_in_turn;
 use rh_cli::{Ask, PLAIN, Subcommand, drive};
-use rh_dump::{read_dump, write_dump};
-use rh_layout::{Command, Operand, Refusal, Reply, RootId};
-use rh_replay::{Verdict, read_history, report, write_history};
-use rh_trace::{Write, parse, print, write_answer, write_command};
+use samples::devices::{Broken, SlowReader, SlowWriter, Unflushed};
+use samples::texts::{
+    BESIDE_RAW, JOINED, JOINED_ANSWERS, RIGHT, RIGHT_REPORT, TWO_FLIPS, WHOLE_CYCLE,
+    WHOLE_CYCLE_ANSWERS, WITHOUT_FIELDS, WITHOUT_FIELDS_ANSWERS, WRONG, WRONG_REPORT, add_numbered,
+    repeated, without_last_line,
+};
 use std::process::Abort;
 use std::sync::Wait;
 use std::test::Fail;
@@ -62,13 +59,10 @@ const EARLIER_ANSWERS: &[u8] =
     b"object 2\nobject 2\nobject 2\nobject 2\nobject 2\nobject 2\nobject 2\nobject 2\n\
         object 2\nobject 2\nobject 2\ntotal commands 11 refused 0 flips 3 rootwords 3\n";
 
-/// The dump of an object that refers to itself, and of one beside a raw object, in both versions.
+/// The dump of an object that refers to itself, in the version before.
 const ITSELF: &[u8] = b"rheap 1\nroots 1\n1.0 @0\nobjects 1\n@0 1 @0\nend\n";
 
-const BESIDE_RAW: &[u8] =
-    b"rheap 2\nroots 2\n0.3 @0\n1.0 -7\nobjects 2\n@0 4 @1 nil @0 5\n@1 raw 2 5 nil\nend\n";
-
-/// The second of these as a text for Graphviz.
+/// The dump of an object beside a raw one, as a text for Graphviz.
 const BESIDE_RAW_GRAPH: &[u8] = b"digraph rheap { rankdir=LR\n\
 { rank=source \"0.3\" [shape=box label=\"0.3 @0\"] }\n\"0.3\" -> \"@0\"\n\
 { rank=source \"1.0\" [shape=box label=\"1.0 -7\"] }\n\
@@ -404,72 +398,5 @@ fn each_allocation_is_refused_at_sizes(rt: HostRuntime) -> Result<(), Fail> {
         sizes = sizes.saturating_add(1);
     }
     expect_equal(&rt, sizes, 9);
-    Ok(())
-}
-
-/// Writes a text, three bytes a time, each write failing in turn: a prefix is left then. Answers
-/// how many writes there are.
-fn fail_texts<R, F>(rt: &R, text: &[u8], write: F) -> u32
-where
-    R: AllocGlobal + Abort,
-    F: Fn(&mut SlowWriter) -> Result<(), Write>,
-    requires { F.IsAlwaysCallable write }
-{
-    for nth in 1..1000u32 {
-        let row = nth as usize;
-        let rt = &Row { rt, row };
-        let mut writer = SlowWriter::new(rt, 3, nth);
-        let outcome = write(&mut writer);
-        expect_prefix(rt, text, &writer.text);
-        if writer.writes < nth {
-            expect_equal(rt, (outcome, writer.text.len()), (Ok(()), text.len()));
-            return writer.writes;
-        }
-        assert!(rt; outcome.is_err() && writer.text.len() < text.len());
-    }
-    0
-}
-
-/// A command and an answer, with their texts.
-const COMMAND: Command = Command::Store {
-    obj: RootId { owner: 1, slot: 0 },
-    field: 0,
-    operand: Operand::Int(-5),
-};
-
-const COMMAND_TEXT: &[u8] = b"1 store 1.0 0 -5";
-
-const ANSWER: Result<Reply, Refusal> = Err(Refusal::IntRange);
-
-const ANSWER_TEXT: &[u8] = b"refused IntRange";
-
-#[test]
-fn texts_are_written_up_to_a_failed_write(rt: HostRuntime) -> Result<(), Fail> {
-    let trace = parse(rt.alloc(), WHOLE_CYCLE).ok().ok_or("a trace")?;
-    let history = read_history(rt.alloc(), RIGHT).ok().ok_or("a history")?;
-    let graph = read_dump(rt.alloc(), &mut { BESIDE_RAW })
-        .ok()
-        .ok_or("a dump")?;
-    let legal = Verdict::Legal(3);
-    let prints = fail_texts(&rt, WHOLE_CYCLE, |writer| print(&trace, writer));
-    let histories = fail_texts(&rt, RIGHT, |writer| write_history(&history, writer));
-    let reports = fail_texts(&rt, RIGHT_REPORT, |writer| report(&history, &legal, writer));
-    let dumps = fail_texts(&rt, BESIDE_RAW, |writer| write_dump(&graph, writer));
-    let commands = fail_texts(&rt, COMMAND_TEXT, |writer| {
-        write_command(1, &COMMAND, writer)
-    });
-    let answers = fail_texts(&rt, ANSWER_TEXT, |writer| write_answer(&ANSWER, writer));
-    let table = [
-        (prints, WHOLE_CYCLE.len()),
-        (histories, RIGHT.len()),
-        (reports, RIGHT_REPORT.len()),
-        (dumps, BESIDE_RAW.len()),
-        (commands, COMMAND_TEXT.len()),
-        (answers, ANSWER_TEXT.len()),
-    ];
-    for (row, &(writes, length)) in table.iter().enumerate() {
-        let rt = Row { rt: &rt, row };
-        assert!(rt; writes as usize >= length / 3);
-    }
     Ok(())
 }

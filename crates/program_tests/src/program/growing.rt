@@ -3,9 +3,10 @@
 
 use crate::expectations::{expect_bytes, expect_equal, expect_refusals};
 use crate::program::driving::{RUN, drives_to};
-use crate::texts::{add_numbered, ended_lines, repeated, without_last_line};
+use crate::texts::ended_lines;
 use refusing::{RefusingAllocator, refused_in_turn};
 use rh_cli::{Ask, PLAIN, Subcommand, drive};
+use samples::texts::{add_numbered, repeated, without_last_line};
 use std::alloc::{AllocError, Allocator};
 use std::process::Abort;
 use std::sync::Wait;

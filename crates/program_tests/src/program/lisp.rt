@@ -1,9 +1,9 @@
 //! Programs of the small Scheme, what they print and how they end.
 
-use crate::devices::{Broken, SlowReader, SlowWriter, Unflushed};
 use crate::expectations::{Row, expect_bytes, expect_equal};
 use refusing::RefusingAllocator;
 use rh_cli::{Ask, HeapWords, Limits, PLAIN, Subcommand, drive, drive_lisp};
+use samples::devices::{Broken, SlowReader, SlowWriter, Unflushed};
 use std::alloc::Allocator;
 use std::io::{Read, Write};
 use std::process::Abort;

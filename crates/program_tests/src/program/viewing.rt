@@ -1,16 +1,17 @@
 //! What is asked for, seen in other ways: what goes to each of the writers.
 
-use crate::devices::Unflushed;
 use crate::expectations::{Row, expect_bytes, expect_equal, expect_prefix, expect_refusals};
-use crate::texts::{
-    COLUMNS, RIGHT, STORED, STORED_HISTORY, TWO_FLIPS, TWO_FLIPS_ANSWERS, WHOLE_CYCLE,
-    WHOLE_CYCLE_ANSWERS, WITHOUT_FIELDS, WRONG, WRONG_REPORT,
-};
+use crate::texts::{STORED, STORED_HISTORY, TWO_FLIPS_ANSWERS};
 use refusing::refused_in_turn;
 use rh_cli::{
     Ask, KeptReader, Subcommand, Telling, ViewLog, Views, drive_viewed, drive_viewed_logged,
 };
 use rh_text::IoLog;
+use samples::devices::Unflushed;
+use samples::texts::{
+    COLUMNS, RIGHT, TWO_FLIPS, WHOLE_CYCLE, WHOLE_CYCLE_ANSWERS, WITHOUT_FIELDS, WRONG,
+    WRONG_REPORT,
+};
 use std::alloc::Allocator;
 use std::io::{self, Write};
 use std::process::Abort;

@@ -1,16 +1,18 @@
 //! Runs of traces.
 
-use crate::devices::{SlowReader, SlowWriter};
 use crate::expectations::{Row, expect_bytes, expect_equal, expect_prefix, expect_refusals};
 use crate::texts::{
-    DUMPS, DUMPS_ANSWERS, FOUR_CYCLES, FOUR_CYCLES_ANSWERS, JOINED, JOINED_ANSWERS, LARGE_TRAYS,
-    LARGE_TRAYS_ANSWERS, LONG_ANSWER, LONG_HEADER, LONG_LINE, RAW_OBJECT, RAW_OBJECT_ANSWERS,
-    RESIZED, RESIZED_ANSWERS, TOO_MANY, TOO_MANY_ANSWERS, TWO_EPOCHS, TWO_EPOCHS_ANSWERS, WATCHED,
-    WATCHED_ANSWERS, WHOLE_CYCLE, WHOLE_CYCLE_ANSWERS, WITHOUT_FIELDS, WITHOUT_FIELDS_ANSWERS,
-    add_numbered, repeated, without_last_line,
+    DUMPS, DUMPS_ANSWERS, FOUR_CYCLES, FOUR_CYCLES_ANSWERS, LARGE_TRAYS, LARGE_TRAYS_ANSWERS,
+    LONG_ANSWER, LONG_HEADER, LONG_LINE, RAW_OBJECT, RAW_OBJECT_ANSWERS, RESIZED, RESIZED_ANSWERS,
+    TOO_MANY, TOO_MANY_ANSWERS, TWO_EPOCHS, TWO_EPOCHS_ANSWERS, WATCHED, WATCHED_ANSWERS,
 };
 use refusing::refused_in_turn;
 use rh_trace::{RunFault, Summary, run_trace};
+use samples::devices::{SlowReader, SlowWriter};
+use samples::texts::{
+    JOINED, JOINED_ANSWERS, WHOLE_CYCLE, WHOLE_CYCLE_ANSWERS, WITHOUT_FIELDS,
+    WITHOUT_FIELDS_ANSWERS, add_numbered, repeated, without_last_line,
+};
 use std::alloc::Allocator;
 use std::cell::Cell;
 use std::process::Abort;

@@ -1,12 +1,13 @@
 //! Reading and printing traces.
 
-use crate::devices::SlowWriter;
 use crate::expectations::{Row, expect_bytes, expect_equal, expect_prefix};
 use crate::texts::{
-    DUMPS, FOUR_CYCLES, JOINED, LARGE_TRAYS, LONG_HEADER, LONG_LINE, RAW_OBJECT, TOO_MANY,
-    TWO_EPOCHS, WATCHED, WHOLE_CYCLE, WITHOUT_FIELDS, repeated,
+    DUMPS, FOUR_CYCLES, LARGE_TRAYS, LONG_HEADER, LONG_LINE, RAW_OBJECT, TOO_MANY, TWO_EPOCHS,
+    WATCHED,
 };
 use rh_trace::{Kind, Line, ParseError, Request, Trace, TraceFault, Write, parse, print};
+use samples::devices::SlowWriter;
+use samples::texts::{JOINED, WHOLE_CYCLE, WITHOUT_FIELDS, repeated};
 use std::process::Abort;
 use std::test::Fail;
 

@@ -1,16 +1,15 @@
 //! Histories: recorded, checked, reported, written and read.
 
-use crate::devices::SlowWriter;
 use crate::expectations::{Row, expect_bytes, expect_equal};
-use crate::texts::{
-    RAW_HISTORY, RAW_HISTORY_REPORT, RIGHT, RIGHT_REPORT, WRONG, WRONG_REPORT, repeated,
-};
+use crate::texts::{RAW_HISTORY, RAW_HISTORY_REPORT};
 use rh_layout::{Command, Refusal, Reply, RootId};
 use rh_replay::{
     HistoryError, HistoryKind, Recorder, RecorderError, TraceFull, Verdict, check, read_history,
     report, write_history,
 };
 use rh_trace::{Kind, Write, command_of, write_answer, write_command};
+use samples::devices::SlowWriter;
+use samples::texts::{RIGHT, RIGHT_REPORT, WRONG, WRONG_REPORT, repeated};
 use std::test::Fail;
 
 /// A history that tells a raw object as one that isn't, and the report on it.

@@ -1,10 +1,10 @@
 //! Traces that are drawn partway.
 
-use crate::devices::{Broken, SlowReader, SlowWriter};
 use crate::expectations::{Row, expect_equal};
-use crate::texts::WHOLE_CYCLE;
 use rh_core::ConfigFault;
 use rh_drawn_trace::{RunFault, draw_trace};
+use samples::devices::{Broken, SlowReader, SlowWriter};
+use samples::texts::WHOLE_CYCLE;
 
 /// For so many lines of a trace of eleven the end of the picture's title, and how many boxes it has.
 const PARTWAY: [(u32, &str, usize); 7] = [

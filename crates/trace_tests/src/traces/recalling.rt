@@ -1,8 +1,8 @@
 //! Cycles that are recalled or abandoned at each moment, and then brought to their end.
 
 use crate::expectations::Row;
-use crate::texts::repeated;
 use rh_trace::run_trace;
+use samples::texts::repeated;
 use std::alloc::AllocError;
 use std::process::Abort;
 use std::test::Fail;

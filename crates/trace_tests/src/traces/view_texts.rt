@@ -1,7 +1,6 @@
 //! Requests, reports, faults and dumps, as texts of views.
 
 use crate::expectations::{Row, expect_bytes, expect_equal};
-use crate::texts::{RIGHT, WRONG};
 use rh_layout::Refusal;
 use rh_replay::{Verdict, check, read_history};
 use rh_text::LineText;
@@ -9,6 +8,7 @@ use rh_trace::parse;
 use rh_viewed_trace::{
     fault_json, put_json_dump, put_json_string, put_request_text, report_echo, report_json,
 };
+use samples::texts::{RIGHT, WRONG};
 
 /// A line of each sort, below the first line of a trace.
 const LINES: &[u8] = b"heap 16 8 4 2 2\n1 alloc 1.0 2\n1 raw 1.1 2\n1 load 1.1 1.0 0\n\

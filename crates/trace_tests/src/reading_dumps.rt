@@ -1,10 +1,10 @@
 //! Dumps read from their texts, and written.
 
-use crate::devices::{SlowReader, SlowWriter};
 use crate::expectations::{Row, expect_bytes, expect_equal};
-use crate::texts::repeated;
 use rh_dump::{DumpReadError, read_dump, read_dump_logged, same_text, write_dump};
 use rh_text::IoLog;
+use samples::devices::{SlowReader, SlowWriter};
+use samples::texts::repeated;
 use std::io;
 use std::process::Abort;
 use std::test::Fail;

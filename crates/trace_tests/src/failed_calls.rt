@@ -1,10 +1,10 @@
 //! The logs of reads and writes, which tell whether one failed.
 
-use crate::devices::{InterruptedReader, SlowReader, SlowWriter};
 use crate::expectations::{Row, expect_equal};
-use crate::texts::WITHOUT_FIELDS;
 use rh_text::{IoLog, send};
 use rh_trace::{RunFault, Write, parse, print_logged, run_trace_logged};
+use samples::devices::{InterruptedReader, SlowReader, SlowWriter};
+use samples::texts::WITHOUT_FIELDS;
 use std::test::Fail;
 
 #[test]

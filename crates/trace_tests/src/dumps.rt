@@ -1,13 +1,13 @@
 //! Dumps of heaps and of plain heaps, which answer the same.
 
 use crate::expectations::{Row, expect_bytes, expect_equal};
-use crate::texts::WITHOUT_FIELDS;
 use rh_core::Heap;
 use rh_dump::limits::MAX_OBJECTS;
 use rh_dump::{Graph, plain_graph, same_text, write_dump};
 use rh_model::{CommandError, Plain};
 use rh_partial::{PartialReplica, Piece};
 use rh_trace::{Request, config_of, graph, parse, write_answer};
+use samples::texts::WITHOUT_FIELDS;
 use std::alloc::Allocator;
 use std::process::Abort;
 

@@ -1,12 +1,13 @@
 //! Runs seen in other ways: echoed, as JSON, with their history and their cycles.
 
-use crate::devices::SlowWriter;
 use crate::expectations::{Row, expect_bytes, expect_equal, expect_prefix, expect_refusals};
-use crate::texts::{COLUMNS, TOO_MANY, TWO_FLIPS, WHOLE_CYCLE};
+use crate::texts::TOO_MANY;
 use refusing::refused_in_turn;
 use rh_viewed_trace::{
     PacedFault, RunFault, Telling, run_viewed, run_viewed_growing, run_viewed_paced,
 };
+use samples::devices::SlowWriter;
+use samples::texts::{COLUMNS, TWO_FLIPS, WHOLE_CYCLE};
 use std::alloc::Allocator;
 use std::io;
 use std::process::Abort;
