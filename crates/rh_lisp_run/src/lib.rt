@@ -1,13 +1,19 @@
 //! Programs of the small Scheme, from a reader to a writer.
 #![tactic(auto)]
 
+mod console;
+mod entering;
 mod fault;
 mod heaps;
 mod limits;
 mod reading;
 mod running;
+mod session;
+mod stage;
 
+pub use console::Console;
 pub use fault::LispFault;
 pub use limits::{HeapWords, Limits, MAX_OUTPUT, MAX_TEXT_BYTES, MOST_STEPS};
 pub use rh_lisp::{Fault, FaultKind, Outcome, Program, Source};
 pub use running::{Ended, program_of, run_lisp, run_lisp_logged, run_program};
+pub use session::run_session;

@@ -1,0 +1,13 @@
+//! Where a session shows what goes on.
+
+/// Where a session shows what isn't its output.
+pub trait Console {
+    /// Shows that an entry may be typed.
+    fn prompt(&mut self);
+
+    /// Shows that the input has ended.
+    fn end(&mut self);
+
+    /// Shows a line, which says where and why an entry stopped, or is no program.
+    fn tell(&mut self, line: &[u8]);
+}
