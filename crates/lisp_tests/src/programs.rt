@@ -259,6 +259,10 @@ const STOPS: &[(&[u8], &[u8])] = &[
         b"p:1:1: string-ref: out of range",
     ),
     (
+        b"(substring \"abc\" 2 1)",
+        b"p:1:1: substring: out of range",
+    ),
+    (
         b"(letrec ((a (lambda () b)) (b (a))) b)",
         b"p:1:24: b: unbound variable",
     ),
