@@ -19,6 +19,11 @@ pub known_so : (P Q : List ℕ → Type 0) (known : Option (List ℕ)) → ((inp
 known_so P Q None step p = tt
 known_so P Q (Some xs) step p = step xs p
 
+-- what holds whatever the bytes are holds of them
+pub known_is : (P : Type 0) (known : Option (List ℕ)) → P → IfSome known (λ input. P)
+known_is P None p = tt
+known_is P (Some xs) p = p
+
 -- the input has a fault
 pub fault_read : (error : DumpReadError) (fault : DumpFault) (input : List ℕ) → error ≡ errors.Fault fault → Reads (λ (x : GraphState). x) (Err error) input → graph_of_text input ≡ Err fault
 fault_read error fault input is read = subst (λ (e : DumpReadError). Reads (λ (x : GraphState). x) (Err e) input) is read

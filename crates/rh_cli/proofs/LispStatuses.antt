@@ -1,16 +1,21 @@
 -- What the statuses say of how a program of the small Scheme ended.
-use Rattle.std.proofs.Common.{◌≡◌, ◌⊎◌, inl, inr, ℕ, List, Option, Some, Result, Ok, Err, refl, ◌∙◌, arith}
-use Rattle.std.specs.Io.KnownBytes.{Appends, Keeps}
+use Rattle.std.proofs.Common.{◌≡◌, ◌⊎◌, inl, inr, ℕ, Bool, true, false, List, Option, Some, Result, Ok, Err, IfSome, refl, ◌∙◌, arith}
+use Rattle.std.specs.Io.KnownBytes.{Appends, Consumes, Keeps}
 use Rattle.rh_lisp.specs.Printed.{output_text}
 use Rattle.rh_lisp.specs.Program.{ProgramState}
 use Rattle.rh_machine.specs.declared.ending.Ending.TheVariants.{Halted}
 use Rattle.rh_lisp.specs.declared.outcome.Outcome.{Outcome}
 use Rattle.rh_lisp.specs.declared.outcome.Outcome.TheVariants.{Finished, Stopped}
 use Rattle.rh_lisp_run.specs.Run.{IsNewMachine, IsRun, LispEnds}
+use Rattle.rh_lisp_run.specs.Session.{GoesOn, SessionEnds}
 use Rattle.rh_lisp_run.specs.declared.fault.LispFault.{LispFault}
 use Rattle.rh_lisp_run.specs.declared.fault.LispFault.TheVariants as lisp_faults
+use Rattle.rh_lisp_run.specs.declared.limits.Limits.{Limits}
+use Rattle.rh_cli.specs.Drive.{Concludes}
 use Rattle.rh_cli.specs.Fault.{IsLateStatus}
-use Rattle.rh_cli.specs.Lisp.{ConcludesLisp, IsLispStatus, lisp_status}
+use Rattle.rh_cli.specs.Lisp.{ConcludesLisp, ConcludesLispSession, IsLispSessionStatus, IsLispStatus, lisp_status}
+use Rattle.rh_cli.specs.declared.ask.Subcommand.{Subcommand}
+use Rattle.rh_cli.specs.declared.ask.Subcommand.TheVariants.{LispSession}
 
 lisp_fault_is_1_or_3 : (fault : LispFault) → (lisp_status fault ≡ 1) ⊎ (lisp_status fault ≡ 3)
 lisp_fault_is_1_or_3 lisp_faults.Read = inl refl
@@ -81,3 +86,28 @@ lisp_late outcome status is =
       | inr (inl one) ↦ rw one (omega (arith), λ two. omega (arith, two))
       | inr (inr three) ↦ rw three (omega (arith), λ two. omega (arith, two))
     ]
+
+pub lisp_session_is_0_1_or_3 : (outcome : Result Bool LispFault) (status : ℕ) → IsLispSessionStatus outcome status → (status ≡ 0) ⊎ ((status ≡ 1) ⊎ (status ≡ 3))
+lisp_session_is_0_1_or_3 (Ok true) status is = inl is
+lisp_session_is_0_1_or_3 (Ok false) status is = inr (inl is)
+lisp_session_is_0_1_or_3 (Err fault) status is = inr (rw is (lisp_fault_is_1_or_3 fault))
+
+-- a session with status 0 went on a heap to its end
+lisp_session_goes : (limits : Limits) (outcome : Result Bool LispFault) (old new : Option (List ℕ)) → SessionEnds limits.heap limits.steps outcome old new → IsLispSessionStatus outcome 0
+    → GoesOn limits.heap limits.steps (Ok true) old new
+lisp_session_goes limits (Ok true) old new (inl none) is = absurd none
+lisp_session_goes limits (Ok true) old new (inr goes) is = goes
+lisp_session_goes limits (Ok false) old new ends is = absurd (omega (arith, is))
+lisp_session_goes limits (Err fault) old new ends is = absurd (lisp_fault_is_not_0 fault is)
+
+pub lisp_session_is_0 : (limits : Limits) (old new : Option (List ℕ)) → ConcludesLispSession limits 0 old new → GoesOn limits.heap limits.steps (Ok true) old new
+lisp_session_is_0 limits old new c = lisp_session_goes limits c.0 old new c.1 c.2
+
+-- what is due of a session is what is due of the subcommand that asks for it
+pub lisp_session_told : (subcommand : Subcommand) (limits : Limits) (known : Option (List ℕ)) (status : ℕ) (old new : Option (List ℕ)) → subcommand ≡ LispSession limits → IfSome known (λ input. ConcludesLispSession limits status old new)
+    → IfSome known (λ input. Concludes subcommand input status old new)
+lisp_session_told subcommand limits known status old new is told = rw is told
+
+pub lisp_session_read : (subcommand : Subcommand) (limits : Limits) (known left : Option (List ℕ)) (status : ℕ) (old new : Option (List ℕ)) → subcommand ≡ LispSession limits
+    → (input : List ℕ) × Consumes known left input × ConcludesLispSession limits status old new → (input : List ℕ) × Consumes known left input × Concludes subcommand input status old new
+lisp_session_read subcommand limits known left status old new is read = rw is read

@@ -34,7 +34,7 @@ use Rattle.rh_paced_trace.specs.Growing.{EndsGrowing, IsGrowingRun, growing_text
 use Rattle.rh_cli.specs.Paced.{ConcludesGrowing, ConcludesPaced, IsPacedStatus, paced_status}
 use Rattle.rh_paced_trace.specs.declared.fault.PacedFault.{PacedFault}
 use Rattle.rh_paced_trace.specs.declared.fault.PacedFault.TheVariants as paced_faults
-use Rattle.rh_cli.proofs.LispStatuses.{lisp_is_0, lisp_is_0_1_or_3, lisp_is_3}
+use Rattle.rh_cli.proofs.LispStatuses.{lisp_is_0, lisp_is_0_1_or_3, lisp_is_3, lisp_session_is_0_1_or_3}
 use Rattle.rh_lisp_run.specs.Run.{IsNewMachine, IsRun as IsLispRun}
 use Rattle.rh_lisp_run.specs.declared.limits.Limits.{Limits}
 use Rattle.rh_lisp.specs.Printed.{output_text}
@@ -49,7 +49,7 @@ use Rattle.rh_shell.specs.declared.fault.ShellFault.TheVariants as shell_faults
 use Rattle.rh_cli.specs.Session.{IsSessionStatus, SessionEnds, session_status}
 use Rattle.rh_cli.specs.declared.ask.Shell.{Shell}
 use Rattle.rh_cli.specs.declared.ask.Subcommand.{Subcommand}
-use Rattle.rh_cli.specs.declared.ask.Subcommand.TheVariants.{Run, RunPaced, RunGrowing, Threads, Replay, Dump, Dot, Draw, Session, Lisp, Completions}
+use Rattle.rh_cli.specs.declared.ask.Subcommand.TheVariants.{Run, RunPaced, RunGrowing, Threads, Replay, Dump, Dot, Draw, Session, Lisp, LispSession, Completions}
 use Rattle.rh_cli.specs.declared.ending.Ending.{Ending}
 use Rattle.rh_cli.specs.declared.ending.Ending.TheVariants.{Done, WrongHistory}
 use Rattle.rh_cli.specs.declared.fault.LineFault.{LineFault}
@@ -493,6 +493,7 @@ concludes_late Dump input status old new c = late_of_three status (count_is_0_1_
 concludes_late Dot input status old new c = late_of_three status (count_is_0_1_or_3 dot_text input c.0 status old new c.1 c.2)
 concludes_late Session input status old new c = late_of_three status (session_is_0_1_or_3 c.0 status c.2)
 concludes_late (Lisp limits) input status old new c = late_of_three status (lisp_is_0_1_or_3 c.0 status c.2)
+concludes_late (LispSession limits) input status old new c = late_of_three status (lisp_session_is_0_1_or_3 c.0 status c.2)
 concludes_late (Completions shell) input status old new c = late_of_three status (sent_is_0_1_or_3 c.0 status c.2)
 concludes_late (Draw line) input status old new c = late_of_three status (draw_is_0_1_or_3 c.0 status old new c.1 c.2)
 
@@ -534,6 +535,7 @@ concludes_4 Dump input old new c = absurd (not_2_or_4 4 4 (inr refl) (count_is_0
 concludes_4 Dot input old new c = absurd (not_2_or_4 4 4 (inr refl) (count_is_0_1_or_3 dot_text input c.0 4 old new c.1 c.2) refl)
 concludes_4 Session input old new c = absurd (not_2_or_4 4 4 (inr refl) (session_is_0_1_or_3 c.0 4 c.2) refl)
 concludes_4 (Lisp limits) input old new c = absurd (not_2_or_4 4 4 (inr refl) (lisp_is_0_1_or_3 c.0 4 c.2) refl)
+concludes_4 (LispSession limits) input old new c = absurd (not_2_or_4 4 4 (inr refl) (lisp_session_is_0_1_or_3 c.0 4 c.2) refl)
 concludes_4 (Completions shell) input old new c = absurd (not_2_or_4 4 4 (inr refl) (sent_is_0_1_or_3 c.0 4 c.2) refl)
 concludes_4 (Draw line) input old new c = absurd (not_2_or_4 4 4 (inr refl) (draw_is_0_1_or_3 c.0 4 old new c.1 c.2) refl)
 

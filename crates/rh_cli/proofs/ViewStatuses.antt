@@ -28,7 +28,7 @@ use Rattle.rh_cli.specs.Replay.{IsJudged, IsReplayStatus}
 use Rattle.rh_cli.specs.ViewLog.{HasCause, ViewLogState}
 use Rattle.rh_cli.specs.Views.{ConcludesViewed, HasFailed, HasRunFault, ReportEnds, told_counts, told_report}
 use Rattle.rh_cli.specs.declared.ask.Subcommand.{Subcommand}
-use Rattle.rh_cli.specs.declared.ask.Subcommand.TheVariants.{Run, RunPaced, RunGrowing, Threads, Replay, Dump, Dot, Draw, Session, Lisp, Completions}
+use Rattle.rh_cli.specs.declared.ask.Subcommand.TheVariants.{Run, RunPaced, RunGrowing, Threads, Replay, Dump, Dot, Draw, Session, Lisp, LispSession, Completions}
 use Rattle.rh_cli.specs.declared.fault.LineFault.{LineFault}
 use Rattle.rh_cli.specs.declared.fault.LineFault.TheVariants as faults
 use Rattle.rh_cli.proofs.StatusLaws.{concludes_late, count_is_0, count_is_0_1_or_3, late_of_four, late_of_three, paced_fault_is_1_or_3, paced_is_0_1_or_3, run_fault_is_1_or_3, run_is_0_1_or_3}
@@ -106,6 +106,7 @@ viewed_late telling (Threads replicators idle) input status log w c = concludes_
 viewed_late telling Dot input status log w c = concludes_late Dot input status w.old w.new c.0
 viewed_late telling (Draw line) input status log w c = concludes_late (Draw line) input status w.old w.new c.0
 viewed_late telling (Lisp limits) input status log w c = concludes_late (Lisp limits) input status w.old w.new c.0
+viewed_late telling (LispSession limits) input status log w c = concludes_late (LispSession limits) input status w.old w.new c.0
 viewed_late telling Session input status log w c = concludes_late Session input status w.old w.new c.0
 viewed_late telling (Completions shell) input status log w c = concludes_late (Completions shell) input status w.old w.new c.0
 

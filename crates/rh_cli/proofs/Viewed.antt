@@ -8,7 +8,7 @@ use Rattle.rh_cli.specs.Drive.{Concludes}
 use Rattle.rh_cli.specs.ViewLog.{ViewLogState}
 use Rattle.rh_cli.specs.Views.{ConcludesCounts, ConcludesReport, ConcludesViewed, KeepsOthers, reads_given}
 use Rattle.rh_cli.specs.declared.ask.Subcommand.{Subcommand}
-use Rattle.rh_cli.specs.declared.ask.Subcommand.TheVariants.{Run, RunPaced, RunGrowing, Threads, Replay, Dump, Dot, Draw, Session, Lisp, Completions}
+use Rattle.rh_cli.specs.declared.ask.Subcommand.TheVariants.{Run, RunPaced, RunGrowing, Threads, Replay, Dump, Dot, Draw, Session, Lisp, LispSession, Completions}
 
 -- where the first writer was and is, and nothing was written to the others
 abbrev pub told_alone : Option (List ℕ) → Option (List ℕ) → Option (List ℕ) → Option (List ℕ) → Written
@@ -53,5 +53,6 @@ unviewed telling (Threads replicators idle) status log old new history cycles ru
 unviewed telling Dot status log old new history cycles run paced growing replay dump input ends = (ends, others_kept old new history cycles)
 unviewed telling (Draw line) status log old new history cycles run paced growing replay dump input ends = (ends, others_kept old new history cycles)
 unviewed telling (Lisp limits) status log old new history cycles run paced growing replay dump input ends = (ends, others_kept old new history cycles)
+unviewed telling (LispSession limits) status log old new history cycles run paced growing replay dump input ends = (ends, others_kept old new history cycles)
 unviewed telling Session status log old new history cycles run paced growing replay dump input ends = (ends, others_kept old new history cycles)
 unviewed telling (Completions shell) status log old new history cycles run paced growing replay dump input ends = (ends, others_kept old new history cycles)

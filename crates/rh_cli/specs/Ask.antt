@@ -6,9 +6,10 @@ use Rattle.rh_text.specs.Number.{number_of}
 use Rattle.clap.specs.declared.builder.action.ArgAction.TheVariants.{SetTrue}
 use Rattle.clap.specs.Words.{App, Kinds, Row, Rule, Text, new_app, new_rule, with_rule, with_subcommand, subcommand_of, fault_of, first_of, takes}
 use Rattle.rh_cli.specs.declared.ask.Subcommand.{Subcommand}
-use Rattle.rh_cli.specs.declared.ask.Subcommand.TheVariants.{Run, RunPaced, RunGrowing, Threads, Replay, Dump, Dot, Draw, Session, Lisp, Completions}
+use Rattle.rh_cli.specs.declared.ask.Subcommand.TheVariants.{Run, RunPaced, RunGrowing, Threads, Replay, Dump, Dot, Draw, Session, Lisp, LispSession, Completions}
 use Rattle.rh_lisp_run.specs.declared.limits.HeapWords.{HeapWords}
 use Rattle.rh_lisp_run.specs.declared.limits.HeapWords.TheVariants.{UpTo, Just}
+use Rattle.rh_lisp_run.specs.declared.limits.Limits.{Limits}
 use Rattle.rh_cli.specs.declared.ask.Shell.TheVariants.{Bash, Zsh, Fish}
 use Rattle.rh_viewed_trace.specs.declared.telling.Telling.{Telling}
 use Rattle.rh_viewed_trace.specs.declared.telling.Telling.TheVariants.{Answers, Echo, Json}
@@ -107,11 +108,15 @@ heap_rule = record (new_rule (codes "heap")) { long = Some (codes "heap"); value
 abbrev pub steps_rule : Rule
 steps_rule = record (new_rule (codes "steps")) { long = Some (codes "steps"); value_names = 1 }
 
+-- its file, without which a session is held
+abbrev pub program_rule : Rule
+program_rule = new_rule (codes "FILE")
+
 -- the command `lisp` with its file and the words of a heap that keeps them
 abbrev pub sized_app : App
-sized_app = with_rule (with_rule (new_app (codes "lisp")) file_rule) heap_rule
+sized_app = with_rule (with_rule (new_app (codes "lisp")) program_rule) heap_rule
 
--- the command `lisp`: a file, and these options
+-- the command `lisp`: its file, and these options
 abbrev pub lisp_app : App
 lisp_app = with_rule (with_rule sized_app grow_rule) steps_rule
 
@@ -260,15 +265,23 @@ abbrev pub steps_given : Option Text → Option ℕ
 steps_given None = Some (2 ^ 64 - 1)
 steps_given (Some text) = number_of text
 
--- a program on such a heap with so many steps, or the fault of the first that is none
-abbrev pub lisp_with : Option HeapWords → Option ℕ → Result Subcommand LineFault
-lisp_with None steps = Err faults.Words
-lisp_with (Some heap) None = Err faults.Steps
-lisp_with (Some heap) (Some steps) = Ok (Lisp (record { heap = heap; steps = steps }))
+-- the program of a file, or a session where there is none
+abbrev pub lisp_within : Option Text → Limits → Subcommand
+lisp_within None limits = LispSession limits
+lisp_within (Some file) limits = Lisp limits
 
--- the program that is asked for: its heap of one size, or its heap that grows, and its steps
-abbrev pub lisp_asked : Option Text → Option Text → Option Text → Result Subcommand LineFault
-lisp_asked heap grow steps = lisp_with (heap_words heap grow) (steps_given steps)
+-- that on such a heap with so many steps, or the fault of the first that is none
+abbrev pub lisp_with : Option Text → Option HeapWords → Option ℕ → Result Subcommand LineFault
+lisp_with file None steps = Err faults.Words
+lisp_with file (Some heap) None = Err faults.Steps
+lisp_with file (Some heap) (Some steps) =
+    Ok (lisp_within file (record { heap = heap; steps = steps }))
+
+-- the program or session that is asked for: its heap of one size, or its heap that grows, its steps,
+-- and its file
+abbrev pub lisp_asked : Option Text → Option Text → Option Text → Option Text
+    → Result Subcommand LineFault
+lisp_asked heap grow steps file = lisp_with file (heap_words heap grow) (steps_given steps)
 
 -- the completions for the shell of this name, or the fault where there are none
 abbrev pub completions_for : Text → Result Subcommand LineFault
@@ -317,7 +330,8 @@ command_named name given =
     else (if bytes_eq name (codes "dump") then Ok (dump_asked (is_set given.dot))
     else (if bytes_eq name (codes "draw") then draw_asked given.line
     else (if bytes_eq name (codes "shell") then Ok Session
-    else (if bytes_eq name (codes "lisp") then lisp_asked given.heap given.grow given.steps
+    else (if bytes_eq name (codes "lisp")
+    then lisp_asked given.heap given.grow given.steps given.file
     else (if bytes_eq name (codes "completions") then completions_asked given.shell
     else Err faults.Incomplete)))))))
 

@@ -7,10 +7,10 @@ use Rattle.rh_trace.specs.Run.{Ends, run_of}
 use Rattle.rh_cli.specs.declared.fault.LineFault.{LineFault}
 use Rattle.rh_cli.specs.declared.fault.LineFault.TheVariants as line_faults
 use Rattle.rh_cli.specs.declared.ask.Subcommand.{Subcommand}
-use Rattle.rh_cli.specs.declared.ask.Subcommand.TheVariants.{Run, RunPaced, RunGrowing, Threads, Replay, Dump, Dot, Draw, Session, Lisp, Completions}
+use Rattle.rh_cli.specs.declared.ask.Subcommand.TheVariants.{Run, RunPaced, RunGrowing, Threads, Replay, Dump, Dot, Draw, Session, Lisp, LispSession, Completions}
 use Rattle.rh_cli.specs.Count.{ConcludesCount, ConcludesDot}
 use Rattle.rh_cli.specs.Draw.{ConcludesDraw, ConcludesSent}
-use Rattle.rh_cli.specs.Lisp.{ConcludesLisp}
+use Rattle.rh_cli.specs.Lisp.{ConcludesLisp, ConcludesLispSession}
 use Rattle.rh_cli.specs.Paced.{ConcludesGrowing, ConcludesPaced}
 use Rattle.rh_cli.specs.Replay.{ConcludesReplay}
 use Rattle.rh_cli.specs.Session.{ConcludesSession}
@@ -60,4 +60,5 @@ Concludes Dot input status old new = ConcludesDot input status old new
 Concludes (Draw line) input status old new = ConcludesDraw status old new
 Concludes Session input status old new = ConcludesSession input status old new
 Concludes (Lisp limits) input status old new = ConcludesLisp limits.steps input status old new
+Concludes (LispSession limits) input status old new = ConcludesLispSession limits status old new
 Concludes (Completions shell) input status old new = ConcludesSent status old new

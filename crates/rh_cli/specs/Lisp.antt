@@ -1,10 +1,12 @@
 -- How running a program of the small Scheme ends the program.
-use Rattle.std.specs.Prelude.{◌≡◌, ℕ, Option, List, Result, Ok, Err}
+use Rattle.std.specs.Prelude.{◌≡◌, ℕ, Bool, true, false, Option, List, Result, Ok, Err}
 use Rattle.rh_lisp.specs.declared.outcome.Outcome.{Outcome}
 use Rattle.rh_lisp.specs.declared.outcome.Outcome.TheVariants.{Finished, Stopped}
 use Rattle.rh_lisp_run.specs.Run.{LispEnds}
+use Rattle.rh_lisp_run.specs.Session.{SessionEnds}
 use Rattle.rh_lisp_run.specs.declared.fault.LispFault.{LispFault}
 use Rattle.rh_lisp_run.specs.declared.fault.LispFault.TheVariants as lisp_faults
+use Rattle.rh_lisp_run.specs.declared.limits.Limits.{Limits}
 use Rattle.rh_cli.specs.declared.fault.LineFault.{LineFault}
 use Rattle.rh_cli.specs.declared.fault.LineFault.TheVariants as faults
 
@@ -42,3 +44,16 @@ abbrev pub ConcludesLisp : ℕ → List ℕ → ℕ → Option (List ℕ) → Op
 ConcludesLisp steps input status old new =
     (outcome : Result Outcome LispFault) × LispEnds (λ o. o) steps input outcome old new
     × IsLispStatus outcome status
+
+-- the status after a session: 0 where its input came to the end, and 1 where the language had no room
+abbrev pub IsLispSessionStatus : Result Bool LispFault → ℕ → Type 0
+IsLispSessionStatus (Ok true) status = status ≡ 0
+IsLispSessionStatus (Ok false) status = status ≡ 1
+IsLispSessionStatus (Err fault) status = status ≡ lisp_status fault
+
+-- a session within these limits went in a way that fits what was written, and the status is that
+-- ending's
+abbrev pub ConcludesLispSession : Limits → ℕ → Option (List ℕ) → Option (List ℕ) → Type 0
+ConcludesLispSession limits status old new =
+    (outcome : Result Bool LispFault)
+    × SessionEnds limits.heap limits.steps outcome old new × IsLispSessionStatus outcome status

@@ -373,7 +373,7 @@ fn command_named(name: &str, given: Options<'_>) -> Result<Subcommand, LineFault
         return Ok(Subcommand::Session);
     }
     if name == "lisp" {
-        return lisp_asked(given.heap, given.grow, given.steps);
+        return lisp_asked(given.heap, given.grow, given.steps, given.file);
     }
     if name == "completions" {
         return completions_asked(given.shell);

@@ -83,6 +83,11 @@ pub enum Subcommand {
         /// What the program may take.
         limits: Limits,
     },
+    /// Play entries of the small Scheme as they are typed.
+    LispSession {
+        /// What they may take: the words of their heap, and the steps of each.
+        limits: Limits,
+    },
     /// Write the completions for a shell. There is no file.
     Completions {
         /// The shell.

@@ -65,7 +65,7 @@ command)
         'dump:Reads a dump, and prints how many roots and objects it has'
         'draw:Draws the heap of a trace after one of its lines, in SVG'
         'shell:Answers the lines of a trace as they are typed, and draws the heap'
-        'lisp:Runs a program of a small Scheme, and prints what it puts out'
+        'lisp:Runs a program of a small Scheme, or holds a session of it'
         'completions:Prints completions of the program'\\''s command lines for a shell'
         'help:Print this message or the help of the given subcommand(s)'
     )
@@ -150,7 +150,7 @@ complete -c rheap -n __fish_use_subcommand -f -a replay -d 'Checks a history aga
 complete -c rheap -n __fish_use_subcommand -f -a dump -d 'Reads a dump, and prints how many roots and objects it has'
 complete -c rheap -n __fish_use_subcommand -f -a draw -d 'Draws the heap of a trace after one of its lines, in SVG'
 complete -c rheap -n __fish_use_subcommand -f -a shell -d 'Answers the lines of a trace as they are typed, and draws the heap'
-complete -c rheap -n __fish_use_subcommand -f -a lisp -d 'Runs a program of a small Scheme, and prints what it puts out'
+complete -c rheap -n __fish_use_subcommand -f -a lisp -d 'Runs a program of a small Scheme, or holds a session of it'
 complete -c rheap -n __fish_use_subcommand -f -a completions -d 'Prints completions of the program\\'s command lines for a shell'
 complete -c rheap -n __fish_use_subcommand -f -a help -d 'Print this message or the help of the given subcommand(s)'
 complete -c rheap -n '__fish_use_subcommand' -s h -l help -d 'Print help'

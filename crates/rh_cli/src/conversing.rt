@@ -41,7 +41,7 @@ pub(crate) struct Prompter<'a, R, E> {
 
 impl<R: Files, E: Write> Prompter<'_, R, E> {
     /// Shows a text where a prompt is asked for. What can't be shown is left out.
-    fn show(&mut self, text: &[u8]) {
+    pub(crate) fn show(&mut self, text: &[u8]) {
         if self.prompts {
             let _ = self.err.write_all(text);
             let _ = self.err.flush();

@@ -16,6 +16,7 @@ use crate::ending::Ending;
 use crate::fault::LineFault;
 use crate::graphing::print_graph;
 use crate::lisp::run_program;
+use crate::lisp_session::play_entries;
 use crate::pacing::{run_by_growth, run_by_mark};
 use crate::replaying::replay;
 use crate::running::run;
@@ -102,6 +103,9 @@ where
         Subcommand::Draw { line } => draw(alloc, reader, out, line),
         Subcommand::Session => converse(alloc, reader, out, &mut Alone),
         Subcommand::Lisp { limits } => run_program(alloc, reader, out, limits),
+        Subcommand::LispSession { limits } => {
+            play_entries(alloc, reader, out, limits, &mut Alone)
+        }
         Subcommand::Completions { shell } => print_completions(shell, out),
     }
 }

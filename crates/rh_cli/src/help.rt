@@ -325,15 +325,21 @@ What the program prints is written once it has ended, at most 1048576 characters
 no input. A name that it defines or sets is its own, and the procedures of the language go on
 without it.
 
+Without FILE a session is held: what is typed is played entry by entry, and the value of each form
+is written, unless it is unspecified. An entry ends with the line at whose end all parentheses are
+closed. One that stops is told in a line, and what it defined before stays. A prompt stands on
+standard error where standard input is a terminal. The end of the input (Ctrl-D) ends the session.
+
   --heap WORDS  each space of the heap has so many words; where they are too few for what lives, the
                 program ends by `heap exhausted`
   --grow WORDS  each space begins small and grows to at most so many words, from 8618 to 16777216;
                 without --heap it is so, up to 16777216
   --steps N     the instructions that may be done, from 0 to 4294967295, those of the language's own
-                procedures and of their definitions too; 2^64 - 1 without it
+                procedures and of their definitions too; 2^64 - 1 without it. Each entry of a
+                session may do so many, besides those definitions
 
 Statuses:
-  0  the program came to its end
+  0  the program came to its end, or the input of a session did
   1  it has a fault or stopped, no heap has so many words, or the file can't be opened or read, or a
      write failed
   2  the command line isn't understood

@@ -1,6 +1,6 @@
 //! Laws of the definitions alone. Each function does nothing: its contract is the law.
 
-ghost use Rattle.std.specs.Prelude.{◌≡◌, ◌≢◌, ◌≤◌, ◌-◌, ◌^◌, ◌⊎◌, ◌↔◌, ℕ, ◌++◌, Bool, List, [], ◌∷◌, length, Option, Some, None, Result, Ok, Err, IsTrue, false, codes, decimal};
+ghost use Rattle.std.specs.Prelude.{◌≡◌, ◌≢◌, ◌≤◌, ◌-◌, ◌^◌, ◌⊎◌, ◌↔◌, ℕ, ◌++◌, Bool, List, [], ◌∷◌, length, Option, Some, None, Result, Ok, Err, IsTrue, false, true, codes, decimal};
 ghost use Rattle.std.specs.List.{AllByRecursion, flat_map};
 ghost use Rattle.std.specs.Io.KnownBytes.{Appends, Keeps};
 ghost use Rattle.clap.specs.Words.{kind_of};
@@ -50,6 +50,7 @@ ghost use Rattle.rh_lisp.specs.Printed.{output_text as lisp_text};
 ghost use Rattle.rh_lisp.specs.Program.{ProgramState};
 ghost use Rattle.rh_machine.specs.declared.ending.Ending.TheVariants.{Halted};
 ghost use Rattle.rh_lisp_run.specs.Run.{IsNewMachine, IsRun as IsLispRun};
+ghost use Rattle.rh_lisp_run.specs.Session.{GoesOn};
 ghost use Rattle.rh_lisp_run.specs.declared.limits.Limits.{Limits as LimitsOf};
 ghost use Rattle.rh_lisp_run.specs.declared.limits.HeapWords.{HeapWords as HeapWordsOf};
 ghost use Rattle.rh_cli.specs.declared.ask.Shell.{Shell as ShellOf};
@@ -112,6 +113,9 @@ pub fn status_0_says_done()
         → (begun : ProgramState) × (ended : ProgramState)
         × IsNewMachine limits.steps begun.machine × IsLispRun begun ended
         × (ended.machine.ended ≡ Some Halted) × Appends old new (lisp_text ended) }
+    ensures lisp_session { (limits : LimitsOf) (input : List ℕ) (old new : Option (List ℕ))
+        → Concludes (SubcommandOf.LispSession limits) input 0 old new
+        → GoesOn limits.heap limits.steps (Ok true) old new }
     ensures completions { (shell : ShellOf) (input : List ℕ) (old new : Option (List ℕ))
         → Concludes (SubcommandOf.Completions shell) input 0 old new
         → (text : List ℕ) × Appends old new text }
@@ -338,6 +342,11 @@ pub fn worked_command_lines()
         ∷ codes "--heap=9000" ∷ codes "--grow=9000" ∷ []) ≡ Err FaultOf.Words }
     ensures lisp_steps { command_and_file_of (codes "rheap" ∷ codes "lisp" ∷ codes "x"
         ∷ codes "--steps=many" ∷ []) ≡ Err FaultOf.Steps }
+    ensures lisp_session { command_and_file_of (codes "rheap" ∷ codes "lisp"
+        ∷ codes "--grow=9000" ∷ []) ≡ Ok (
+          SubcommandOf.LispSession (record { heap = HeapWordsOf.UpTo 9000; steps = 2 ^ 64 - 1 }),
+          codes "-",
+        ) }
     ensures lisp_mark { false
         ≡ is_taken (codes "rheap" ∷ codes "lisp" ∷ codes "x" ∷ codes "--mark=7" ∷ []) }
     ensures session_file { false ≡ is_taken (codes "rheap" ∷ codes "shell" ∷ codes "x" ∷ []) }

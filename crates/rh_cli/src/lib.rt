@@ -20,6 +20,7 @@ mod keeping;
 pub mod laws;
 mod lisp;
 mod lisp_arguments;
+mod lisp_session;
 mod outputs;
 mod pacing;
 mod program;

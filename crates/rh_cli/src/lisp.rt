@@ -142,7 +142,7 @@ where
 }
 
 /// The fault that one of a run is.
-fn fault_of_lisp(fault: LispFault) -> LineFault
+pub(crate) fn fault_of_lisp(fault: LispFault) -> LineFault
     ensures status { status_of result ≡ lisp_status fault }
     ensures late { IsUsualFault result }
     // It is told as what it is.

@@ -3,7 +3,7 @@
 ghost use Rattle.std.specs.Prelude.{◌≡◌, option_map, false, None, IfErr, IfOk, codes};
 ghost use Rattle.clap.specs.declared.builder.command.Command.TheViews.{out-Command as fields_of};
 ghost use Rattle.clap.specs.Words.{app_of};
-ghost use Rattle.rh_cli.specs.Ask.{command_for, heap_words, lisp_app, lisp_asked, sized_app, steps_given};
+ghost use Rattle.rh_cli.specs.Ask.{command_for, heap_words, lisp_app, lisp_asked, lisp_within, sized_app, steps_given};
 ghost use Rattle.rh_cli.specs.Fault.{IsArgumentsFault};
 
 use crate::ask::Subcommand;
@@ -22,7 +22,7 @@ pub(crate) fn lisp_command<'a>(alloc: Global, word: &str) -> Result<Command<'a>,
         app_of command ≡ command_for word.now (codes "lisp") lisp_app) }
     ensures local { IfOk result (λ command. (fields_of command).has_globals ≡ false) }
 {
-    let about = "Runs a program of a small Scheme, and prints what it puts out";
+    let about = "Runs a program of a small Scheme, or holds a session of it";
     if !has_options(word, "lisp") {
         return Ok(named_command(alloc, "lisp", about));
     }
@@ -41,9 +41,9 @@ fn sized_command<'a>(alloc: Global, about: &'a str) -> Result<Command<'a>, Alloc
     ensures app { IfOk result (λ command. app_of command ≡ sized_app) }
     ensures local { IfOk result (λ command. (fields_of command).has_globals ≡ false) }
 {
-    let file = Arg::new(alloc, "FILE")
-        .required(true)
-        .help("The file to read; - is standard input");
+    let file = Arg::new(alloc, "FILE").help(
+        "The file to read; - is standard input; a session without it",
+    );
     let heap = Arg::new(alloc, "heap")
         .long("heap")
         .value_name("WORDS")
@@ -55,14 +55,17 @@ fn sized_command<'a>(alloc: Global, about: &'a str) -> Result<Command<'a>, Alloc
         .arg(heap)
 }
 
-/// The program that is asked for: its heap of one size or its heap that grows, and its steps.
+/// The program or the session that is asked for: its heap of one size or its heap that grows, its
+/// steps, and its file.
 pub(crate) fn lisp_asked(
     heap: Option<&str>,
     grow: Option<&str>,
     steps: Option<&str>,
+    file: Option<&str>,
 ) -> Result<Subcommand, LineFault>
     ensures asked { result ≡ lisp_asked (option_map (λ t. t.now) heap.entry)
-        (option_map (λ t. t.now) grow.entry) (option_map (λ t. t.now) steps.entry) }
+        (option_map (λ t. t.now) grow.entry) (option_map (λ t. t.now) steps.entry)
+        (option_map (λ t. t.now) file.entry) }
     ensures kinds { IfErr result (λ fault. IsArgumentsFault fault) }
 {
     let Some(heap) = heap_words(heap, grow) else {
@@ -71,8 +74,17 @@ pub(crate) fn lisp_asked(
     let Some(steps) = steps_given(steps) else {
         return Err(LineFault::Steps);
     };
-    let limits = Limits { heap, steps };
-    Ok(Subcommand::Lisp { limits })
+    Ok(lisp_within(file, Limits { heap, steps }))
+}
+
+/// The program of a file, or a session where there is none.
+fn lisp_within(file: Option<&str>, limits: Limits) -> Subcommand
+    ensures { result ≡ lisp_within (option_map (λ t. t.now) file.entry) limits }
+{
+    match file {
+        None => Subcommand::LispSession { limits },
+        Some(_) => Subcommand::Lisp { limits },
+    }
 }
 
 /// The words of the heap that is asked for.

@@ -17,6 +17,7 @@ use crate::explaining::drive_explained;
 use crate::fault::LineFault;
 use crate::keeping::KeptReader;
 use crate::lisp::play_lisp;
+use crate::lisp_session::hold_entries;
 use crate::outputs::outputs_of;
 use crate::viewed_driving::{drive_viewed, tell_as};
 use std::alloc::Global;
@@ -175,6 +176,9 @@ where
     }
     if let Subcommand::Lisp { limits } = ask.subcommand {
         return play_lisp(rt, ask.file, limits, err);
+    }
+    if let Subcommand::LispSession { limits } = ask.subcommand {
+        return hold_entries(rt, limits, err, terminals.input);
     }
     let explains = terminals.error || ask.explain;
     if !ask.views.is_plain() {

@@ -638,7 +638,12 @@ const PROGRAMS: &[(&[&[u8]], u8, &[u8], &[u8])] = &[
         b"",
         b"error: unexpected",
     ),
-    (&[b"rheap", b"lisp"], 2, b"", b"error: "),
+    (
+        &[b"rheap", b"lisp"],
+        0,
+        b"",
+        b"-:1:1: heap: unbound variable\n",
+    ),
 ];
 
 /// The same where standard output is closed.

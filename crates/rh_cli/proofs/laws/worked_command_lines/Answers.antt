@@ -224,6 +224,10 @@ pub returns-clause-lisp_steps : goal.returns-clause-lisp_steps
 unfolding command_and_file_of number_of digits clap_on_literals
 returns-clause-lisp_steps c = refl
 
+pub returns-clause-lisp_session : goal.returns-clause-lisp_session
+unfolding command_and_file_of number_of digits clap_on_literals
+returns-clause-lisp_session c = refl
+
 pub returns-clause-lisp_mark : goal.returns-clause-lisp_mark
 unfolding is_taken clap_on_literals
 returns-clause-lisp_mark c = refl

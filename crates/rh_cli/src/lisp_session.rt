@@ -1,0 +1,96 @@
+//! A session of the small Scheme, whose entries are played as they are typed.
+
+ghost use Rattle.std.specs.Prelude.{◌≡◌, List, ℕ, Ok, IfErr, IfOk, IfSome};
+ghost use Rattle.std.specs.Io.KnownBytes.{Consumes};
+ghost use Rattle.rh_cli.specs.Fault.{IsLateStatus, IsUsualFault, status_after};
+ghost use Rattle.rh_cli.specs.Lisp.{ConcludesLispSession, IsLispSessionStatus};
+
+use crate::conversing::{Alone, Prompter};
+use crate::driving::tell;
+use crate::ending::Ending;
+use crate::fault::LineFault;
+use crate::lisp::fault_of_lisp;
+use crate::program::gathering;
+use rh_lisp_run::{Console, Limits, run_session};
+use std::alloc::Allocator;
+use std::io::{self, Read, Write};
+use std::rt::Files;
+
+impl Console for Alone {
+    fn prompt(&mut self) {}
+
+    fn end(&mut self) {}
+
+    fn tell(&mut self, _line: &[u8]) {}
+}
+
+impl<R: Files, E: Write> Console for Prompter<'_, R, E> {
+    fn prompt(&mut self) {
+        self.show(b"> ");
+    }
+
+    fn end(&mut self) {
+        self.show(b"\n");
+    }
+
+    fn tell(&mut self, line: &[u8]) {
+        // What can't be told is left out, as a fault's line is.
+        let _ = self.err.write_all(line);
+        let _ = self.err.flush();
+    }
+}
+
+/// Plays the entries that the reader gives, and writes what each prints.
+pub(crate) fn play_entries<A: Allocator + Copy, R: Read, O: Write, C: Console>(
+    alloc: A,
+    reader: &mut R,
+    out: &mut O,
+    limits: Limits,
+    console: &mut C,
+) -> Result<Ending, LineFault>
+    ensures told { IfSome (R.remaining reader.old) (λ input. ConcludesLispSession limits
+        (status_after result) (O.contents out.old) (O.contents out.new)) }
+    ensures read { (input : List ℕ)
+        × Consumes (R.remaining reader.old) (R.remaining reader.new) input
+        × ConcludesLispSession limits (status_after result) (O.contents out.old)
+        (O.contents out.new) }
+    ensures late { IfErr result (λ fault. IsUsualFault fault) }
+{
+    match run_session(alloc, limits, reader, out, console) {
+        Ok(begun) => ending_of(begun),
+        Err(fault) => Err(fault_of_lisp(fault)),
+    }
+}
+
+/// How the program ends after a session. That its language had no room was told.
+fn ending_of(begun: bool) -> Result<Ending, LineFault>
+    ensures status { IsLispSessionStatus (Ok begun) (status_after result) }
+    ensures late { IfErr result (λ fault. IsUsualFault fault) }
+{
+    if begun {
+        return Ok(Ending::Done);
+    }
+    Err(LineFault::Stopped)
+}
+
+/// Plays the entries that are typed, and shows a prompt where that is asked.
+pub(crate) fn hold_entries<R, E>(
+    rt: &R,
+    limits: Limits,
+    err: &mut E,
+    prompts: bool,
+) -> Result<u8, LineFault>
+where
+    R: Files + Input + Print + AllocGlobal,
+    E: Write,
+    ensures late { IfOk result (λ status. IsLateStatus status) }
+    ensures refused { IfErr result (λ fault. fault ≡ LineFault.OutOfMemory) }
+{
+    let mut out = gathering(rt.alloc(), io::writer(rt))?;
+    let mut reader = rt.reader();
+    let mut console = Prompter { rt, err, prompts };
+    match play_entries(rt.alloc(), &mut reader, &mut out, limits, &mut console) {
+        Ok(ending) => Ok(ending.status()),
+        Err(fault) => Ok(tell(&fault, console.err)),
+    }
+}
