@@ -1,12 +1,16 @@
 //! Programs of the small Scheme, what they print and how they end.
 
-use crate::expectations::{Row, expect_bytes, expect_equal};
+use crate::expectations::{Row, expect_bytes, expect_equal, expect_prefix};
+use crate::program::terminal::Terminal;
 use refusing::RefusingAllocator;
-use rh_cli::{Ask, HeapWords, Limits, PLAIN, Subcommand, drive, drive_lisp};
+use rh_cli::{Ask, HeapWords, Limits, PLAIN, Subcommand, Terminals, drive, drive_lisp, play};
 use samples::devices::{Broken, SlowReader, SlowWriter, Unflushed};
 use std::alloc::Allocator;
+use std::cell::RefCell;
 use std::io::{Read, Write};
 use std::process::Abort;
+use std::sync::Wait;
+use std::thread::Threads;
 
 /// A heap that grows as far as a heap can, and more steps than a program here does.
 const AMPLE: Limits = Limits {
@@ -274,6 +278,208 @@ fn allocations_of_a_program_are_refused_further_and_further_on(rt: HostRuntime) 
             break;
         }
         nth = nth.saturating_add(1 + nth / 16);
+    }
+    assert!(rt; 1_000 < nth, "{nth} allocations");
+}
+
+/// The words of a session, what is typed, its status, what it prints, and what is told.
+const SESSIONS: &[(&[&[u8]], &[u8], u8, &[u8], &[u8])] = &[
+    (&[b"rheap", b"lisp"], b"", 0, b"", b""),
+    (
+        &[b"rheap", b"lisp"],
+        b"(define (f x) (* x x))\n(f 12) \"a\"\n",
+        0,
+        b"144\n\"a\"\n",
+        b"",
+    ),
+    (&[b"rheap", b"lisp"], b"(+ 1\n 2)", 0, b"3\n", b""),
+    // What a later entry defines or sets anew is what earlier ones call.
+    (
+        &[b"rheap", b"lisp"],
+        b"(define (g) 1) (define (h) (g))\n(h)\n(define (g) 2)\n(h)\n(set! g +)\n(h)\n",
+        0,
+        b"1\n2\n0\n",
+        b"",
+    ),
+    // An error leaves what was set and the session.
+    (
+        &[b"rheap", b"lisp"],
+        b"(define x 1)\n(begin (set! x 2) (display \"a\") (car 5))\nx\n",
+        0,
+        b"a2\n",
+        b"-:2:33: car: not a pair\n",
+    ),
+    // A text that is no program changes nothing.
+    (
+        &[b"rheap", b"lisp"],
+        b"(define x 1) (if)\nx\n)\n4\n",
+        0,
+        b"4\n",
+        b"-:1:14: bad form\n-:2:1: x: unbound variable\n-:3:1: unexpected )\n",
+    ),
+    // A name of the language is the session's own from there on.
+    (
+        &[b"rheap", b"lisp"],
+        b"(define (m) (car '(1 2)))\n(define (car l) 5)\n(car 4) (m)\n",
+        0,
+        b"5\n1\n",
+        b"",
+    ),
+    // A continuation of an earlier entry goes on behind the one that enters it.
+    (
+        &[b"rheap", b"lisp"],
+        b"(define k #f)\n(+ 1 (call/cc (lambda (c) (set! k c) 1)))\n(k 10)\n3\n",
+        0,
+        b"2\n11\n3\n",
+        b"",
+    ),
+    (
+        &[b"rheap", b"lisp"],
+        b"(display 1",
+        0,
+        b"",
+        b"-:1:11: unfinished\n",
+    ),
+    (
+        &[b"rheap", b"lisp", b"--steps=1000"],
+        b"1\n(let loop () (loop))\n2\n",
+        0,
+        b"1\n2\n",
+        b"-:2:14: steps spent\n",
+    ),
+    (
+        &[b"rheap", b"lisp", b"--heap=100"],
+        b"1\n",
+        1,
+        b"",
+        b"rheap: pace: TooSmall need 2669\n",
+    ),
+    // The procedures of the language have no room.
+    (
+        &[b"rheap", b"lisp", b"--heap=3000"],
+        b"1\n",
+        1,
+        b"",
+        b"-:1:1: heap exhausted\nrheap: the program stopped\n",
+    ),
+];
+
+/// Holds a session with this as standard input, which may be a terminal, and expects this status,
+/// and what is printed and told.
+fn expect_session(
+    test: &(impl Abort + Threads + Wait + Sync),
+    rt: &HostRuntime,
+    input: bool,
+    &(args, typed, status, printed, due): &(&[&[u8]], &[u8], u8, &[u8], &[u8]),
+) {
+    let mut told = Vec::new(rt.alloc());
+    let terminal = Terminal {
+        rt,
+        args,
+        input: typed,
+        is_closed: false,
+        printed: RefCell::new(Vec::new(rt.alloc())),
+    };
+    let terminals = Terminals {
+        input,
+        error: false,
+    };
+    expect_equal(test, play(&terminal, test, &mut told, terminals), status);
+    expect_bytes(test, &terminal.printed.into_inner(), printed);
+    expect_bytes(test, &told, due);
+}
+
+#[test]
+fn sessions_print_and_tell_as_their_rows_say(rt: HostRuntime) {
+    for (row, session) in SESSIONS.iter().enumerate() {
+        expect_session(&Row { rt: &rt, row }, &rt, false, session);
+    }
+}
+
+#[test]
+fn a_session_at_a_terminal_shows_its_prompts(rt: HostRuntime) {
+    let session: (&[&[u8]], &[u8], u8, &[u8], &[u8]) = (
+        &[b"rheap", b"lisp"],
+        b"(+ 1 2)\n(define x\n 4)\n(car x)\n",
+        0,
+        b"3\n",
+        b"> > > -:4:1: car: not a pair\n> \n",
+    );
+    expect_session(&rt, &rt, true, &session);
+}
+
+/// A session whose errors are told to nobody.
+const SESSION: Ask<'static> = Ask {
+    subcommand: Subcommand::LispSession { limits: SMALL },
+    file: "-",
+    explain: false,
+    views: PLAIN,
+};
+
+/// Entries of which the second one stops.
+const ENTRIES: &[u8] = b"(display 1)\n(car 5)\n23\n";
+
+/// Holds a session, and expects that it ends so and tells this.
+fn expect_held<T, R, W>(rt: &T, reader: &mut R, out: &mut W, (status, told): (u8, &[u8]))
+where
+    T: AllocGlobal + Abort + Threads + Wait + Sync,
+    R: Read,
+    W: Write,
+{
+    let mut err = Vec::new(rt.alloc());
+    let ended = drive(rt, rt.alloc(), &SESSION, reader, out, &mut err);
+    expect_equal(rt, ended, status);
+    expect_bytes(rt, &err, told);
+}
+
+#[test]
+fn a_failed_read_ends_a_session(rt: HostRuntime) {
+    let mut out = SlowWriter::new(&rt, 1_000, 0);
+    let due: (u8, &[u8]) = (1, b"rheap: read failed\n");
+    expect_held(&rt, &mut SlowReader::new(ENTRIES, 40), &mut out, due);
+    expect_bytes(&rt, &out.text, b"1");
+}
+
+#[test]
+fn a_failed_write_ends_a_session(rt: HostRuntime) {
+    let mut full = SlowWriter::new(&rt, 1, 3);
+    let due: (u8, &[u8]) = (1, b"rheap: write failed\n");
+    expect_held(&rt, &mut { ENTRIES }, &mut full, due);
+    expect_bytes(&rt, &full.text, b"12");
+    expect_held(&rt, &mut { ENTRIES }, &mut Unflushed, due);
+}
+
+/// Whether the nth allocation of a session was refused. That is told, and a prefix of what it
+/// prints is written; else all of it is.
+fn is_refused_in_session<T>(rt: &T, nth: u64) -> bool
+where
+    T: AllocGlobal + Abort + Threads + Wait + Sync,
+{
+    let memory = RefusingAllocator::new(rt.alloc(), nth);
+    let mut out = Vec::new(rt.alloc());
+    let mut err = Vec::new(rt.alloc());
+    let ended = drive(rt, &memory, &SESSION, &mut { ENTRIES }, &mut out, &mut err);
+    let is_refused = memory.has_refused();
+    let (status, told): (u8, &[u8]) = if is_refused {
+        (3, b"rheap: out of memory\n")
+    } else {
+        (0, b"")
+    };
+    expect_equal(rt, ended, status);
+    expect_bytes(rt, &err, told);
+    expect_prefix(rt, b"123\n", &out);
+    expect_equal(rt, is_refused || out.len() == 4, true);
+    is_refused
+}
+
+#[test]
+fn allocations_of_a_session_are_refused_further_and_further_on(rt: HostRuntime) {
+    let mut nth = 1u64;
+    for _ in 0..400u32 {
+        if !is_refused_in_session(&rt, nth) {
+            break;
+        }
+        nth = nth.saturating_add(1 + nth / 4);
     }
     assert!(rt; 1_000 < nth, "{nth} allocations");
 }
