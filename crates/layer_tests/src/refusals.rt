@@ -3,16 +3,23 @@
 use crate::expectations::{expect_equal, expect_refusals};
 use refusing::{RefusingAllocator, refused_in_turn};
 use std::alloc::{AllocError, Allocator};
+use std::process::Abort;
 use std::thread;
+
+/// Adds the first three squares.
+fn add_squares<A: Allocator + Copy>(squares: &mut Vec<u64, A>) -> Result<(), AllocError> {
+    for n in 0..3u64 {
+        squares.push(n * n)?;
+    }
+    Ok(())
+}
 
 /// The first three squares and a copy of them: a reserved block, one that grows, and a clone.
 fn squares_and_copy<A: Allocator + Copy>(
     alloc: A,
 ) -> Result<(Vec<u64, A>, Vec<u64, A>), AllocError> {
     let mut squares = Vec::with_capacity(alloc, 1)?;
-    for n in 0..3u64 {
-        squares.push(n * n)?;
-    }
+    add_squares(&mut squares)?;
     let copy = squares.clone()?;
     Ok((squares, copy))
 }
@@ -48,20 +55,23 @@ fn none_is_refused_at_zero(rt: HostRuntime) {
     assert!(rt; memory.asked() >= 3 && !memory.has_refused());
 }
 
-#[test]
-fn a_refused_growth_changes_nothing(rt: HostRuntime) -> Result<(), AllocError> {
-    let memory = RefusingAllocator::new(rt.alloc(), 2);
-    let mut list = Vec::with_capacity(&memory, 2)?;
-    list.push(7u64)?;
-    list.push(8)?;
+/// Fills a list that has room for two, and grows it after a refusal.
+fn grow<A: Allocator + Copy>(rt: &impl Abort, list: &mut Vec<u64, A>) {
+    assert!(rt; list.push(7).is_ok() && list.push(8).is_ok());
     let refused = list.push(9).err().map(|failed| failed.value);
-    expect_equal(&rt, refused, Some(9));
+    expect_equal(rt, refused, Some(9));
+    expect_equal(rt, list.as_slice(), [7, 8].as_slice());
+    assert!(rt; list.push(9).is_ok());
+    expect_equal(rt, list.as_slice(), [7, 8, 9].as_slice());
+}
+
+#[test]
+fn a_refused_growth_changes_nothing(rt: HostRuntime) {
+    let memory = RefusingAllocator::new(rt.alloc(), 2);
+    let list = Vec::with_capacity(&memory, 2).ok();
+    grow(&rt, &mut list.expect(&rt, "the first is given"));
     assert!(rt; memory.has_refused());
-    expect_equal(&rt, list.as_slice(), [7, 8].as_slice());
-    list.push(9)?;
-    expect_equal(&rt, list.as_slice(), [7, 8, 9].as_slice());
     expect_equal(&rt, memory.asked(), 3);
-    Ok(())
 }
 
 /// How many of 100 boxes were refused, where each is freed at once.

@@ -148,22 +148,30 @@ fn shown_of(heap: &Heap) -> [(&str, usize); 10] {
     ]
 }
 
-/// Ends the test unless the text is well-formed, and has each of these as often. Those of the
-/// legend aren't counted.
-fn expect_in(rt: &(impl AllocGlobal + Abort), text: &str, wanted: &[(&str, usize)]) {
-    expect_well_formed(rt, text);
-    let shown = text.split("<g class='legend'").next().expect(rt, "a part");
+/// Ends the test unless the text has each of these as often.
+fn expect_counted(rt: &impl Abort, text: &str, wanted: &[(&str, usize)]) {
     for (row, &(part, times)) in wanted.iter().enumerate() {
         let rt = Row { rt, row };
-        expect_equal(&rt, (part, count(shown, part)), (part, times));
+        expect_equal(&rt, (part, count(text, part)), (part, times));
     }
 }
 
-/// Ends the test unless the heap's picture shows what the heap's readers tell.
+/// Ends the test unless the heap's picture is well-formed, and has each of these as often.
+fn expect_parts<R: AllocGlobal + Abort>(rt: &R, heap: &Heap, wanted: &[(&str, usize)]) {
+    let bytes = picture(rt, heap);
+    let text = str::from_utf8(&bytes).ok().expect(rt, "text");
+    expect_well_formed(rt, text);
+    expect_counted(rt, text, wanted);
+}
+
+/// Ends the test unless the heap's picture is well-formed, and shows what the heap's readers tell.
+/// What its legend has isn't counted.
 fn expect_shown<R: AllocGlobal + Abort>(rt: &R, heap: &Heap) {
     let bytes = picture(rt, heap);
     let text = str::from_utf8(&bytes).ok().expect(rt, "text");
-    expect_in(rt, text, &shown_of(heap));
+    expect_well_formed(rt, text);
+    let shown = text.split("<g class='legend'").next().expect(rt, "a part");
+    expect_counted(rt, shown, &shown_of(heap));
 }
 
 /// A heap with an object and a raw one, of two fields each, after three stores.
@@ -222,6 +230,14 @@ fn a_picture_shows_what_the_heap_tells(rt: HostRuntime) {
     expect_shown(&rt, &heap);
 }
 
+/// What the picture of 300 objects has, and that of one more.
+const ALL_DRAWN: &[(&str, usize)] = &[("<g class='box", 300), ("Only bars", 0)];
+
+const BARS_ALONE: &[(&str, usize)] = &[
+    ("<g class='box", 0),
+    ("Only bars: 301 objects, and at most 300 are drawn.", 1),
+];
+
 #[test]
 fn a_heap_over_the_limit_has_bars_alone(rt: HostRuntime) {
     let sizes = Config {
@@ -232,33 +248,15 @@ fn a_heap_over_the_limit_has_bars_alone(rt: HostRuntime) {
     for _ in 0..300 {
         assert!(rt; heap.alloc(1, FIRST, 0).is_ok());
     }
-    let whole = picture(&rt, &heap);
-    let text = str::from_utf8(&whole).ok().expect(&rt, "text");
-    expect_equal(
-        &rt,
-        (count(text, "<g class='box"), text.contains("Only bars")),
-        (300, false),
-    );
+    expect_parts(&rt, &heap, ALL_DRAWN);
     assert!(rt; heap.alloc(1, FIRST, 0).is_ok());
-    let bars = picture(&rt, &heap);
-    let text = str::from_utf8(&bars).ok().expect(&rt, "text");
-    expect_equal(
-        &rt,
-        (
-            count(text, "<g class='box"),
-            count(text, "Only bars: 301 objects, and at most 300 are drawn."),
-        ),
-        (0, 1),
-    );
-    expect_well_formed(&rt, text);
+    expect_parts(&rt, &heap, BARS_ALONE);
 }
 
 #[test]
 fn a_long_number_is_cut(rt: HostRuntime) {
-    let bytes = picture(&rt, &in_a_cycle(&rt));
-    let text = str::from_utf8(&bytes).ok().expect(&rt, "text");
     let cut = "<title>-2305843009213693952</title>-2305..</text>";
-    expect_equal(&rt, count(text, cut), 1);
+    expect_parts(&rt, &in_a_cycle(&rt), &[(cut, 1)]);
 }
 
 #[test]

@@ -3,7 +3,9 @@
 use crate::commands::{SIZES, item, piece, replica_of, root, store};
 use crate::expectations::{Row, expect_equal};
 use rh_core::{GiveError, Given, Heap, Shaded};
-use rh_layout::{Operand, Reply, RootId, Value};
+use rh_layout::{Item, Operand, Reply, RootId, Value};
+use std::alloc::Allocator;
+use std::process::Abort;
 
 /// The root of the raw object, which is the first object.
 const RAW: RootId = RootId { owner: 1, slot: 0 };
@@ -18,6 +20,16 @@ const ONE_STALE: Given = Given {
 /// An entry of the field has its number, and another value.
 fn forged(field: u32) -> Result<Given, GiveError> {
     Err(GiveError::Forged { object: 0, field })
+}
+
+/// Gives a replica of this entry.
+fn give<A: Allocator + Copy>(
+    rt: &impl Abort,
+    memory: A,
+    heap: &mut Heap<A>,
+    entry: Item,
+) -> Result<Given, GiveError> {
+    heap.give(&replica_of(rt, memory, &piece(rt, 1, &[entry])))
 }
 
 #[test]
@@ -39,8 +51,7 @@ fn no_give_puts_a_reference_into_a_raw_object(rt: HostRuntime) {
     ];
     for (row, &(made_up, answer)) in invented.iter().enumerate() {
         let rt = Row { rt: &rt, row };
-        let given = heap.give(&replica_of(&rt, memory, &piece(&rt, 1, &[made_up])));
-        expect_equal(&rt, given, answer);
+        expect_equal(&rt, give(&rt, memory, &mut heap, made_up), answer);
         expect_equal(&rt, heap.field(0, 0), Some((1, Value::Int(5))));
         expect_equal(&rt, heap.field(0, 1), Some((0, Value::Nil)));
     }

@@ -71,12 +71,17 @@ fn a_heap_is_resized(rt: HostRuntime) {
     expect_equal(&rt, heap.release(), Ok(()));
 }
 
+/// Makes a heap and grows it. Answers whether memory was refused.
+fn is_refused_a_growth<A: Allocator + Copy>(rt: &impl Abort, memory: A) -> bool {
+    match Heap::new(memory, SMALL) {
+        Ok(mut heap) => is_refused_to_grow(rt, &mut heap),
+        Err(_) => true,
+    }
+}
+
 /// Grows a heap, and checks that a growth that is refused changes nothing and that a smaller size
 /// isn't refused then. Answers whether memory was refused.
-fn is_refused_a_growth<A: Allocator + Copy>(rt: &impl Abort, memory: A) -> bool {
-    let Ok(mut heap) = Heap::new(memory, SMALL) else {
-        return true;
-    };
+fn is_refused_to_grow<A: Allocator + Copy>(rt: &impl Abort, heap: &mut Heap<A>) -> bool {
     expect_equal(
         rt,
         heap.command(1, &alloc(root(1, 0), 2)),

@@ -36,21 +36,29 @@ fn command<A: Allocator + Copy>(command: Command) -> Event<A> {
     Event::Command { owner: 1, command }
 }
 
+/// So many events, each of which drops a root.
+fn drops<R: AllocGlobal + Abort>(rt: &R, count: u32) -> Vec<Event<Global>> {
+    let mut events = Vec::new(rt.alloc());
+    for _ in 0..count {
+        let event = command(drop_root(root(1, 0)));
+        events.push(event).ok().expect(rt, "memory is ample");
+    }
+    events
+}
+
+/// Checks that so many events were answered, and that the last one is done.
+fn expect_done(rt: &impl Abort, answers: &[Answer], count: usize) {
+    expect_equal(rt, answers.len(), count);
+    let last = answers.last().expect(rt, "an answer");
+    expect_equal(rt, told(last), Some(("done", 0, 0)));
+}
+
 #[test]
 fn a_run_of_100000_events(rt: HostRuntime) {
     let mut heap = Heap::new(rt.alloc(), SMALL).expect(&rt, "a heap");
-    let mut events = Vec::new(rt.alloc());
-    for _ in 0..100_000u32 {
-        events
-            .push(command::<Global>(drop_root(root(1, 0))))
-            .ok()
-            .expect(&rt, "memory is ample");
-    }
     let mut answers = Vec::new(rt.alloc());
-    expect_equal(&rt, heap.run(&events, &mut answers), Ok(()));
-    expect_equal(&rt, answers.len(), 100_000);
-    let last = answers.pop().expect(&rt, "an answer");
-    expect_equal(&rt, told(&last), Some(("done", 0, 0)));
+    expect_equal(&rt, heap.run(&drops(&rt, 100_000), &mut answers), Ok(()));
+    expect_done(&rt, &answers, 100_000);
 }
 
 /// A deal of so many at most.
@@ -86,8 +94,19 @@ fn add_give<A: Allocator + Copy>(
 }
 
 /// Adds gives of two replicas that are joined in both orders, and of the second join once more,
-/// where memory wasn't refused. One has the first field as it was made; the other the first as it
-/// was stored to, and the second.
+/// where memory wasn't refused.
+fn add_joins<A: Allocator + Copy>(
+    events: &mut Vec<Event<A>, A>,
+    one: &PartialReplica<A>,
+    other: &PartialReplica<A>,
+) -> Option<()> {
+    add_give(events, joined(one, other)?)?;
+    add_give(events, joined(other, one)?)?;
+    add_give(events, joined(other, one)?)
+}
+
+/// Adds these gives of two replicas, where memory wasn't refused. One has the first field as it was
+/// made; the other the first as it was stored to, and the second.
 fn add_gives<A: Allocator + Copy>(
     rt: &impl Abort,
     memory: A,
@@ -96,9 +115,7 @@ fn add_gives<A: Allocator + Copy>(
     let items = [item(0, 1, 0, Value::Nil), item(0, 0, 1, Value::Int(9))];
     let one = taken(rt, memory, &[item(0, 0, 0, Value::Nil)])?;
     let other = taken(rt, memory, &items)?;
-    add_give(events, joined(&one, &other)?)?;
-    add_give(events, joined(&other, &one)?)?;
-    add_give(events, joined(&other, &one)?)
+    add_joins(events, &one, &other)
 }
 
 /// What a cycle is told, in which replicas of both fields of an object are given three times.
@@ -118,10 +135,13 @@ const CYCLE: &[Told] = &[
     ("flipped", 1, 4),
 ];
 
-/// The events of that cycle, where memory wasn't refused.
-fn cycle<A: Allocator + Copy>(rt: &impl Abort, memory: A) -> Option<Vec<Event<A>, A>> {
+/// Adds the events of that cycle, where memory wasn't refused.
+fn add_cycle<A: Allocator + Copy>(
+    rt: &impl Abort,
+    memory: A,
+    events: &mut Vec<Event<A>, A>,
+) -> Option<()> {
     let (first, second) = (root(1, 0), root(1, 1));
-    let mut events = Vec::new(memory);
     for asked in [alloc(first, 2), alloc(second, 3), drop_root(second)] {
         events.push(command(asked)).ok()?;
         if events.len() == 1 {
@@ -133,9 +153,8 @@ fn cycle<A: Allocator + Copy>(rt: &impl Abort, memory: A) -> Option<Vec<Event<A>
     events.push(command(store(first, 0, Operand::Int(9)))).ok()?;
     events.push(deals(Kind::Copies, 1)).ok()?;
     events.push(deals(Kind::Entries, 9)).ok()?;
-    add_gives(rt, memory, &mut events)?;
-    events.push(Event::Flip).ok()?;
-    Some(events)
+    add_gives(rt, memory, events)?;
+    events.push(Event::Flip).ok()
 }
 
 /// Runs the events of that cycle on a heap, twice where nothing was done. Answers whether memory
@@ -166,9 +185,10 @@ fn is_refused_a_run<A: Allocator + Copy>(
 
 /// Makes the events and a heap, and runs them on it. Answers whether memory was refused.
 fn is_refused_a_cycle<A: Allocator + Copy>(rt: &impl Abort, memory: A) -> bool {
-    let Some(events) = cycle(rt, memory) else {
+    let mut events = Vec::new(memory);
+    if add_cycle(rt, memory, &mut events).is_none() {
         return true;
-    };
+    }
     match Heap::new(memory, SMALL) {
         Ok(mut heap) => is_refused_a_run(rt, &mut heap, &events, &mut Vec::new(memory)),
         Err(error) => {

@@ -130,13 +130,18 @@ fn a_freed_ticket_is_not_told(rt: HostRuntime) {
     expect_told(&rt, &mut heap, &[1, 2]);
 }
 
+/// Makes a heap and room for tickets. Answers whether memory was refused.
+fn is_refused_room<A: Allocator + Copy>(rt: &impl Abort, memory: A) -> bool {
+    match Heap::new(memory, THREE_SLOTS) {
+        Ok(mut heap) => is_refused_room_in(rt, &mut heap),
+        Err(_) => true,
+    }
+}
+
 /// Makes room for tickets, and checks that room that is refused changes nothing. Answers whether
 /// memory was refused.
-fn is_refused_room<A: Allocator + Copy>(rt: &impl Abort, memory: A) -> bool {
-    let Ok(mut heap) = Heap::new(memory, THREE_SLOTS) else {
-        return true;
-    };
-    with_objects(rt, &mut heap);
+fn is_refused_room_in<A: Allocator + Copy>(rt: &impl Abort, heap: &mut Heap<A>) -> bool {
+    with_objects(rt, heap);
     for tickets in [1, 64] {
         let room = heap.watches().room();
         if let Err(why) = heap.watch_room(tickets) {

@@ -231,18 +231,26 @@ fn least_words(program: &Program, ratio: u32) -> u32 {
     }
 }
 
-/// Runs a program over fifty cycles and more, at a ratio and exactly the words that the rule asks
-/// for.
-fn run<R: AllocGlobal + Abort>(rt: &R, program: &Program, ratio: u32) {
-    let words = least_words(program, ratio);
-    let pace = Pace::of(words, program.live, program.biggest, ratio).expect(rt, "a pace");
-    let made = PacedHeap::new(rt.alloc(), pace.config(words, ratio, 2, 4), pace);
-    let mut paced = made.ok().expect(rt, "a heap");
-    let mut plain = Plain::new(rt.alloc(), 2, 4).ok().expect(rt, "a plain heap");
-    play(rt, &mut paced, &mut plain, program.first);
+/// Plays what a program does at first.
+fn play_first<M: Allocator + Copy>(
+    rt: &impl Abort,
+    paced: &mut PacedHeap<M>,
+    plain: &mut Plain<M>,
+    program: &Program,
+) {
+    play(rt, paced, plain, program.first);
     for _ in 0..program.grows.0 {
-        play(rt, &mut paced, &mut plain, program.grows.1);
+        play(rt, paced, plain, program.grows.1);
     }
+}
+
+/// Plays what a program does again and again, until fifty cycles and more have ended.
+fn play_on<M: Allocator + Copy>(
+    rt: &impl Abort,
+    paced: &mut PacedHeap<M>,
+    plain: &mut Plain<M>,
+    program: &Program,
+) {
     for _ in 0..100_000u32 {
         if paced.stat().flips > 50 {
             return;
@@ -252,9 +260,21 @@ fn run<R: AllocGlobal + Abort>(rt: &R, program: &Program, ratio: u32) {
         } else {
             program.outside
         };
-        play(rt, &mut paced, &mut plain, commands);
+        play(rt, paced, plain, commands);
     }
     assert!(rt; false, "fewer than fifty cycles");
+}
+
+/// Runs a program over fifty cycles and more, at a ratio and exactly the words that the rule asks
+/// for.
+fn run<R: AllocGlobal + Abort>(rt: &R, program: &Program, ratio: u32) {
+    let words = least_words(program, ratio);
+    let pace = Pace::of(words, program.live, program.biggest, ratio).expect(rt, "a pace");
+    let made = PacedHeap::new(rt.alloc(), pace.config(words, ratio, 2, 4), pace);
+    let mut paced = made.ok().expect(rt, "a heap");
+    let mut plain = Plain::new(rt.alloc(), 2, 4).ok().expect(rt, "a plain heap");
+    play_first(rt, &mut paced, &mut plain, program);
+    play_on(rt, &mut paced, &mut plain, program);
 }
 
 #[test]

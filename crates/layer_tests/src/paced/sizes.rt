@@ -1,7 +1,6 @@
 //! Heaps that are made of their sizes, the errors of a runtime, and what is read of a field without
 //! a root for it.
 
-use crate::commands::root;
 use crate::expectations::{Row, expect_equal, expect_texts};
 use refusing::refused_in_turn;
 use rh_heap::{
@@ -9,6 +8,8 @@ use rh_heap::{
     PacedHeap, Refusal, ReleaseError, Reply, ResizeError, RoomError, RootId, Sizes, SizesError,
     Value, WatchError,
 };
+use std::alloc::Allocator;
+use std::process::Abort;
 
 const A: RootId = RootId { owner: 1, slot: 0 };
 
@@ -91,32 +92,53 @@ fn refused_memory(rt: HostRuntime) {
     expect_equal(&rt, refused, Ok(4));
 }
 
+/// What is stored to fields of an object in turn.
+const STORED: &[(u32, Operand)] = &[
+    (0, Operand::Int(-3)),
+    (1, Operand::Root(A)),
+    (2, Operand::Root(SHARED)),
+];
+
+/// An owner, a root and a field that are peeked at, and what is answered.
+const PEEKS: &[((u32, RootId, u32), Result<Reply, Refusal>)] = &[
+    ((1, A, 0), Ok(Reply::Int(-3))),
+    ((1, A, 1), Ok(Reply::Object(4))),
+    ((1, A, 2), Ok(Reply::Raw(3))),
+    ((1, A, 3), Ok(Reply::Nil)),
+    ((0, SHARED, 2), Ok(Reply::Nil)),
+    ((1, A, 4), Err(Refusal::NoField)),
+    ((1, B, 0), Err(Refusal::NotObject)),
+    ((0, A, 4), Err(Refusal::NotYours)),
+    ((0, RootId { owner: 1, slot: 2 }, 4), Err(Refusal::NoRoot)),
+    ((2, SHARED, 0), Err(Refusal::NoRoot)),
+];
+
+/// Makes an object of four fields and a raw one of three, and stores to the first.
+fn make_both<M: Allocator + Copy>(rt: &impl Abort, heap: &mut PacedHeap<M>) {
+    expect_equal(rt, heap.alloc(1, A, 4), Ok(Reply::Object(4)));
+    expect_equal(rt, heap.alloc_raw(1, SHARED, 3), Ok(Reply::Raw(3)));
+    for (row, &(field, operand)) in STORED.iter().enumerate() {
+        let rt = &Row { rt, row };
+        expect_equal(rt, heap.store(1, A, field, operand), Ok(Reply::Done));
+    }
+}
+
+/// Peeks at each field. That changes nothing.
+fn expect_peeks<M: Allocator + Copy>(rt: &impl Abort, heap: &PacedHeap<M>) {
+    let before = heap.stat();
+    for (row, &((owner, src, field), answer)) in PEEKS.iter().enumerate() {
+        let rt = &Row { rt, row };
+        expect_equal(rt, heap.peek(owner, src, field), answer);
+    }
+    expect_equal(rt, (heap.stat(), heap.root(B)), (before, Some(Value::Nil)));
+}
+
 #[test]
 fn fields_without_a_root(rt: HostRuntime) {
-    let mut heap = PacedHeap::sized(rt.alloc(), SMALL)
-        .ok()
-        .expect(&rt, "a heap");
-    expect_equal(&rt, heap.alloc(1, A, 4), Ok(Reply::Object(4)));
-    expect_equal(&rt, heap.alloc_raw(1, SHARED, 3), Ok(Reply::Raw(3)));
-    expect_equal(&rt, heap.store(1, A, 0, Operand::Int(-3)), Ok(Reply::Done));
-    expect_equal(&rt, heap.store(1, A, 1, Operand::Root(A)), Ok(Reply::Done));
-    expect_equal(
-        &rt,
-        heap.store(1, A, 2, Operand::Root(SHARED)),
-        Ok(Reply::Done),
-    );
-    let before = heap.stat();
-    expect_equal(&rt, heap.peek(1, A, 0), Ok(Reply::Int(-3)));
-    expect_equal(&rt, heap.peek(1, A, 1), Ok(Reply::Object(4)));
-    expect_equal(&rt, heap.peek(1, A, 2), Ok(Reply::Raw(3)));
-    expect_equal(&rt, heap.peek(1, A, 3), Ok(Reply::Nil));
-    expect_equal(&rt, heap.peek(0, SHARED, 2), Ok(Reply::Nil));
-    expect_equal(&rt, heap.peek(1, A, 4), Err(Refusal::NoField));
-    expect_equal(&rt, heap.peek(1, B, 0), Err(Refusal::NotObject));
-    expect_equal(&rt, heap.peek(0, A, 4), Err(Refusal::NotYours));
-    expect_equal(&rt, heap.peek(0, root(1, 2), 4), Err(Refusal::NoRoot));
-    expect_equal(&rt, heap.peek(2, SHARED, 0), Err(Refusal::NoRoot));
-    expect_equal(&rt, (heap.stat(), heap.root(B)), (before, Some(Value::Nil)));
+    let made = PacedHeap::sized(rt.alloc(), SMALL).ok();
+    let mut heap = made.expect(&rt, "a heap");
+    make_both(&rt, &mut heap);
+    expect_peeks(&rt, &heap);
 }
 
 #[test]

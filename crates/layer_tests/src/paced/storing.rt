@@ -80,36 +80,66 @@ fn numbers_are_read_up_to_the_first_other_value(rt: HostRuntime) {
     expect_equal(&rt, read, [5, 7]);
 }
 
+/// The sizes of a heap that has five numbers.
+const FEW: Config = Config {
+    last_number: 5,
+    ..SIZES
+};
+
+/// From which field on numbers are stored to the object that B names, in turn, and what is answered.
+type Stored<'a> = (u32, &'a [i64], Result<(), Refusal>);
+
+/// As many as there are numbers are stored, and no more.
+const LAST_NUMBERS: &[Stored] = &[
+    (0, &[1, 2, 3, 4, 5, 6], Err(Refusal::NumbersSpent)),
+    (0, &[1, 2, 3, 4, 5], Ok(())),
+    (5, &[6], Err(Refusal::NumbersSpent)),
+];
+
+/// In a cycle whose log keeps four stores. Of six, both limits would be passed.
+const LAST_ENTRIES: &[Stored] = &[
+    (0, &[1, 2, 3, 4, 5], Err(Refusal::LogFull)),
+    (0, &[1, 2, 3, 4, 5, 6], Err(Refusal::LogFull)),
+    (0, &[1, 2, 3, 4], Ok(())),
+];
+
+/// Stores numbers in turn. A refused store takes no number.
+fn store_each<M: Allocator + Copy>(rt: &impl Abort, heap: &mut PacedHeap<M>, rows: &[Stored]) {
+    for (row, &(from, numbers, answer)) in rows.iter().enumerate() {
+        let rt = &Row { rt, row };
+        let before = heap.stat().number;
+        expect_equal(rt, heap.store_all(1, B, from, numbers), answer);
+        if answer.is_err() {
+            expect_equal(rt, heap.stat().number, before);
+        }
+    }
+}
+
+/// Spends all numbers of a new heap.
+fn stop_at_the_last_number<M: Allocator + Copy>(rt: &impl Abort, heap: &mut PacedHeap<M>) {
+    expect_equal(rt, heap.alloc(1, B, 6), Ok(Reply::Object(6)));
+    store_each(rt, heap, LAST_NUMBERS);
+    expect_equal(rt, heap.stat().number, 5);
+}
+
+/// Fills the log of a new heap, in which the third object begins a cycle.
+fn stop_at_the_last_entry<M: Allocator + Copy>(rt: &impl Abort, heap: &mut PacedHeap<M>) {
+    for (row, &(dst, fields)) in [(A, 2), (B, 6), (C, 0)].iter().enumerate() {
+        let rt = &Row { rt, row };
+        expect_equal(rt, heap.alloc(1, dst, fields), Ok(Reply::Object(fields)));
+    }
+    expect_equal(rt, heap.heap().is_in_cycle(), true);
+    store_each(rt, heap, LAST_ENTRIES);
+    expect_equal(rt, heap.stat().number, 4);
+    let mut read = [0; 4];
+    expect_equal(rt, heap.load_all(1, B, 0, &mut read), Ok(4));
+    expect_equal(rt, read, [1, 2, 3, 4]);
+}
+
 #[test]
 fn numbers_stop_at_the_limits(rt: HostRuntime) {
-    let few = Config {
-        last_number: 5,
-        ..SIZES
-    };
-    let mut heap = small_heap(&rt, rt.alloc(), few);
-    expect_equal(&rt, heap.alloc(1, A, 2), Ok(Reply::Object(2)));
-    expect_equal(&rt, heap.alloc(1, B, 6), Ok(Reply::Object(6)));
-    let six = heap.store_all(1, B, 0, &[1, 2, 3, 4, 5, 6]);
-    expect_equal(&rt, six, Err(Refusal::NumbersSpent));
-    // As many as there are numbers left are stored, and no more.
-    let mut spent = small_heap(&rt, rt.alloc(), few);
-    expect_equal(&rt, spent.alloc(1, B, 6), Ok(Reply::Object(6)));
-    expect_equal(&rt, spent.store_all(1, B, 0, &[1, 2, 3, 4, 5]), Ok(()));
-    let one_more = spent.store_all(1, B, 5, &[6]);
-    expect_equal(&rt, one_more, Err(Refusal::NumbersSpent));
-    // A cycle begins, and its log keeps four stores. Of six, both limits would be passed.
-    expect_equal(&rt, heap.alloc(1, C, 0), Ok(Reply::Object(0)));
-    expect_equal(&rt, heap.heap().is_in_cycle(), true);
-    let five = heap.store_all(1, B, 0, &[1, 2, 3, 4, 5]);
-    expect_equal(&rt, five, Err(Refusal::LogFull));
-    let six = heap.store_all(1, B, 0, &[1, 2, 3, 4, 5, 6]);
-    expect_equal(&rt, six, Err(Refusal::LogFull));
-    expect_equal(&rt, heap.stat().number, 0);
-    expect_equal(&rt, heap.store_all(1, B, 0, &[1, 2, 3, 4]), Ok(()));
-    let mut read = [0; 4];
-    expect_equal(&rt, heap.load_all(1, B, 0, &mut read), Ok(4));
-    expect_equal(&rt, read, [1, 2, 3, 4]);
-    expect_equal(&rt, heap.stat().number, 4);
+    stop_at_the_last_number(&rt, &mut small_heap(&rt, rt.alloc(), FEW));
+    stop_at_the_last_entry(&rt, &mut small_heap(&rt, rt.alloc(), FEW));
 }
 
 #[test]
