@@ -314,22 +314,35 @@ fn call_by<R: Wait>(
     Some(mutators.get_mut(place)?.call(rt, heap, command))
 }
 
-/// Plays a case on new heaps.
-fn play<R: AllocGlobal + Wait + Abort>(rt: &R, case: &Case) -> Told {
-    let (shared, mut mutators) = shared_of(rt, case.config, case.shared);
-    let (other, mut others) = shared_of(rt, case.other, case.shared);
-    for (row, &(theirs, place, elsewhere, command, answer)) in case.calls.iter().enumerate() {
-        let heap = if elsewhere { &other } else { &shared };
+/// Makes the calls of a case on a heap and on the other one, by the mutators of either.
+fn call_each<R: Wait + Abort>(
+    rt: &R,
+    calls: &[Asked],
+    shared: &SharedHeap,
+    mutators: &mut Vec<Mutator>,
+    other: &SharedHeap,
+    others: &mut Vec<Mutator>,
+) {
+    for (row, &(theirs, place, elsewhere, command, answer)) in calls.iter().enumerate() {
+        let heap = if elsewhere { other } else { shared };
         let told = if theirs {
-            call_by(rt, &mut others, place, heap, command)
+            call_by(rt, others, place, heap, command)
         } else {
-            call_by(rt, &mut mutators, place, heap, command)
+            call_by(rt, mutators, place, heap, command)
         };
         expect_equal(&Row { rt, row }, told, Some(answer));
     }
-    for (row, &did) in case.increments.iter().enumerate() {
+}
+
+/// Increments a heap in turn.
+fn increment_each<R: Wait + Abort>(rt: &R, shared: &SharedHeap, increments: &[Did]) {
+    for (row, &did) in increments.iter().enumerate() {
         expect_equal(&Row { rt, row }, shared.increment(rt), did);
     }
+}
+
+/// Leaves the last mutator out, and puts the other heap's last one in, as a case asks for it.
+fn exchange_last(case: &Case, mutators: &mut Vec<Mutator>, others: &mut Vec<Mutator>) {
     if case.leaves {
         let _ = mutators.pop();
     }
@@ -338,6 +351,15 @@ fn play<R: AllocGlobal + Wait + Abort>(rt: &R, case: &Case) -> Told {
     {
         let _ = mutators.push(stranger);
     }
+}
+
+/// Plays a case on new heaps.
+fn play<R: AllocGlobal + Wait + Abort>(rt: &R, case: &Case) -> Told {
+    let (shared, mut mutators) = shared_of(rt, case.config, case.shared);
+    let (other, mut others) = shared_of(rt, case.other, case.shared);
+    call_each(rt, case.calls, &shared, &mut mutators, &other, &mut others);
+    increment_each(rt, &shared, case.increments);
+    exchange_last(case, &mut mutators, &mut others);
     closed(rt, shared, mutators)
 }
 

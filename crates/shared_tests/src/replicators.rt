@@ -11,7 +11,6 @@ use rh_rings::{Link, Settled, new_link};
 use std::alloc::{Allocator, Global};
 use std::process::Abort;
 use std::sync::atomic::AtomicBool;
-use std::test::Fail;
 
 /// New rings to the replicator of this number and back, and that replicator.
 fn rings_of<R: AllocGlobal + Abort>(rt: &R, number: u32) -> (Link, Replicator) {
@@ -123,25 +122,24 @@ fn a_ring_has_eight_places_each_way(rt: HostRuntime) {
 }
 
 #[test]
-fn new_rings_are_settled_with_nothing(rt: HostRuntime) -> Result<(), Fail> {
+fn new_rings_are_settled_with_nothing(rt: HostRuntime) {
     let Ok((mut link, ends)) = new_link(rt.alloc(), u32::MAX) else {
-        return Err(Fail::from("memory is ample"));
+        panic!(rt; "memory is ample")
     };
     expect_equal(&rt, ends.replicator(), u32::MAX);
-    let done = ends.finish().ok_or("the heap's ends are there")?;
+    let done = ends.finish().expect(&rt, "the heap's ends are there");
     expect_equal(&rt, done.replicator(), u32::MAX);
     let settled = Settled {
         received: 0,
         left: 0,
     };
     expect_equal(&rt, link.settle(done), settled);
-    Ok(())
 }
 
 #[test]
-fn what_is_left_in_the_rings_is_settled_too(rt: HostRuntime) -> Result<(), Fail> {
+fn what_is_left_in_the_rings_is_settled_too(rt: HostRuntime) {
     let Ok((mut link, ends)) = new_link(rt.alloc(), 5) else {
-        return Err(Fail::from("memory is ample"));
+        panic!(rt; "memory is ample")
     };
     let mut replicator = Replicator::new(rt.alloc(), ends);
     assert!(rt; push(&mut link, piece_of(1, 1, 1)));
@@ -152,7 +150,8 @@ fn what_is_left_in_the_rings_is_settled_too(rt: HostRuntime) -> Result<(), Fail>
     expect_equal(&rt, replicator.step(), Stepped::Folded(1));
     expect_equal(&rt, replicator.step(), Stepped::Folded(1));
     assert!(rt; link.pop());
-    let done = replicator.finish().ok_or("the heap's ends are there")?;
+    let done = replicator.finish();
+    let done = done.expect(&rt, "the heap's ends are there");
     expect_equal(&rt, done.replicator(), 5);
     let settled = Settled {
         received: 1,
@@ -160,7 +159,6 @@ fn what_is_left_in_the_rings_is_settled_too(rt: HostRuntime) -> Result<(), Fail>
     };
     expect_equal(&rt, link.settle(done), settled);
     expect_equal(&rt, waiting(&link), Some((1, 1, 1)));
-    Ok(())
 }
 
 #[test]

@@ -69,6 +69,32 @@ fn has_read(mutator: &Mutator) -> bool {
         && matches!(shared.answer, Ok(Reply::Int(1 | 2)))
 }
 
+/// Two threads play owners 1 and 2 on one heap, and the second one's fourth call on a heap of its
+/// own. The mutators are put back, the second one first, or are left without it where that is asked
+/// for. Answers whether both read what they were to.
+fn join_two<R: Threads + Wait + Sync + Abort>(
+    rt: &R,
+    shared: &SharedHeap,
+    fourth: &SharedHeap,
+    mutators: &mut Vec<Mutator>,
+    leaves: bool,
+) -> (bool, bool) {
+    let two = mutators.pop().expect(rt, "owner 2");
+    let one = mutators.pop().expect(rt, "owner 1");
+    let (one, two) = thread::join(
+        rt,
+        || played(rt, shared, shared, one),
+        || played(rt, shared, fourth, two),
+    );
+    let read = (has_read(&one), has_read(&two));
+    // In any order of the list.
+    if !leaves {
+        let _ = mutators.push(two);
+    }
+    let _ = mutators.push(one);
+    read
+}
+
 /// Two threads play owners 1 and 2 on one heap, and the second one's fourth call on another, where
 /// that is asked for; and the heap is closed, without the second one where that is. Answers whether
 /// both read what they were to, and what closing told.
@@ -79,21 +105,9 @@ fn play_two<R: Threads + Wait + Sync + AllocGlobal + Abort>(
 ) -> (bool, bool, Told) {
     let (shared, mut mutators) = shared_of(rt, LARGE, HALF);
     let (other, _others) = shared_of(rt, LARGE, HALF);
-    let two = mutators.pop().expect(rt, "owner 2");
-    let one = mutators.pop().expect(rt, "owner 1");
     let fourth = if elsewhere { &other } else { &shared };
-    let (one, two) = thread::join(
-        rt,
-        || played(rt, &shared, &shared, one),
-        || played(rt, &shared, fourth, two),
-    );
-    let read = (has_read(&one), has_read(&two));
-    // In any order of the list.
-    if !leaves {
-        let _ = mutators.push(two);
-    }
-    let _ = mutators.push(one);
-    (read.0, read.1, closed(rt, shared, mutators))
+    let (one, two) = join_two(rt, &shared, fourth, &mut mutators, leaves);
+    (one, two, closed(rt, shared, mutators))
 }
 
 /// Whether the second owner's fourth call goes elsewhere, whether the heap is closed without that

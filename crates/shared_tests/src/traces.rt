@@ -9,7 +9,6 @@ use rh_shared_trace::{RunOptions, SharedRunFault, run_shared};
 use rh_syntax::{Kind, TraceFault};
 use std::process::Abort;
 use std::sync::Wait;
-use std::test::Fail;
 use std::thread::Threads;
 
 /// No replicators, and no idle words.
@@ -251,17 +250,22 @@ const OBJECTS: u32 = 20;
 
 const COMPARISONS: u32 = 45;
 
+/// Adds a line to a text.
+fn add(rt: &impl Abort, text: &mut Vec<u8>, line: &[u8]) {
+    text.extend_from_slice(line).expect(rt, "memory is ample");
+}
+
 /// That trace.
-fn replaced_often<R: AllocGlobal>(rt: &R) -> Result<Vec<u8>, Fail> {
+fn replaced_often<R: AllocGlobal + Abort>(rt: &R) -> Vec<u8> {
     let mut text = Vec::new(rt.alloc());
-    text.extend_from_slice(b"heap 64 8 8 1 1\n")?;
+    add(rt, &mut text, b"heap 64 8 8 1 1\n");
     for _ in 0..OBJECTS {
-        text.extend_from_slice(b"0 alloc 0.0 6\n")?;
+        add(rt, &mut text, b"0 alloc 0.0 6\n");
         for _ in 0..COMPARISONS {
-            text.extend_from_slice(b"0 same 0.0 0.0\n")?;
+            add(rt, &mut text, b"0 same 0.0 0.0\n");
         }
     }
-    Ok(text)
+    text
 }
 
 /// How many calls stand in the history of such a trace.
@@ -278,8 +282,8 @@ fn calls_in<R: AllocGlobal + Abort + Threads + Wait + Sync>(
 }
 
 #[test]
-fn replicators_of_a_run_step(rt: HostRuntime) -> Result<(), Fail> {
-    let text = replaced_often(&rt)?;
+fn replicators_of_a_run_step(rt: HostRuntime) {
+    let text = replaced_often(&rt);
     // Pieces are folded under the lock: each object is made.
     expect_equal(&rt, calls_in(&rt, IDLE_ALONE, &text), 920);
     let mut collected: u32 = 0;
@@ -291,7 +295,6 @@ fn replicators_of_a_run_step(rt: HostRuntime) -> Result<(), Fail> {
         }
     }
     assert!(rt; collected > 0, "{collected}");
-    Ok(())
 }
 
 /// Refuses the nth allocation of a run of two owners, whose cycle begins where the fifth of their
