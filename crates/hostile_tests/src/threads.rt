@@ -2,25 +2,29 @@
 
 use crate::expectations::{Row, expect_each, expect_equal};
 use crate::numbers::Numbers;
+use rh_layout::Command;
 use rh_replay::{Verdict, check, read_history};
 use rh_shared_trace::{RunOptions, run_shared};
 use rh_trace::write_command;
 use std::process::Abort;
 use std::sync::Wait;
-use std::test::Fail;
 use std::thread::Threads;
 
+/// Adds a command of an owner to a text.
+fn add(rt: &impl Abort, text: &mut Vec<u8>, owner: u32, command: &Command) {
+    assert!(rt; write_command(owner, command, text).is_ok());
+    assert!(rt; text.push(b'\n').is_ok());
+}
+
 /// A trace of 2,000 commands of four owners.
-fn trace<R: AllocGlobal + Abort>(rt: &R, numbers: &mut Numbers) -> Result<Vec<u8>, Fail> {
+fn trace<R: AllocGlobal + Abort>(rt: &R, numbers: &mut Numbers) -> Vec<u8> {
     let mut text = Vec::new(rt.alloc());
-    text.extend_from_slice(b"heap 192 32 16 5 4\n")?;
+    assert!(rt; text.extend_from_slice(b"heap 192 32 16 5 4\n").is_ok());
     for _ in 0..2000u32 {
         let owner = 1 + numbers.below(4);
-        let command = numbers.command(owner);
-        assert!(rt; write_command(owner, &command, &mut text).is_ok());
-        text.push(b'\n')?;
+        add(rt, &mut text, owner, &numbers.command(owner));
     }
-    Ok(text)
+    text
 }
 
 /// Plays a trace in threads: the heap closes with the calls of all, and the history that it printed
@@ -55,12 +59,12 @@ fn play<R: AllocGlobal + Abort + Threads + Wait + Sync>(
 }
 
 #[test]
-fn four_mutators_and_four_replicators(rt: HostRuntime) -> Result<(), Fail> {
+fn four_mutators_and_four_replicators(rt: HostRuntime) {
     let mut numbers = Numbers { state: 3 };
     let (mut runs, mut collected, mut with_raws): (u64, u64, u64) = (0, 0, 0);
     for row in 0..100usize {
         let rt = Row { rt: &rt, row };
-        let text = trace(&rt, &mut numbers)?;
+        let text = trace(&rt, &mut numbers);
         let (words, raws) = play(&rt, &text, numbers.below(4));
         // More than the space has: what isn't reached was collected.
         if words > 192 {
@@ -73,5 +77,4 @@ fn four_mutators_and_four_replicators(rt: HostRuntime) -> Result<(), Fail> {
     }
     expect_equal(&rt, runs, 100);
     expect_each(&rt, &[collected, with_raws], 10);
-    Ok(())
 }
