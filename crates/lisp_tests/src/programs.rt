@@ -259,6 +259,14 @@ const STOPS: &[(&[u8], &[u8])] = &[
         b"p:1:1: string-ref: out of range",
     ),
     (
+        b"(string-ref \"abc\" -1)",
+        b"p:1:1: string-ref: out of range",
+    ),
+    (
+        b"(vector-ref (vector 1 2) -1)",
+        b"p:1:1: vector-ref: out of range",
+    ),
+    (
         b"(substring \"abc\" 2 1)",
         b"p:1:1: substring: out of range",
     ),
