@@ -4,6 +4,7 @@ use crate::expectations::{Row, expect_bytes, expect_equal};
 use rh_core::Heap;
 use rh_dump::limits::MAX_OBJECTS;
 use rh_dump::{Graph, plain_graph, same_text, write_dump};
+use rh_layout::Command;
 use rh_model::{CommandError, Plain};
 use rh_partial::{PartialReplica, Piece};
 use rh_trace::{Request, config_of, graph, parse, write_answer};
@@ -96,6 +97,38 @@ fn collect(rt: &(impl AllocGlobal + Abort), heap: &mut Heap, request: &Request) 
     assert!(rt; is_done);
 }
 
+/// Does a command on a heap and on a plain heap, which answers the same, and adds the answer's line.
+fn answer(
+    rt: &impl Abort,
+    (heap, plain): (&mut Heap, &mut Plain),
+    answers: &mut Vec<u8>,
+    owner: u32,
+    command: &Command,
+) {
+    let answer = heap.command(owner, command);
+    let got = answer.map_err(CommandError::Refused);
+    expect_equal(rt, got, plain.command(owner, command));
+    expect_equal(rt, write_answer(&answer, answers), Ok(()));
+    answers.push(b'\n').ok().expect(rt, "memory is ample");
+}
+
+/// Plays the requests of a trace on a heap, and its commands on a plain heap too.
+fn play_on(
+    rt: &(impl AllocGlobal + Abort),
+    (heap, plain): (&mut Heap, &mut Plain),
+    answers: &mut Vec<u8>,
+    requests: &[Request],
+) {
+    for (row, request) in requests.iter().enumerate() {
+        let rt = &Row { rt, row };
+        if let Request::Command { owner, command } = *request {
+            answer(rt, (heap, plain), answers, owner, &command);
+        } else {
+            collect(rt, heap, request);
+        }
+    }
+}
+
 /// Plays a trace on a heap, and its commands on a plain heap too, which answers the same. Answers
 /// both, and what the commands are answered, a line each.
 fn play(rt: &(impl AllocGlobal + Abort), text: &[u8]) -> (Heap, Plain, Vec<u8>) {
@@ -105,18 +138,7 @@ fn play(rt: &(impl AllocGlobal + Abort), text: &[u8]) -> (Heap, Plain, Vec<u8>) 
     let plain = Plain::new(rt.alloc(), config.owners, config.slots);
     let mut plain = plain.ok().expect(rt, "a plain heap");
     let mut answers = Vec::new(rt.alloc());
-    for (row, request) in trace.requests().iter().enumerate() {
-        let rt = &Row { rt, row };
-        if let Request::Command { owner, command } = *request {
-            let answer = heap.command(owner, &command);
-            let got = answer.map_err(CommandError::Refused);
-            expect_equal(rt, got, plain.command(owner, &command));
-            expect_equal(rt, write_answer(&answer, &mut answers), Ok(()));
-            answers.push(b'\n').ok().expect(rt, "memory is ample");
-        } else {
-            collect(rt, &mut heap, request);
-        }
-    }
+    play_on(rt, (&mut heap, &mut plain), &mut answers, trace.requests());
     (heap, plain, answers)
 }
 

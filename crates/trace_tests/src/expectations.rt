@@ -1,7 +1,7 @@
 //! What a test expects. These stand in the place of `assert_eq!`, which would make the proof of a
 //! test three times as long.
 
-use std::alloc::Global;
+use std::alloc::{AllocError, Global};
 use std::fmt::{Debug, Display};
 use std::process::Abort;
 
@@ -51,6 +51,11 @@ pub fn expect_bytes(rt: &impl Abort, got: &[u8], wanted: &[u8]) {
     );
 }
 
+/// What was made, of the memory that is ample.
+pub fn ample<T>(rt: &impl Abort, made: Result<T, AllocError>) -> T {
+    made.expect(rt, "memory is ample")
+}
+
 /// Ends the test unless so many allocations or more were refused in turn.
 pub fn expect_refusals(rt: &impl Abort, refused: Result<u64, u64>, least: u64) {
     assert!(rt;
@@ -75,7 +80,7 @@ where
     R: AllocGlobal + Abort,
     D: Display + Drop,
 {
-    let shown = format!(in rt.alloc(); "{value}").expect(rt, "memory is ample");
+    let shown = ample(rt, format!(in rt.alloc(); "{value}"));
     expect_equal(rt, shown.as_str(), text);
 }
 

@@ -1,15 +1,16 @@
 //! Histories: recorded, checked, reported, written and read.
 
-use crate::expectations::{Row, expect_bytes, expect_equal};
+use crate::expectations::{Row, ample, expect_bytes, expect_equal};
 use crate::texts::{RAW_HISTORY, RAW_HISTORY_REPORT};
 use rh_layout::{Command, Refusal, Reply, RootId};
 use rh_replay::{
-    HistoryError, HistoryKind, Recorder, RecorderError, TraceFull, Verdict, check, read_history,
-    report, write_history,
+    History, HistoryError, HistoryKind, Recorder, RecorderError, TraceFull, Verdict, check,
+    read_history, report, write_history,
 };
 use rh_trace::{Kind, Write, command_of, write_answer, write_command};
 use samples::devices::SlowWriter;
 use samples::texts::{RIGHT, RIGHT_REPORT, WRONG, WRONG_REPORT, repeated};
+use std::process::Abort;
 use std::test::Fail;
 
 /// A history that tells a raw object as one that isn't, and the report on it.
@@ -56,19 +57,38 @@ const HISTORIES: &[(&[u8], Verdict, &[u8])] = &[
     ),
 ];
 
+/// The history that a text is read as.
+fn history_of<R: AllocGlobal + Abort>(rt: &R, text: &[u8]) -> History {
+    read_history(rt.alloc(), text).ok().expect(rt, "a history")
+}
+
+/// Expects this verdict on a history.
+fn expect_verdict(rt: &(impl AllocGlobal + Abort), history: &History, verdict: Verdict) {
+    let found = check(rt.alloc(), history).ok();
+    expect_equal(rt, found, Some(verdict));
+}
+
+/// Expects the report on a history with this verdict, and its text.
+fn expect_reported(
+    rt: &(impl AllocGlobal + Abort),
+    history: &History,
+    &(text, verdict, told): &(&[u8], Verdict, &[u8]),
+) {
+    let mut writer = SlowWriter::new(rt, 1, 0);
+    expect_equal(rt, report(history, &verdict, &mut writer), Ok(()));
+    expect_bytes(rt, &writer.text, told);
+    let mut writer = SlowWriter::new(rt, 1000, 0);
+    expect_equal(rt, write_history(history, &mut writer), Ok(()));
+    expect_bytes(rt, &writer.text, text);
+}
+
 #[test]
 fn replays_a_history(rt: HostRuntime) {
-    for (row, &(text, verdict, told)) in HISTORIES.iter().enumerate() {
+    for (row, played) in HISTORIES.iter().enumerate() {
         let rt = Row { rt: &rt, row };
-        let history = read_history(rt.alloc(), text).expect(&rt, "a history");
-        let found = check(rt.alloc(), &history).ok();
-        expect_equal(&rt, found, Some(verdict));
-        let mut writer = SlowWriter::new(&rt, 1, 0);
-        expect_equal(&rt, report(&history, &verdict, &mut writer), Ok(()));
-        expect_bytes(&rt, &writer.text, told);
-        let mut writer = SlowWriter::new(&rt, 1000, 0);
-        expect_equal(&rt, write_history(&history, &mut writer), Ok(()));
-        expect_bytes(&rt, &writer.text, text);
+        let history = history_of(&rt, played.0);
+        expect_verdict(&rt, &history, played.1);
+        expect_reported(&rt, &history, played);
     }
 }
 
@@ -89,11 +109,7 @@ fn a_recorder_takes_as_many_calls_as_its_limit(rt: HostRuntime) -> Result<(), Fa
     let full = recorder.note(1, &ALLOC, Err(Refusal::NoRoot));
     expect_equal(&rt, full, Err(TraceFull));
     expect_equal(&rt, recorder.history().calls().len(), 1);
-    expect_equal(
-        &rt,
-        check(rt.alloc(), recorder.history()).ok(),
-        Some(Verdict::Legal(1)),
-    );
+    expect_verdict(&rt, recorder.history(), Verdict::Legal(1));
     for (row, &(owners, slots, limit, error)) in NO_RECORDERS.iter().enumerate() {
         let rt = Row { rt: &rt, row };
         let made = Recorder::new(rt.alloc(), owners, slots, limit);
@@ -113,26 +129,24 @@ fn read(rt: &impl AllocGlobal, text: &[u8]) -> Option<Result<usize, (u32, Histor
 }
 
 #[test]
-fn the_longest_history(rt: HostRuntime) -> Result<(), Fail> {
-    let mut text = repeated(&rt, b"history 1 1\n", b"0 drop 0.0 = done\n", 1_048_574)?;
+fn the_longest_history(rt: HostRuntime) {
+    let drops = repeated(&rt, b"history 1 1\n", b"0 drop 0.0 = done\n", 1_048_574);
+    let mut text = ample(&rt, drops);
     let unended = Err((1_048_576, HistoryKind::End));
     expect_equal(&rt, read(&rt, &text), Some(unended));
-    text.extend_from_slice(b"end 1048574\n")?;
-    let history = read_history(rt.alloc(), &text).ok().ok_or("a history")?;
-    let verdict = check(rt.alloc(), &history).ok();
-    expect_equal(&rt, verdict, Some(Verdict::Legal(1_048_574)));
-    Ok(())
+    ample(&rt, text.extend_from_slice(b"end 1048574\n"));
+    expect_verdict(&rt, &history_of(&rt, &text), Verdict::Legal(1_048_574));
 }
 
 #[test]
-fn a_history_of_too_many_lines(rt: HostRuntime) -> Result<(), Fail> {
-    let mut text = repeated(&rt, b"history 1 1\n", b"0 drop 0.0 = done\n", 1_048_575)?;
+fn a_history_of_too_many_lines(rt: HostRuntime) {
+    let drops = repeated(&rt, b"history 1 1\n", b"0 drop 0.0 = done\n", 1_048_575);
+    let mut text = ample(&rt, drops);
     let unended = Err((1_048_577, HistoryKind::End));
     expect_equal(&rt, read(&rt, &text), Some(unended));
-    text.extend_from_slice(b"end 1048575\n")?;
+    ample(&rt, text.extend_from_slice(b"end 1048575\n"));
     let long = Err((1_048_577, HistoryKind::Line(Kind::Long)));
     expect_equal(&rt, read(&rt, &text), Some(long));
-    Ok(())
 }
 
 #[test]

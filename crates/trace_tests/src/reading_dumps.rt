@@ -1,13 +1,12 @@
 //! Dumps read from their texts, and written.
 
-use crate::expectations::{Row, expect_bytes, expect_equal};
-use rh_dump::{DumpReadError, read_dump, read_dump_logged, same_text, write_dump};
+use crate::expectations::{Row, ample, expect_equal};
+use rh_dump::{DumpReadError, Graph, read_dump, read_dump_logged, same_text, write_dump};
 use rh_text::IoLog;
 use samples::devices::{SlowReader, SlowWriter};
 use samples::texts::repeated;
 use std::io;
 use std::process::Abort;
-use std::test::Fail;
 
 /// An object that holds each kind of value, itself among them, and twice another, which is met
 /// first through a field; and two roots.
@@ -30,12 +29,22 @@ const EMPTY: &[u8] = b"rheap 2\nroots 0\nobjects 0\nend\n";
 
 const EMPTY_BEFORE: &[u8] = b"rheap 1\nroots 0\nobjects 0\nend\n";
 
+/// The graph that a dump is read as.
+fn graph_of<R: AllocGlobal + Abort>(rt: &R, reader: &mut impl io::Read) -> Graph {
+    read_dump(rt.alloc(), reader).ok().expect(rt, "a dump")
+}
+
+/// Expects this text of a graph.
+fn expect_written<R: AllocGlobal + Abort>(rt: &R, graph: &Graph, text: &[u8]) {
+    let mut written = Vec::new(rt.alloc());
+    expect_equal(rt, write_dump(graph, &mut written), Ok(()));
+    assert!(rt; written.as_slice() == text);
+}
+
 /// Checks that a text is read as a graph whose text it is.
 fn expect_dump<R: AllocGlobal + Abort>(rt: &R, reader: &mut impl io::Read, text: &[u8]) {
-    let graph = read_dump(rt.alloc(), reader).ok().expect(rt, "a dump");
-    let mut written = Vec::new(rt.alloc());
-    expect_equal(rt, write_dump(&graph, &mut written), Ok(()));
-    assert!(rt; written.as_slice() == text);
+    let graph = graph_of(rt, reader);
+    expect_written(rt, &graph, text);
     let mut writer = SlowWriter::new(rt, 1000, 2);
     assert!(rt; write_dump(&graph, &mut writer).is_err());
     assert!(rt; text.starts_with(writer.text.as_slice()));
@@ -54,11 +63,9 @@ fn a_text_of_the_version_before_is_read(rt: HostRuntime) {
     let texts = [(EMPTY_BEFORE, EMPTY), (EACH_KIND_BEFORE, EACH_KIND)];
     for (row, &(text, dump)) in texts.iter().enumerate() {
         let rt = Row { rt: &rt, row };
-        let graph = read_dump(rt.alloc(), &mut { text }).expect(&rt, "a dump");
-        let mut written = Vec::new(rt.alloc());
-        expect_equal(&rt, write_dump(&graph, &mut written), Ok(()));
-        expect_bytes(&rt, &written, dump);
-        let other = read_dump(rt.alloc(), &mut { dump }).expect(&rt, "a dump");
+        let graph = graph_of(&rt, &mut { text });
+        expect_written(&rt, &graph, dump);
+        let other = graph_of(&rt, &mut { dump });
         assert!(rt; same_text(&graph, &other));
     }
 }
@@ -78,8 +85,8 @@ fn graphs_have_one_text(rt: HostRuntime) {
         let rt = Row { rt: &rt, row: i };
         for (k, &other) in APART.iter().enumerate() {
             let rt = Row { rt: &rt, row: k };
-            let graph = read_dump(rt.alloc(), &mut { text }).expect(&rt, "a dump");
-            let second = read_dump(rt.alloc(), &mut { other }).expect(&rt, "a dump");
+            let graph = graph_of(&rt, &mut { text });
+            let second = graph_of(&rt, &mut { other });
             expect_equal(&rt, same_text(&graph, &second), i == k);
         }
     }
@@ -87,26 +94,24 @@ fn graphs_have_one_text(rt: HostRuntime) {
 
 /// The greatest object: more bytes than are asked of a reader at once, given one a time.
 #[test]
-fn a_dump_in_many_reads(rt: HostRuntime) -> Result<(), Fail> {
+fn a_dump_in_many_reads(rt: HostRuntime) {
     let first = b"rheap 2\nroots 1\n1.0 @0\nobjects 1\n@0 4095".as_slice();
-    let mut text = repeated(&rt, first, b" -2305843009213693952", 4_095)?;
-    text.extend_from_slice(b"\nend\n")?;
+    let mut text = ample(&rt, repeated(&rt, first, b" -2305843009213693952", 4_095));
+    ample(&rt, text.extend_from_slice(b"\nend\n"));
     expect_dump(&rt, &mut SlowReader::new(&text, 0), &text);
-    Ok(())
 }
 
 #[test]
-fn the_most_roots(rt: HostRuntime) -> Result<(), Fail> {
-    let mut text = repeated(&rt, b"rheap 2\nroots 4096\n", b"", 0)?;
+fn the_most_roots(rt: HostRuntime) {
+    let mut text = ample(&rt, repeated(&rt, b"rheap 2\nroots 4096\n", b"", 0));
     for owner in 0..16u32 {
         for slot in 0..256u32 {
-            let root = format!(in rt.alloc(); "{owner}.{slot} 7\n")?;
-            text.extend_from_slice(root.as_bytes())?;
+            let root = ample(&rt, format!(in rt.alloc(); "{owner}.{slot} 7\n"));
+            ample(&rt, text.extend_from_slice(root.as_bytes()));
         }
     }
-    text.extend_from_slice(b"objects 0\nend\n")?;
+    ample(&rt, text.extend_from_slice(b"objects 0\nend\n"));
     expect_dump(&rt, &mut { text.as_slice() }, &text);
-    Ok(())
 }
 
 #[test]
