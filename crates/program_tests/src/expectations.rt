@@ -1,7 +1,7 @@
 //! What a test expects. These stand in the place of `assert_eq!`, which would make the proof of a
 //! test three times as long.
 
-use std::alloc::Global;
+use std::alloc::{AllocError, Global};
 use std::fmt::{Debug, Display};
 use std::process::Abort;
 use std::sync::Wait;
@@ -55,6 +55,11 @@ pub fn expect_bytes(rt: &impl Abort, got: &[u8], wanted: &[u8]) {
         got.escape_ascii(),
         wanted.escape_ascii()
     );
+}
+
+/// What was made, of the memory that is ample.
+pub fn ample<T>(rt: &impl Abort, made: Result<T, AllocError>) -> T {
+    made.expect(rt, "memory is ample")
 }
 
 /// Ends the test unless so many allocations or more were refused in turn.

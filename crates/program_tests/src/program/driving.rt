@@ -5,6 +5,7 @@ use rh_cli::{Ask, PLAIN, Subcommand, drive};
 use samples::devices::InterruptedReader;
 use samples::texts::without_last_line;
 use std::alloc::Allocator;
+use std::io::{Read, Write};
 use std::process::Abort;
 use std::sync::Wait;
 use std::thread::Threads;
@@ -54,6 +55,51 @@ pub const DOT: Ask<'static> = Ask {
     views: PLAIN,
 };
 
+/// Does what is asked, and answers the status. No test needs what `drive` promises beside it.
+pub fn status_of<R, A, T, O, E>(
+    rt: &R,
+    memory: A,
+    ask: &Ask<'_>,
+    reader: &mut T,
+    out: &mut O,
+    err: &mut E,
+) -> u8
+where
+    R: Threads + Wait + Sync,
+    A: Allocator + Copy + Send,
+    T: Read,
+    O: Write,
+    E: Write,
+{
+    drive(rt, memory, ask, reader, out, err)
+}
+
+/// Does with a text what is asked. Answers the status, and what is written to both writers.
+pub fn driven<R, A>(rt: &R, memory: A, ask: &Ask<'_>, text: &[u8]) -> (u8, Vec<u8>, Vec<u8>)
+where
+    R: AllocGlobal + Threads + Wait + Sync,
+    A: Allocator + Copy + Send,
+{
+    let mut reader = text;
+    let mut out = Vec::new(rt.alloc());
+    let mut err = Vec::new(rt.alloc());
+    let status = status_of(rt, memory, ask, &mut reader, &mut out, &mut err);
+    (status, out, err)
+}
+
+/// Expects this status, these answers and what is told.
+pub fn expect_ended(
+    rt: &impl Abort,
+    (ended, out, err): (u8, &[u8], &[u8]),
+    status: u8,
+    answers: &[u8],
+    told: &[u8],
+) {
+    expect_equal(rt, ended, status);
+    expect_bytes(rt, out, answers);
+    expect_bytes(rt, err, told);
+}
+
 /// Does with the text what is asked, and compares the status and what is written to both writers.
 pub fn drives_to<R: AllocGlobal + Abort + Threads + Wait + Sync>(
     rt: &R,
@@ -63,13 +109,8 @@ pub fn drives_to<R: AllocGlobal + Abort + Threads + Wait + Sync>(
     answers: &[u8],
     told: &[u8],
 ) {
-    let mut reader = text;
-    let mut out = Vec::new(rt.alloc());
-    let mut err = Vec::new(rt.alloc());
-    let answer = drive(rt, rt.alloc(), ask, &mut reader, &mut out, &mut err);
-    expect_equal(rt, answer, status);
-    expect_bytes(rt, &out, answers);
-    expect_bytes(rt, &err, told);
+    let (ended, out, err) = driven(rt, rt.alloc(), ask, text);
+    expect_ended(rt, (ended, &out, &err), status, answers, told);
 }
 
 /// Does what is asked where the read of this number, counted from 1, comes to the end, and each
@@ -84,7 +125,7 @@ fn expect_reads<R: AllocGlobal + Abort + Threads + Wait + Sync>(
     let mut reader = InterruptedReader { reads: 0, ends_at };
     let mut out = Vec::new(rt.alloc());
     let mut err = Vec::new(rt.alloc());
-    let status = drive(rt, rt.alloc(), ask, &mut reader, &mut out, &mut err);
+    let status = status_of(rt, rt.alloc(), ask, &mut reader, &mut out, &mut err);
     expect_equal(rt, (status, reader.reads, out.len()), (1, reads, 0));
     expect_bytes(rt, &err, told);
 }
@@ -111,28 +152,34 @@ fn reads_of_dumps_end(rt: HostRuntime) {
 }
 
 /// Does what is asked, and expects this status, these answers and what is told, or that memory was
-/// refused. Answers whether it was: then standard error says so, and nothing is written to standard
-/// output, but of a run without a pace a prefix of the answers before their total line.
+/// refused. Answers whether it was.
 pub fn is_refused<R: AllocGlobal + Abort + Threads + Wait + Sync, A: Allocator + Copy + Send>(
     rt: &R,
     memory: A,
     &(ask, text, status, answers): &(Ask<'static>, &[u8], u8, &[u8]),
     told: &[u8],
 ) -> bool {
-    let mut out = Vec::new(rt.alloc());
-    let mut err = Vec::new(rt.alloc());
-    let ended = drive(rt, memory, &ask, &mut { text }, &mut out, &mut err);
-    if ended != 3 {
-        expect_equal(rt, ended, status);
-        expect_bytes(rt, &out, answers);
-        expect_bytes(rt, &err, told);
-        return false;
+    let (ended, out, err) = driven(rt, memory, &ask, text);
+    if ended == 3 {
+        expect_refused(rt, ask.subcommand, answers, (&out, &err));
+    } else {
+        expect_ended(rt, (ended, &out, &err), status, answers, told);
     }
-    expect_bytes(rt, &err, b"rheap: out of memory\n");
-    let written: &[u8] = match ask.subcommand {
+    ended == 3
+}
+
+/// Expects standard error to say that memory was refused, and nothing on standard output, but of a
+/// run without a pace a prefix of the answers before their total line.
+fn expect_refused(
+    rt: &impl Abort,
+    subcommand: Subcommand,
+    answers: &[u8],
+    (out, err): (&[u8], &[u8]),
+) {
+    expect_bytes(rt, err, b"rheap: out of memory\n");
+    let written: &[u8] = match subcommand {
         Subcommand::Run => without_last_line(answers),
         _ => b"",
     };
-    expect_prefix(rt, written, &out);
-    true
+    expect_prefix(rt, written, out);
 }

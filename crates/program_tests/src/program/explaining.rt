@@ -7,6 +7,7 @@ use rh_cli::{Ask, KeptReader, PLAIN, Subcommand, drive_explained};
 use samples::devices::SlowReader;
 use samples::texts::{WHOLE_CYCLE, WHOLE_CYCLE_ANSWERS};
 use std::alloc::Allocator;
+use std::io::Read;
 use std::process::Abort;
 use std::sync::Wait;
 use std::thread::Threads;
@@ -26,6 +27,13 @@ const BEYOND: Ask<'static> = Ask {
     explain: true,
     views: PLAIN,
 };
+
+/// A trace with a mistyped command, and what is told of it.
+const MISTYPED: (Ask<'static>, &[u8], &[u8]) = (
+    RUN,
+    b"heap 64 8 16 2 2\n1 aloc 1.0 2\n",
+    b"rheap: line 2: Word\n2 | 1 aloc 1.0 2\n      ^^^^\nno such command; did you mean alloc?\n",
+);
 
 /// Traces that fail, or whose sizes make no heap, and what is told of them.
 const TRACES: &[(Ask<'static>, &[u8], &[u8])] = &[
@@ -89,11 +97,7 @@ const TRACES: &[(Ask<'static>, &[u8], &[u8])] = &[
         b"heap 64 8 16 2 2 2\n",
         b"rheap: line 1: Header\n1 | heap 64 8 16 2 2 2\n                     ^\na part too many: the first line is heap WORDS RATIO LOG OWNERS SLOTS\n",
     ),
-    (
-        RUN,
-        b"heap 64 8 16 2 2\n1 aloc 1.0 2\n",
-        b"rheap: line 2: Word\n2 | 1 aloc 1.0 2\n      ^^^^\nno such command; did you mean alloc?\n",
-    ),
+    MISTYPED,
     (
         RUN,
         b"heap 64 8 16 2 2\ndrop 1.0\n",
@@ -654,30 +658,38 @@ const DUMPS: &[(Ask<'static>, &[u8], &[u8])] = &[
     ),
 ];
 
-/// Does what is asked with a text, and answers the status, what was written, and what was told.
-fn explained<R, A>(rt: &R, memory: A, ask: &Ask<'_>, text: &[u8]) -> (u8, Vec<u8>, Vec<u8>)
+/// Does what is asked with an input, and answers the status, what was written, and what was told.
+fn explained<R, A, I>(rt: &R, memory: A, ask: &Ask<'_>, input: I) -> (u8, Vec<u8>, Vec<u8>)
 where
-    R: AllocGlobal + Abort + Threads + Wait + Sync,
+    R: AllocGlobal + Threads + Wait + Sync,
     A: Allocator + Copy + Send,
+    I: Read + Drop,
 {
-    let mut reader = KeptReader::new(memory, text);
+    let mut reader = KeptReader::new(memory, input);
     let mut out = Vec::new(rt.alloc());
     let mut err = Vec::new(rt.alloc());
     let status = drive_explained(rt, memory, ask, &mut reader, &mut out, &mut err);
     (status, out, err)
 }
 
+/// Does what is asked with each of these texts, and expects what is told, and nothing else.
+fn expect_explained<R: AllocGlobal + Abort + Threads + Wait + Sync>(
+    rt: &R,
+    faults: &[(Ask<'static>, &[u8], &[u8])],
+) {
+    for (row, &(ask, text, told)) in faults.iter().enumerate() {
+        let rt = &Row { rt, row };
+        let (status, out, err) = explained(rt, rt.alloc(), &ask, text);
+        expect_equal(rt, (status, out.len()), (1, 0));
+        expect_bytes(rt, &err, told);
+    }
+}
+
 #[test]
 fn each_fault_is_shown_and_explained(rt: HostRuntime) {
-    for (table, rows) in [TRACES, HISTORIES, DUMPS].iter().enumerate() {
-        for (row, &(ask, text, told)) in rows.iter().enumerate() {
-            let row = table * 1000 + row;
-            let rt = Row { rt: &rt, row };
-            let (status, out, err) = explained(&rt, rt.alloc(), &ask, text);
-            expect_equal(&rt, (status, out.len()), (1, 0));
-            expect_bytes(&rt, &err, told);
-        }
-    }
+    expect_explained(&Row { rt: &rt, row: 0 }, TRACES);
+    expect_explained(&Row { rt: &rt, row: 1 }, HISTORIES);
+    expect_explained(&Row { rt: &rt, row: 2 }, DUMPS);
 }
 
 #[test]
@@ -690,11 +702,8 @@ fn what_has_no_fault_is_told_of_in_no_word(rt: HostRuntime) {
 /// A text that comes a byte a time is shown as well.
 #[test]
 fn a_slow_input_is_explained(rt: HostRuntime) {
-    let (ask, text, told) = TRACES[12];
-    let mut reader = KeptReader::new(rt.alloc(), SlowReader::new(text, 0));
-    let mut out = Vec::new(rt.alloc());
-    let mut err = Vec::new(rt.alloc());
-    let status = drive_explained(&rt, rt.alloc(), &ask, &mut reader, &mut out, &mut err);
+    let (ask, text, told) = MISTYPED;
+    let (status, out, err) = explained(&rt, rt.alloc(), &ask, SlowReader::new(text, 0));
     expect_equal(&rt, (status, out.len()), (1, 0));
     expect_bytes(&rt, &err, told);
 }
@@ -705,20 +714,17 @@ fn is_refused<R: AllocGlobal + Abort + Threads + Wait + Sync, A: Allocator + Cop
     rt: &R,
     memory: A,
 ) -> bool {
-    let (ask, text, told) = TRACES[12];
+    let (ask, text, told) = MISTYPED;
     let (status, out, err) = explained(rt, memory, &ask, text);
-    expect_equal(rt, out.len(), 0);
-    if status == 3 {
-        expect_bytes(rt, &err, b"rheap: out of memory\n");
-        return true;
-    }
-    expect_equal(rt, status, 1);
-    if err.len() < told.len() {
-        expect_bytes(rt, &err, b"rheap: line 2: Word\n");
-        return true;
-    }
-    expect_bytes(rt, &err, told);
-    false
+    let is_short = err.len() < told.len();
+    let due = match status {
+        3 => b"rheap: out of memory\n".as_slice(),
+        _ if is_short => b"rheap: line 2: Word\n",
+        _ => told,
+    };
+    expect_equal(rt, (status == 3 || status == 1, out.len()), (true, 0));
+    expect_bytes(rt, &err, due);
+    status == 3 || is_short
 }
 
 #[test]

@@ -1,11 +1,11 @@
 //! Each command of the program over texts that are cut, devices that fail, and memory that is
 //! refused, at each place in turn.
 
-use crate::expectations::{Row, expect_bytes, expect_equal, expect_prefix, expect_refusals};
-use crate::program::driving::{DOT, DUMP, PACED, REPLAY, RUN, THREADS, is_refused};
+use crate::expectations::{Row, ample, expect_bytes, expect_equal, expect_prefix, expect_refusals};
+use crate::program::driving::{DOT, DUMP, PACED, REPLAY, RUN, THREADS, is_refused, status_of};
 use crate::texts::{STORED, STORED_HISTORY, TWO_FLIPS_ANSWERS, ended_lines};
 use refusing::refused_in_turn;
-use rh_cli::{Ask, PLAIN, Subcommand, drive};
+use rh_cli::{Ask, PLAIN, Subcommand};
 use samples::devices::{Broken, SlowReader, SlowWriter, Unflushed};
 use samples::texts::{
     BESIDE_RAW, JOINED, JOINED_ANSWERS, RIGHT, RIGHT_REPORT, TWO_FLIPS, WHOLE_CYCLE,
@@ -14,7 +14,6 @@ use samples::texts::{
 };
 use std::process::Abort;
 use std::sync::Wait;
-use std::test::Fail;
 use std::thread::Threads;
 
 /// A paced run at a mark, a growing run in the words that it begins with, and runs in threads
@@ -100,38 +99,48 @@ fn play<R: AllocGlobal + Abort + Threads + Wait + Sync>(
     let mut reader = SlowReader::new(text, read);
     let mut out = SlowWriter::new(rt, most, write);
     let mut err = Vec::new(rt.alloc());
-    let status = drive(rt, rt.alloc(), ask, &mut reader, &mut out, &mut err);
+    let status = status_of(rt, rt.alloc(), ask, &mut reader, &mut out, &mut err);
     (status, out, err)
 }
 
 /// Fails each write in turn, of which so many bytes are taken: one, or more than any write has.
-/// Then a run without a pace has written the lines before the failed one. Answers how many writes
-/// there are.
+/// Answers how many writes there are.
 fn fail_writes<R: AllocGlobal + Abort + Threads + Wait + Sync>(
     rt: &R,
-    &(ask, text, status, answers): &(Ask<'static>, &[u8], u8, &[u8]),
+    played: &(Ask<'static>, &[u8], u8, &[u8]),
     most: usize,
 ) -> u32 {
     for nth in 1..1000u32 {
         let row = nth as usize;
         let rt = &Row { rt, row };
-        let (ended, out, err) = play(rt, &ask, text, (0, nth, most));
-        if out.writes < nth {
-            expect_equal(rt, (ended, err.len()), (status, 0));
-            expect_bytes(rt, &out.text, answers);
-            return out.writes;
+        let (ended, out, err) = play(rt, &played.0, played.1, (0, nth, most));
+        let writes = out.writes;
+        if writes < nth {
+            expect_equal(rt, (ended, err.len()), (played.2, 0));
+            expect_bytes(rt, &out.text, played.3);
+            return writes;
         }
-        expect_equal(rt, (ended, out.writes), (1, nth));
-        assert!(rt; answers.starts_with(&out.text) && out.text.len() < answers.len());
-        expect_bytes(rt, &err, b"rheap: write failed\n");
-        if ask.subcommand == Subcommand::Run && most > 1 {
+        expect_failed_write(rt, played.3, (ended, &out, &err), nth);
+        if played.0.subcommand == Subcommand::Run && most > 1 {
             expect_lines_before(rt, &out.text, nth);
         }
     }
     0
 }
 
-/// Expects the whole lines that come before this one, counted from 1.
+/// Expects that this write is the last, and failed: then not all of the answers are written.
+fn expect_failed_write(
+    rt: &impl Abort,
+    answers: &[u8],
+    (ended, out, err): (u8, &SlowWriter, &[u8]),
+    nth: u32,
+) {
+    expect_equal(rt, (ended, out.writes), (1, nth));
+    assert!(rt; answers.starts_with(&out.text) && out.text.len() < answers.len());
+    expect_bytes(rt, err, b"rheap: write failed\n");
+}
+
+/// Expects of a run without a pace the whole lines that come before this one, counted from 1.
 fn expect_lines_before(rt: &impl Abort, text: &[u8], line: u32) {
     expect_equal(rt, ended_lines(text).saturating_add(1), line as usize);
     assert!(rt; text.is_empty() || text.ends_with(b"\n"));
@@ -154,19 +163,33 @@ fn each_write_fails_in_turn(rt: HostRuntime) {
     }
 }
 
+/// Does what is asked where the flush fails, and expects that a write failed.
+fn expect_unflushed<R: AllocGlobal + Abort + Threads + Wait + Sync>(
+    rt: &R,
+    ask: &Ask<'_>,
+    text: &[u8],
+) {
+    let mut reader = text;
+    let mut err = Vec::new(rt.alloc());
+    let status = status_of(rt, rt.alloc(), ask, &mut reader, &mut Unflushed, &mut err);
+    expect_equal(rt, status, 1);
+    expect_bytes(rt, &err, b"rheap: write failed\n");
+}
+
+/// Does what is asked where nothing can be read or told, and expects the status all the same.
+fn expect_untold<R: AllocGlobal + Abort + Threads + Wait + Sync>(rt: &R, ask: &Ask<'_>) {
+    let mut out = Vec::new(rt.alloc());
+    let status = status_of(rt, rt.alloc(), ask, &mut Broken, &mut out, &mut Broken);
+    expect_equal(rt, (status, out.len()), (1, 0));
+}
+
 #[test]
 fn devices_that_fail(rt: HostRuntime) {
     let mut failed: u32 = 0;
     for (row, &(ask, text, ..)) in PLAYED.iter().enumerate() {
         let rt = Row { rt: &rt, row };
-        let mut out = Vec::new(rt.alloc());
-        let mut err = Vec::new(rt.alloc());
-        let mut reader = text;
-        let unflushed = drive(&rt, rt.alloc(), &ask, &mut reader, &mut Unflushed, &mut err);
-        // What can't be told still has its status.
-        let untold = drive(&rt, rt.alloc(), &ask, &mut Broken, &mut out, &mut Broken);
-        expect_equal(&rt, (unflushed, untold, out.len()), (1, 1, 0));
-        expect_bytes(&rt, &err, b"rheap: write failed\n");
+        expect_unflushed(&rt, &ask, text);
+        expect_untold(&rt, &ask);
         failed = failed.saturating_add(1);
     }
     expect_equal(&rt, failed, 14);
@@ -209,8 +232,7 @@ const CUT: &[(Ask<'static>, &[u8], [&str; 3], &[u8])] = &[
 ];
 
 /// Does what is asked with a text that was cut, and expects what is wrong with it, if anything, to
-/// be told of the line after those that have ended. Else each line that is left out has one answer
-/// less, and the others, but for the last line, stay. Answers whether something was wrong.
+/// be told of the line after those that have ended. Answers whether something was wrong.
 fn is_cut<R: AllocGlobal + Abort + Threads + Wait + Sync>(
     rt: &R,
     &(ask, whole, kinds, answers): &(Ask<'static>, &[u8], [&str; 3], &[u8]),
@@ -221,21 +243,29 @@ fn is_cut<R: AllocGlobal + Abort + Threads + Wait + Sync>(
         Some(b'\n') => kinds[2],
         Some(_) => kinds[1],
     };
-    let ended = ended_lines(text);
     let (status, out, err) = play(rt, &ask, text, (0, 0, 1000));
     if kind.is_empty() {
         expect_equal(rt, (status, err.len()), (0, 0));
-        expect_prefix(rt, answers, without_last_line(&out.text));
-        let left_out = ended_lines(whole).saturating_sub(ended);
-        let answered = ended_lines(answers).saturating_sub(left_out);
-        expect_equal(rt, ended_lines(&out.text), answered);
-        return false;
+        let left_out = ended_lines(whole).saturating_sub(ended_lines(text));
+        expect_fewer(rt, answers, &out.text, left_out);
+    } else {
+        expect_equal(rt, (status, out.writes), (1, 0));
+        expect_fault(rt, &err, ended_lines(text).saturating_add(1), kind);
     }
-    let line = ended.saturating_add(1);
-    let told = format!(in rt.alloc(); "rheap: line {line}: {kind}\n").expect(rt, "memory is ample");
-    expect_equal(rt, (status, out.writes), (1, 0));
-    expect_bytes(rt, &err, told.as_bytes());
-    true
+    !kind.is_empty()
+}
+
+/// Expects so many answers less, of which the others stay, but for the last line.
+fn expect_fewer(rt: &impl Abort, answers: &[u8], text: &[u8], left_out: usize) {
+    expect_prefix(rt, answers, without_last_line(text));
+    let answered = ended_lines(answers).saturating_sub(left_out);
+    expect_equal(rt, ended_lines(text), answered);
+}
+
+/// Expects this fault to be told of this line.
+fn expect_fault<R: AllocGlobal + Abort>(rt: &R, err: &[u8], line: usize, kind: &str) {
+    let told = ample(rt, format!(in rt.alloc(); "rheap: line {line}: {kind}\n"));
+    expect_bytes(rt, err, told.as_bytes());
 }
 
 #[test]
@@ -347,56 +377,58 @@ fn lines<R: AllocGlobal + Abort>(
     next: &[u8],
     size: u32,
     last: &str,
-) -> Result<Vec<u8>, Fail> {
-    let mut text = repeated(rt, first, next, size)?;
-    text.extend_from_slice(last.as_bytes())?;
-    Ok(text)
+) -> Vec<u8> {
+    let mut text = ample(rt, repeated(rt, first, next, size));
+    ample(rt, text.extend_from_slice(last.as_bytes()));
+    text
 }
 
 /// Refuses each allocation of runs over a trace of so many lines, and of a check of its history.
-fn refuse_lines<R: AllocGlobal + Abort + Threads + Wait + Sync>(
-    rt: &R,
-    size: u32,
-) -> Result<(), Fail> {
-    let trace = lines(rt, b"heap 64 8 8 2 2\n", b"1 drop 1.0\n", size, "")?;
-    let total = format!(in rt.alloc(); "total commands {size} refused 0 flips 0 rootwords 0\n")?;
-    let answers = lines(rt, b"", b"done\n", size, &total)?;
+fn refuse_lines<R: AllocGlobal + Abort + Threads + Wait + Sync>(rt: &R, size: u32) {
+    let trace = lines(rt, b"heap 64 8 8 2 2\n", b"1 drop 1.0\n", size, "");
+    let total = format!(in rt.alloc(); "total commands {size} refused 0 flips 0 rootwords 0\n");
+    let answers = lines(rt, b"", b"done\n", size, &ample(rt, total));
     refuse(rt, &(RUN, &trace, 0, &answers), b"", 3);
     refuse(rt, &(PACED, &trace, 0, &answers), b"", 3);
-    let end = format!(in rt.alloc(); "end {size}\n")?;
-    let history = lines(rt, b"history 2 2\n", b"1 drop 1.0 = done\n", size, &end)?;
+    let end = format!(in rt.alloc(); "end {size}\n");
+    let next = b"1 drop 1.0 = done\n";
+    let history = lines(rt, b"history 2 2\n", next, size, &ample(rt, end));
     refuse(rt, &(THREADS, &trace, 0, &history), b"", 10);
-    let legal = format!(in rt.alloc(); "owner 1 calls {size}\nlegal {size}\n")?;
+    let legal = ample(
+        rt,
+        format!(in rt.alloc(); "owner 1 calls {size}\nlegal {size}\n"),
+    );
     refuse(rt, &(REPLAY, &history, 0, legal.as_bytes()), b"", 3);
-    Ok(())
+}
+
+/// The dump of an object that refers to so many others.
+fn wide_dump<R: AllocGlobal + Abort>(rt: &R, size: u32) -> Vec<u8> {
+    let objects = size.saturating_add(1);
+    let first = format!(in rt.alloc(); "rheap 1\nroots 1\n1.0 @0\nobjects {objects}\n@0 {size}");
+    let mut dump = lines(rt, b"", b"", 0, &ample(rt, first));
+    ample(rt, add_numbered(rt, &mut dump, size, (" @", "")));
+    ample(rt, dump.extend_from_slice(b"\n"));
+    ample(rt, add_numbered(rt, &mut dump, size, ("@", " 0\n")));
+    ample(rt, dump.extend_from_slice(b"end\n"));
+    dump
 }
 
 /// Refuses each allocation of reading the dump of an object that refers to so many others.
-fn refuse_dump<R: AllocGlobal + Abort + Threads + Wait + Sync>(
-    rt: &R,
-    size: u32,
-) -> Result<(), Fail> {
+fn refuse_dump<R: AllocGlobal + Abort + Threads + Wait + Sync>(rt: &R, size: u32) {
+    let dump = wide_dump(rt, size);
     let objects = size.saturating_add(1);
-    let first = format!(in rt.alloc(); "rheap 1\nroots 1\n1.0 @0\nobjects {objects}\n@0 {size}")?;
-    let mut dump = repeated(rt, first.as_bytes(), b"", 0)?;
-    add_numbered(rt, &mut dump, size, (" @", ""))?;
-    dump.push(b'\n')?;
-    add_numbered(rt, &mut dump, size, ("@", " 0\n"))?;
-    dump.extend_from_slice(b"end\n")?;
-    let counts = format!(in rt.alloc(); "roots 1 objects {objects}\n")?;
+    let counts = ample(rt, format!(in rt.alloc(); "roots 1 objects {objects}\n"));
     refuse(rt, &(DUMP, &dump, 0, counts.as_bytes()), b"", 3);
-    Ok(())
 }
 
 #[test]
-fn each_allocation_is_refused_at_sizes(rt: HostRuntime) -> Result<(), Fail> {
+fn each_allocation_is_refused_at_sizes(rt: HostRuntime) {
     let mut sizes: u32 = 0;
     for (row, &size) in SIZES.iter().enumerate() {
         let rt = Row { rt: &rt, row };
-        refuse_lines(&rt, size)?;
-        refuse_dump(&rt, size)?;
+        refuse_lines(&rt, size);
+        refuse_dump(&rt, size);
         sizes = sizes.saturating_add(1);
     }
     expect_equal(&rt, sizes, 9);
-    Ok(())
 }

@@ -1,12 +1,11 @@
 //! Texts with faults, and what the program tells of them.
 
-use crate::expectations::{Row, expect_equal};
+use crate::expectations::{Row, ample, expect_equal};
 use crate::program::driving::{DUMP, PACED, REPLAY, RUN, THREADS, drives_to};
 use rh_cli::{Ask, PLAIN, Subcommand};
 use samples::texts::repeated;
 use std::process::Abort;
 use std::sync::Wait;
-use std::test::Fail;
 use std::thread::Threads;
 
 /// Texts that are no traces, each with its first faulty line and what is told to be wrong with it.
@@ -289,39 +288,37 @@ fn expect_faults<R: AllocGlobal + Abort + Threads + Wait + Sync>(
     ask: &Ask<'_>,
     first: &[u8],
     faults: &[(&[u8], u32, &str)],
-) -> Result<(), Fail> {
+) {
     for (row, &(rest, line, kind)) in faults.iter().enumerate() {
         let rt = &Row { rt, row };
-        let text = repeated(rt, first, rest, 1)?;
-        let told = format!(in rt.alloc(); "rheap: line {line}: {kind}\n")?;
+        let text = ample(rt, repeated(rt, first, rest, 1));
+        let told = ample(rt, format!(in rt.alloc(); "rheap: line {line}: {kind}\n"));
         drives_to(rt, ask, &text, 1, b"", told.as_bytes());
     }
-    Ok(())
 }
 
 #[test]
-fn first_faults(rt: HostRuntime) -> Result<(), Fail> {
-    expect_faults(&rt, &RUN, b"", TRACES)?;
-    expect_faults(&rt, &RUN, b"heap 16 8 4 2 2\n", LINES)?;
-    expect_faults(&rt, &REPLAY, b"", HISTORIES)
+fn first_faults(rt: HostRuntime) {
+    expect_faults(&rt, &RUN, b"", TRACES);
+    expect_faults(&rt, &RUN, b"heap 16 8 4 2 2\n", LINES);
+    expect_faults(&rt, &REPLAY, b"", HISTORIES);
 }
 
 #[test]
-fn first_faults_of_tickets(rt: HostRuntime) -> Result<(), Fail> {
-    expect_faults(&rt, &RUN, b"heap 16 8 4 2 2\n", TICKET_LINES)
+fn first_faults_of_tickets(rt: HostRuntime) {
+    expect_faults(&rt, &RUN, b"heap 16 8 4 2 2\n", TICKET_LINES);
 }
 
 #[test]
-fn first_faults_of_dumps(rt: HostRuntime) -> Result<(), Fail> {
-    expect_faults(&rt, &DUMP, b"", HEADERS)?;
+fn first_faults_of_dumps(rt: HostRuntime) {
+    expect_faults(&rt, &DUMP, b"", HEADERS);
     for (row, &(version, raw)) in VERSIONS.iter().enumerate() {
         let rt = Row { rt: &rt, row };
-        expect_faults(&rt, &DUMP, version, DUMPS)?;
-        let first = repeated(&rt, version, ONE_ROOT, 1)?;
-        expect_faults(&rt, &DUMP, &first, OBJECTS)?;
-        expect_faults(&rt, &DUMP, &first, raw)?;
+        expect_faults(&rt, &DUMP, version, DUMPS);
+        let first = ample(&rt, repeated(&rt, version, ONE_ROOT, 1));
+        expect_faults(&rt, &DUMP, &first, OBJECTS);
+        expect_faults(&rt, &DUMP, &first, raw);
     }
-    Ok(())
 }
 
 /// A paced run at a mark.
@@ -444,27 +441,25 @@ const LONG_HISTORIES: &[(&[u8], &[u8])] = &[
 ];
 
 #[test]
-fn long_lines(rt: HostRuntime) -> Result<(), Fail> {
+fn long_lines(rt: HostRuntime) {
     for (row, &(first, byte, bytes, end, told)) in LONG.iter().enumerate() {
         let rt = Row { rt: &rt, row };
-        let mut text = repeated(&rt, first, byte, bytes)?;
-        text.extend_from_slice(end)?;
+        let mut text = ample(&rt, repeated(&rt, first, byte, bytes));
+        ample(&rt, text.extend_from_slice(end));
         drives_to(&rt, &RUN, &text, 1, b"", told);
     }
     for (row, &(first, told)) in LONG_HISTORIES.iter().enumerate() {
         let rt = Row { rt: &rt, row };
-        let text = repeated(&rt, first, b"9", 257)?;
+        let text = ample(&rt, repeated(&rt, first, b"9", 257));
         drives_to(&rt, &REPLAY, &text, 1, b"", told);
     }
-    Ok(())
 }
 
 #[test]
-fn files_that_are_too_long(rt: HostRuntime) -> Result<(), Fail> {
-    let text = vec![in rt.alloc(); b'9'; 16_777_217]?;
+fn files_that_are_too_long(rt: HostRuntime) {
+    let text = ample(&rt, vec![in rt.alloc(); b'9'; 16_777_217]);
     for (row, ask) in [RUN, PACED, THREADS, REPLAY].iter().enumerate() {
         let rt = Row { rt: &rt, row };
         drives_to(&rt, ask, &text, 1, b"", b"rheap: too long\n");
     }
-    Ok(())
 }

@@ -1,16 +1,15 @@
 //! Growing runs: beside the same lines on a heap that never collects, where no more words may be
 //! had, and where memory is refused.
 
-use crate::expectations::{expect_bytes, expect_equal, expect_refusals};
-use crate::program::driving::{RUN, drives_to};
+use crate::expectations::{ample, expect_bytes, expect_equal, expect_refusals};
+use crate::program::driving::{RUN, driven, drives_to, expect_ended};
 use crate::texts::ended_lines;
 use refusing::{RefusingAllocator, refused_in_turn};
-use rh_cli::{Ask, PLAIN, Subcommand, drive};
+use rh_cli::{Ask, PLAIN, Subcommand};
 use samples::texts::{add_numbered, repeated, without_last_line};
-use std::alloc::{AllocError, Allocator};
+use std::alloc::Allocator;
 use std::process::Abort;
 use std::sync::Wait;
-use std::test::Fail;
 use std::thread::Threads;
 
 /// A run on a heap that grows to at most so many words.
@@ -40,41 +39,39 @@ fn answers_of<R: AllocGlobal + Abort + Threads + Wait + Sync>(
     ask: &Ask<'_>,
     first: &[u8],
     lines: &[u8],
-) -> Result<Vec<u8>, AllocError> {
-    let text = repeated(rt, first, lines, 1)?;
-    let mut out = Vec::new(rt.alloc());
-    let mut err = Vec::new(rt.alloc());
-    let mut reader: &[u8] = &text;
-    let status = drive(rt, rt.alloc(), ask, &mut reader, &mut out, &mut err);
+) -> Vec<u8> {
+    let text = ample(rt, repeated(rt, first, lines, 1));
+    let (status, out, err) = driven(rt, rt.alloc(), ask, &text);
     expect_equal(rt, (status, err.len()), (0, 0));
-    Ok(out)
+    out
 }
 
 /// A list of 8,000 words that begins in 64: each answer is that of a heap that has room for all,
 /// and never collects.
 #[test]
-fn a_list_that_outgrows_its_first_words(rt: HostRuntime) -> Result<(), Fail> {
+fn a_list_that_outgrows_its_first_words(rt: HostRuntime) {
     let mut lines = Vec::new(rt.alloc());
-    add_numbered(&rt, &mut lines, 2_000, CELL)?;
-    let lines = repeated(&rt, &lines, NEXT, 2_000)?;
-    let grown = answers_of(&rt, &growing(100_000), b"heap 64 16 8 2 3\n", &lines)?;
-    let plain = answers_of(&rt, &RUN, b"heap 8000 16 8 2 3\n", &lines)?;
+    ample(&rt, add_numbered(&rt, &mut lines, 2_000, CELL));
+    let lines = ample(&rt, repeated(&rt, &lines, NEXT, 2_000));
+    let grown = answers_of(&rt, &growing(100_000), b"heap 64 16 8 2 3\n", &lines);
+    let plain = answers_of(&rt, &RUN, b"heap 8000 16 8 2 3\n", &lines);
     assert!(rt; plain.ends_with(b"total commands 12000 refused 0 flips 0 rootwords 0\n"));
     expect_bytes(&rt, without_last_line(&grown), without_last_line(&plain));
     assert!(rt; !grown.ends_with(b" flips 0 rootwords 0\n"));
-    Ok(())
 }
 
 /// A list in at most 100 words: its 26th cell is the first that has no room.
 #[test]
-fn a_list_above_the_most_words(rt: HostRuntime) -> Result<(), Fail> {
+fn a_list_above_the_most_words(rt: HostRuntime) {
     let mut lines = Vec::new(rt.alloc());
-    add_numbered(&rt, &mut lines, 26, CELL)?;
-    let grown = answers_of(&rt, &growing(100), b"heap 20 64 8 2 3\n", &lines)?;
-    let within = repeated(&rt, b"", CELL_ANSWERS, 25)?;
-    let due = repeated(&rt, &within, b"refused SpaceFull need 4 free 0\n", 1)?;
+    ample(&rt, add_numbered(&rt, &mut lines, 26, CELL));
+    let grown = answers_of(&rt, &growing(100), b"heap 20 64 8 2 3\n", &lines);
+    let mut due = ample(&rt, repeated(&rt, b"", CELL_ANSWERS, 25));
+    ample(
+        &rt,
+        due.extend_from_slice(b"refused SpaceFull need 4 free 0\n"),
+    );
     assert!(rt; grown.starts_with(&due));
-    Ok(())
 }
 
 /// Whether each line says that an object was made, or that it has no room, and how many say that.
@@ -98,30 +95,34 @@ fn is_refused<R: AllocGlobal + Abort + Threads + Wait + Sync, A: Allocator + Cop
     memory: &RefusingAllocator<A>,
     text: &[u8],
 ) -> bool {
-    let mut out = Vec::new(rt.alloc());
-    let mut err = Vec::new(rt.alloc());
-    let mut reader = text;
-    let status = drive(rt, memory, &growing(1_000), &mut reader, &mut out, &mut err);
+    let (status, out, err) = driven(rt, memory, &growing(1_000), text);
     if status == 3 {
-        expect_bytes(rt, &out, b"");
-        expect_bytes(rt, &err, b"rheap: out of memory\n");
-        return true;
+        expect_ended(rt, (status, &out, &err), 3, b"", b"rheap: out of memory\n");
+    } else {
+        expect_equal(rt, (status, err.len()), (0, 0));
+        expect_made(rt, &out, memory.has_refused());
     }
-    expect_equal(rt, (status, err.len()), (0, 0));
-    expect_equal(rt, ended_lines(&out), 61);
-    let refused = without_room(&out);
+    status == 3 || memory.has_refused()
+}
+
+/// Expects 60 answers before the total line, each that an object was made, or that it has no room
+/// where memory was refused.
+fn expect_made(rt: &impl Abort, answers: &[u8], is_refused: bool) {
+    expect_equal(rt, ended_lines(answers), 61);
+    let refused = without_room(answers);
     assert!(rt; refused.is_some());
-    assert!(rt; memory.has_refused() || refused == Some(0));
-    memory.has_refused()
+    assert!(rt; is_refused || refused == Some(0));
 }
 
 #[test]
-fn each_growth_is_refused_in_turn(rt: HostRuntime) -> Result<(), Fail> {
-    let mut text = repeated(&rt, b"heap 16 16 8 1 64\n", b"", 0)?;
-    add_numbered(&rt, &mut text, 60, ("0 alloc 0.", " 2\n"))?;
+fn each_growth_is_refused_in_turn(rt: HostRuntime) {
+    let mut text = ample(&rt, repeated(&rt, b"heap 16 16 8 1 64\n", b"", 0));
+    ample(
+        &rt,
+        add_numbered(&rt, &mut text, 60, ("0 alloc 0.", " 2\n")),
+    );
     let refused = refused_in_turn(rt.alloc(), |memory| is_refused(&rt, memory, &text));
     expect_refusals(&rt, refused, 8);
-    Ok(())
 }
 
 /// What a growing run answers where it has no room to grow: as a paced run.

@@ -405,20 +405,24 @@ where
     let ask = told(Subcommand::Run, Telling::Json);
     let (status, written) = viewed(rt, memory, &ask, STORED);
     if status == 3 {
-        expect_prefix(rt, STORED_JSON, &written.out);
-        expect_equal(rt, written.history.len(), 0);
-        expect_prefix(rt, COLUMNS, &written.cycles);
-        assert!(rt;
-            written.err.starts_with(b"rheap: out of memory")
-                || written.err.starts_with(b"{\"fault\"")
-        );
-        return true;
+        expect_refused(rt, &written);
+    } else {
+        expect_equal(rt, status, 0);
+        expect_bytes(rt, &written.out, STORED_JSON);
+        expect_bytes(rt, &written.history, STORED_HISTORY);
+        expect_bytes(rt, &written.cycles, COLUMNS);
     }
-    expect_equal(rt, status, 0);
-    expect_bytes(rt, &written.out, STORED_JSON);
-    expect_bytes(rt, &written.history, STORED_HISTORY);
-    expect_bytes(rt, &written.cycles, COLUMNS);
-    false
+    status == 3
+}
+
+/// Expects what is written where memory is refused.
+fn expect_refused(rt: &impl Abort, written: &Written) {
+    expect_prefix(rt, STORED_JSON, &written.out);
+    expect_equal(rt, written.history.len(), 0);
+    expect_prefix(rt, COLUMNS, &written.cycles);
+    assert!(rt;
+        written.err.starts_with(b"rheap: out of memory") || written.err.starts_with(b"{\"fault\"")
+    );
 }
 
 #[test]
