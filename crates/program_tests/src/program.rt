@@ -7,5 +7,4 @@ mod failing;
 mod faults;
 mod growing;
 mod lisp;
-mod terminal;
 mod viewing;

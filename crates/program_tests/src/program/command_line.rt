@@ -1,8 +1,8 @@
 //! The program, from its arguments to its status.
 
 use crate::expectations::{Row, expect_bytes, expect_equal, expect_prefix};
-use crate::program::terminal::Terminal;
 use rh_cli::{Ask, LineFault, PLAIN, Subcommand, Terminals, play, read_words, tell};
+use samples::terminal::Terminal;
 use samples::texts::{COLUMNS, WITHOUT_FIELDS, WITHOUT_FIELDS_ANSWERS};
 use std::cell::RefCell;
 use std::process::Abort;
@@ -53,25 +53,19 @@ fn expect_written(rt: &impl Abort, text: &[u8], due: &[u8]) {
     }
 }
 
-/// Plays the program with these arguments and a trace as standard input, and expects this status,
-/// and what is written to standard output and to standard error.
-fn expect_played(
-    test: &(impl Abort + Threads + Wait + Sync),
-    rt: &HostRuntime,
-    is_closed: bool,
-    call: &(&[&[u8]], u8, &[u8], &[u8]),
-) {
-    expect_played_on(test, rt, WITHOUT_FIELDS, is_closed, call);
-}
+/// Arguments, the status, and what is written to standard output or to standard error: a line or
+/// lines, or how it begins.
+type Call<'a> = (&'a [&'a [u8]], u8, &'a [u8], &'a [u8]);
 
-/// The same with this as standard input.
-fn expect_played_on(
-    test: &(impl Abort + Threads + Wait + Sync),
+/// Plays the program with these arguments and this as standard input. Answers the status, and what
+/// is written to standard output, which may be closed, and to standard error.
+fn played(
+    test: &(impl Threads + Wait + Sync),
     rt: &HostRuntime,
-    input: &[u8],
+    (args, input): (&[&[u8]], &[u8]),
     is_closed: bool,
-    &(args, status, out, err): &(&[&[u8]], u8, &[u8], &[u8]),
-) {
+    terminals: Terminals,
+) -> (u8, Vec<u8>, Vec<u8>) {
     let mut told = Vec::new(rt.alloc());
     let terminal = Terminal {
         rt,
@@ -80,14 +74,27 @@ fn expect_played_on(
         is_closed,
         printed: RefCell::new(Vec::new(rt.alloc())),
     };
-    expect_equal(test, play(&terminal, test, &mut told, NO_TERMINALS), status);
-    expect_written(test, &terminal.printed.into_inner(), out);
+    let status = play(&terminal, test, &mut told, terminals);
+    (status, terminal.printed.into_inner(), told)
+}
+
+/// Plays the program with these arguments and this as standard input, and expects this status, and
+/// what is written to standard output and to standard error.
+fn expect_played(
+    test: &(impl Abort + Threads + Wait + Sync),
+    rt: &HostRuntime,
+    input: &[u8],
+    is_closed: bool,
+    &(args, status, out, err): &Call<'_>,
+) {
+    let (ended, printed, told) = played(test, rt, (args, input), is_closed, NO_TERMINALS);
+    expect_equal(test, ended, status);
+    expect_written(test, &printed, out);
     expect_written(test, &told, err);
 }
 
-/// Arguments, the status, and what is written to standard output or to standard error: a line or
-/// lines, or how it begins.
-const CALLS: &[(&[&[u8]], u8, &[u8], &[u8])] = &[
+/// Calls of each command.
+const CALLS: &[Call<'static>] = &[
     (&[b"rheap", b"--version"], 0, b"rheap 0.1.0\n", b""),
     (&[b"rheap", b"--help"], 0, b"A managed heap", b""),
     (&[b"rheap", b"run", b"--help"], 0, b"Runs a trace", b""),
@@ -158,7 +165,7 @@ const MARK_FAULT: &[u8] = b"rheap: --mark needs --paced and a number of words, 0
 
 /// What the options of a paced run come to: those that can't be taken, an empty trace, and one that
 /// has a pace at a mark alone.
-const PACED: &[(&[&[u8]], u8, &[u8], &[u8])] = &[
+const PACED: &[Call<'static>] = &[
     (
         &[b"rheap", b"run", b"-", b"--paced"],
         1,
@@ -215,7 +222,7 @@ const GROW_FAULT: &[u8] =
 
 /// What the options of a growing run come to: one that is played, limits for which there is no
 /// heap, and options that can't be taken.
-const GROWING: &[(&[&[u8]], u8, &[u8], &[u8])] = &[
+const GROWING: &[Call<'static>] = &[
     (
         &[b"rheap", b"run", b"--grow", b"16", b"--paced", b"-"],
         0,
@@ -296,7 +303,7 @@ const WITHOUT_FIELDS_HISTORY: &[u8] =
     b"history 2 2\n1 alloc 1.0 0 = object 0\n1 load 1.1 1.0 0 = refused NoField\nend 2\n";
 
 /// What the options of a run in threads come to.
-const THREADS: &[(&[&[u8]], u8, &[u8], &[u8])] = &[
+const THREADS: &[Call<'static>] = &[
     (
         &[b"rheap", b"threads", b"--help"],
         0,
@@ -340,7 +347,7 @@ const LINE_FAULT: &[u8] = b"rheap: --line needs the number of a line, 1 to 42949
 
 /// What a picture comes to: of a trace of three lines, after one of them and after one more, of what
 /// is no trace, and of options that can't be taken.
-const DRAWN: &[(&[&[u8]], u8, &[u8], &[u8])] = &[
+const DRAWN: &[Call<'static>] = &[
     (&[b"rheap", b"draw", b"-"], 0, b"<svg ", b""),
     (
         &[b"rheap", b"draw", b"--line", b"3", b"-"],
@@ -376,7 +383,7 @@ const DRAWN: &[(&[&[u8]], u8, &[u8], &[u8])] = &[
 ];
 
 /// What completions come to: for each shell the text that it begins with, and no shell.
-const COMPLETED: &[(&[&[u8]], u8, &[u8], &[u8])] = &[
+const COMPLETED: &[Call<'static>] = &[
     (
         &[b"rheap", b"completions", b"bash"],
         0,
@@ -409,7 +416,7 @@ const HEADER_EXPLAINED: &[u8] =
     b"rheap: line 1: Header\n1 | heap 16 8 4 2 2\n    ^^^^\nthis is a trace: rheap run reads it\n";
 
 /// What each command does where faults are to be explained.
-const EXPLAINED: &[(&[&[u8]], u8, &[u8], &[u8])] = &[
+const EXPLAINED: &[Call<'static>] = &[
     (
         &[b"rheap", b"replay", b"-", b"--explain"],
         1,
@@ -453,7 +460,7 @@ const WITHOUT_FIELDS_ECHO: &[u8] =
 
 /// What views come to: texts on standard output, files that can't be opened or made, and options
 /// that can't be taken. A fault is an object where JSON is asked for.
-const VIEWED: &[(&[&[u8]], u8, &[u8], &[u8])] = &[
+const VIEWED: &[Call<'static>] = &[
     (
         &[b"rheap", b"run", b"-", b"--echo"],
         0,
@@ -577,7 +584,7 @@ const WORDS_FAULT: &[u8] =
 const STEPS_FAULT: &[u8] = b"rheap: --steps needs a number of steps, 0 to 4294967295\n";
 
 /// Programs of the small Scheme. The input is a word that no program knows.
-const PROGRAMS: &[(&[&[u8]], u8, &[u8], &[u8])] = &[
+const PROGRAMS: &[Call<'static>] = &[
     (
         &[b"rheap", b"lisp", b"-"],
         1,
@@ -647,7 +654,7 @@ const PROGRAMS: &[(&[&[u8]], u8, &[u8], &[u8])] = &[
 ];
 
 /// The same where standard output is closed.
-const CLOSED: &[(&[&[u8]], u8, &[u8], &[u8])] = &[
+const CLOSED: &[Call<'static>] = &[
     (&[b"rheap", b"--version"], 1, b"", b"rheap: write failed\n"),
     (
         &[b"rheap", b"run", b"--help"],
@@ -671,73 +678,55 @@ const CLOSED: &[(&[&[u8]], u8, &[u8], &[u8])] = &[
     ),
 ];
 
-#[test]
-fn calls_of_the_program(rt: HostRuntime) {
-    for (row, call) in CALLS.iter().enumerate() {
-        expect_played(&Row { rt: &rt, row }, &rt, false, call);
-    }
-    for (row, call) in PACED.iter().enumerate() {
-        expect_played(&Row { rt: &rt, row }, &rt, false, call);
-    }
-    for (row, call) in GROWING.iter().enumerate() {
-        expect_played(&Row { rt: &rt, row }, &rt, false, call);
-    }
-    for (row, call) in THREADS.iter().enumerate() {
-        expect_played(&Row { rt: &rt, row }, &rt, false, call);
-    }
-    for (row, call) in DRAWN.iter().enumerate() {
-        expect_played(&Row { rt: &rt, row }, &rt, false, call);
-    }
-    for (row, call) in COMPLETED.iter().enumerate() {
-        expect_played(&Row { rt: &rt, row }, &rt, false, call);
-    }
-    for (row, call) in EXPLAINED.iter().enumerate() {
-        expect_played(&Row { rt: &rt, row }, &rt, false, call);
-    }
-    for (row, call) in VIEWED.iter().enumerate() {
-        expect_played(&Row { rt: &rt, row }, &rt, false, call);
-    }
-    for (row, call) in PROGRAMS.iter().enumerate() {
-        expect_played_on(&Row { rt: &rt, row }, &rt, b"heap\n", false, call);
-    }
-    for (row, call) in CLOSED.iter().enumerate() {
-        expect_played(&Row { rt: &rt, row }, &rt, true, call);
+/// Plays the program with each of these calls, and this as standard input, and expects what is due.
+fn expect_calls(
+    test: &(impl Abort + Threads + Wait + Sync),
+    rt: &HostRuntime,
+    input: &[u8],
+    is_closed: bool,
+    calls: &[Call<'_>],
+) {
+    for (row, call) in calls.iter().enumerate() {
+        expect_played(&Row { rt: test, row }, rt, input, is_closed, call);
     }
 }
+
+#[test]
+fn calls_of_the_program(rt: HostRuntime) {
+    expect_calls(&rt, &rt, WITHOUT_FIELDS, false, CALLS);
+    expect_calls(&rt, &rt, WITHOUT_FIELDS, false, PACED);
+    expect_calls(&rt, &rt, WITHOUT_FIELDS, false, GROWING);
+    expect_calls(&rt, &rt, WITHOUT_FIELDS, false, THREADS);
+    expect_calls(&rt, &rt, WITHOUT_FIELDS, false, DRAWN);
+    expect_calls(&rt, &rt, WITHOUT_FIELDS, false, COMPLETED);
+    expect_calls(&rt, &rt, WITHOUT_FIELDS, false, EXPLAINED);
+    expect_calls(&rt, &rt, WITHOUT_FIELDS, false, VIEWED);
+    expect_calls(&rt, &rt, b"heap\n", false, PROGRAMS);
+    expect_calls(&rt, &rt, WITHOUT_FIELDS, true, CLOSED);
+}
+
+/// A program of the small Scheme that prints.
+const PRINTING: Call<'static> = (&[b"rheap", b"lisp", b"-"], 0, b"a\n", b"");
 
 /// What a program of the small Scheme prints is on standard output.
 #[test]
 fn a_program_of_the_command_line_prints(rt: HostRuntime) {
-    let mut told = Vec::new(rt.alloc());
-    let terminal = Terminal {
-        rt: &rt,
-        args: &[b"rheap", b"lisp", b"-"],
-        input: b"(display \"a\") (newline)",
-        is_closed: false,
-        printed: RefCell::new(Vec::new(rt.alloc())),
-    };
-    expect_equal(&rt, play(&terminal, &rt, &mut told, NO_TERMINALS), 0);
-    expect_bytes(&rt, &terminal.printed.into_inner(), b"a\n");
-    expect_bytes(&rt, &told, b"");
+    let input = b"(display \"a\") (newline)";
+    expect_played(&rt, &rt, input, false, &PRINTING);
 }
 
 /// A session whose standard input is a terminal.
 #[test]
 fn a_session_shows_its_prompts(rt: HostRuntime) {
-    let mut told = Vec::new(rt.alloc());
-    let terminal = Terminal {
-        rt: &rt,
-        args: &[b"rheap", b"shell"],
-        input: b"heap 64 8 8 2 2\n1 alloc 1.0 2\n",
-        is_closed: false,
-        printed: RefCell::new(Vec::new(rt.alloc())),
-    };
+    let args: &[&[u8]] = &[b"rheap", b"shell"];
+    let input = b"heap 64 8 8 2 2\n1 alloc 1.0 2\n";
     let terminals = Terminals {
         input: true,
         error: false,
     };
-    expect_equal(&rt, play(&terminal, &rt, &mut told, terminals), 0);
-    expect_prefix(&rt, &terminal.printed.into_inner(), b"object 2\ntotal ");
+    let (status, printed, told) = played(&rt, &rt, (args, input), false, terminals);
+    expect_equal(&rt, status, 0);
+    expect_prefix(&rt, &printed, b"object 2\ntotal ");
     expect_bytes(&rt, &told, b"> > > \n");
 }
 
