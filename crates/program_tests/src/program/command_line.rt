@@ -59,7 +59,7 @@ type Call<'a> = (&'a [&'a [u8]], u8, &'a [u8], &'a [u8]);
 
 /// Plays the program with these arguments and this as standard input. Answers the status, and what
 /// is written to standard output, which may be closed, and to standard error.
-fn played(
+pub fn played(
     test: &(impl Threads + Wait + Sync),
     rt: &HostRuntime,
     (args, input): (&[&[u8]], &[u8]),

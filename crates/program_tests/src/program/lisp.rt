@@ -1,12 +1,12 @@
 //! Programs of the small Scheme, what they print and how they end.
 
 use crate::expectations::{Row, expect_bytes, expect_equal, expect_prefix};
-use crate::program::terminal::Terminal;
+use crate::program::command_line::played;
+use crate::program::driving::status_of;
 use refusing::RefusingAllocator;
-use rh_cli::{Ask, HeapWords, Limits, PLAIN, Subcommand, Terminals, drive, drive_lisp, play};
+use rh_cli::{Ask, HeapWords, Limits, PLAIN, Subcommand, Terminals, drive_lisp};
 use samples::devices::{Broken, SlowReader, SlowWriter, Unflushed};
 use std::alloc::Allocator;
-use std::cell::RefCell;
 use std::io::{Read, Write};
 use std::process::Abort;
 use std::sync::Wait;
@@ -187,7 +187,7 @@ fn a_program_without_a_file_is_told_without_its_place(rt: HostRuntime) {
         let mut reader = text;
         let mut out = Vec::new(rt.alloc());
         let mut err = Vec::new(rt.alloc());
-        let ended = drive(rt.rt, rt.alloc(), &ask, &mut reader, &mut out, &mut err);
+        let ended = status_of(rt.rt, rt.alloc(), &ask, &mut reader, &mut out, &mut err);
         expect_equal(&rt, ended, status);
         expect_bytes(&rt, &out, printed);
         expect_bytes(&rt, &err, told);
@@ -372,20 +372,13 @@ fn expect_session(
     input: bool,
     &(args, typed, status, printed, due): &(&[&[u8]], &[u8], u8, &[u8], &[u8]),
 ) {
-    let mut told = Vec::new(rt.alloc());
-    let terminal = Terminal {
-        rt,
-        args,
-        input: typed,
-        is_closed: false,
-        printed: RefCell::new(Vec::new(rt.alloc())),
-    };
     let terminals = Terminals {
         input,
         error: false,
     };
-    expect_equal(test, play(&terminal, test, &mut told, terminals), status);
-    expect_bytes(test, &terminal.printed.into_inner(), printed);
+    let (ended, out, told) = played(test, rt, (args, typed), false, terminals);
+    expect_equal(test, ended, status);
+    expect_bytes(test, &out, printed);
     expect_bytes(test, &told, due);
 }
 
@@ -427,7 +420,7 @@ where
     W: Write,
 {
     let mut err = Vec::new(rt.alloc());
-    let ended = drive(rt, rt.alloc(), &SESSION, reader, out, &mut err);
+    let ended = status_of(rt, rt.alloc(), &SESSION, reader, out, &mut err);
     expect_equal(rt, ended, status);
     expect_bytes(rt, &err, told);
 }
@@ -458,7 +451,7 @@ where
     let memory = RefusingAllocator::new(rt.alloc(), nth);
     let mut out = Vec::new(rt.alloc());
     let mut err = Vec::new(rt.alloc());
-    let ended = drive(rt, &memory, &SESSION, &mut { ENTRIES }, &mut out, &mut err);
+    let ended = status_of(rt, &memory, &SESSION, &mut { ENTRIES }, &mut out, &mut err);
     let is_refused = memory.has_refused();
     let (status, told): (u8, &[u8]) = if is_refused {
         (3, b"rheap: out of memory\n")
