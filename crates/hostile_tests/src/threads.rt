@@ -58,11 +58,20 @@ fn play<R: AllocGlobal + Abort + Threads + Wait + Sync>(
     (words, raws)
 }
 
+/// The fewest runs, and the most where the threads get few turns beside each other.
+const RUNS: usize = 100;
+
+const MOST_RUNS: usize = 2_000;
+
 #[test]
 fn four_mutators_and_four_replicators(rt: HostRuntime) {
     let mut numbers = Numbers { state: 3 };
-    let (mut runs, mut collected, mut with_raws): (u64, u64, u64) = (0, 0, 0);
-    for row in 0..100usize {
+    let (mut collected, mut with_raws): (u64, u64) = (0, 0);
+    for row in 0..MOST_RUNS {
+        // How often a run collects hangs on the turns that its threads get.
+        if RUNS <= row && 10 <= collected && 10 <= with_raws {
+            break;
+        }
         let rt = Row { rt: &rt, row };
         let text = trace(&rt, &mut numbers);
         let (words, raws) = play(&rt, &text, numbers.below(4));
@@ -73,8 +82,6 @@ fn four_mutators_and_four_replicators(rt: HostRuntime) {
         if raws > 0 {
             with_raws = with_raws.saturating_add(1);
         }
-        runs = runs.saturating_add(1);
     }
-    expect_equal(&rt, runs, 100);
     expect_each(&rt, &[collected, with_raws], 10);
 }
