@@ -6,4 +6,6 @@ mod expectations;
 #[cfg(test)]
 mod programs;
 #[cfg(test)]
+mod sessions;
+#[cfg(test)]
 mod texts;
