@@ -387,13 +387,17 @@ fn program_of<R: AllocGlobal + Abort>(rt: &R, text: &[u8]) -> Program<Global> {
         .expect(rt, "a program")
 }
 
+/// A fault in words, with its place.
+pub fn fault_text<A: Allocator + Copy>(alloc: A, fault: Fault) -> Option<String<A>> {
+    let Fault { position, kind, .. } = fault;
+    format!(in alloc; "{}:{}: {kind}", position.line, position.column).ok()
+}
+
 /// The fault of a text, in words.
 fn fault_of<A: Allocator + Copy>(alloc: A, text: &[u8]) -> Option<String<A>> {
     match Program::new(alloc, text, 1_000, 400_000) {
         Ok(_) => None,
-        Err(Fault { position, kind, .. }) => {
-            format!(in alloc; "{}:{}: {kind}", position.line, position.column).ok()
-        }
+        Err(fault) => fault_text(alloc, fault),
     }
 }
 
