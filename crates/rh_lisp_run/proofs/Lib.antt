@@ -1,3 +1,5 @@
+pub mod CycleLines
+pub mod Cycled
 pub mod Endings
 pub mod Entries
 pub mod NoHeap

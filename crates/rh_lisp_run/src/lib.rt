@@ -2,6 +2,8 @@
 #![tactic(auto)]
 
 mod console;
+mod cycle_writer;
+mod cycling;
 mod entering;
 mod fault;
 mod heaps;
@@ -10,6 +12,7 @@ mod reading;
 mod running;
 mod session;
 mod stage;
+mod with_cycles;
 
 pub use console::Console;
 pub use fault::LispFault;
@@ -17,3 +20,4 @@ pub use limits::{HeapWords, Limits, MAX_OUTPUT, MAX_TEXT_BYTES, MOST_STEPS};
 pub use rh_lisp::{Fault, FaultKind, Outcome, Program, Source};
 pub use running::{Ended, program_of, run_lisp, run_lisp_logged, run_program};
 pub use session::run_session;
+pub use with_cycles::{run_lisp_with_cycles, run_program_with_cycles};
