@@ -7,6 +7,7 @@ mod cycling;
 mod entering;
 mod fault;
 mod heaps;
+pub mod laws;
 mod limits;
 mod reading;
 mod running;

@@ -1,0 +1,15 @@
+use Rattle.std.proofs.Common.{[], refl, arith}
+use Rattle.rh_machine.specs.Registers.{asks, hears}
+use Rattle.rh_lisp_run.specs.Cycling.{read_from}
+use Rattle.rh_lisp_run.proofs.InTurn.{all-in-turn}
+use Rattle.rh_lisp_run.proofs.ReadHeaps.{answers-read, heap-read}
+use Rattle.rh_lisp_run.proofs.laws.cycles_are_read_beside_the_heap.Goals as goal
+
+pub returns-clause-heap : goal.returns-clause-heap
+returns-clause-heap g c = λ paced step given n machine s. heap-read paced step asks hears given machine n (read_from paced s) []
+
+pub returns-clause-answers : goal.returns-clause-answers
+returns-clause-answers g c = λ paced step given n machine s. answers-read paced step asks hears given machine n (read_from paced s) []
+
+pub returns-clause-in_turn : goal.returns-clause-in_turn
+returns-clause-in_turn g c = λ paced step given n machine s few. all-in-turn paced step asks hears given machine n few n (read_from paced s) (omega arith) refl refl
