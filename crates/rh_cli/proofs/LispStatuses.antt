@@ -1,5 +1,5 @@
 -- What the statuses say of how a program of the small Scheme ended.
-use Rattle.std.proofs.Common.{◌≡◌, ◌⊎◌, inl, inr, ℕ, Bool, true, false, List, Option, Some, Result, Ok, Err, IfSome, refl, ◌∙◌, arith}
+use Rattle.std.proofs.Common.{◌≡◌, ◌⊎◌, inl, inr, ℕ, Bool, true, false, List, Option, Some, Result, Ok, Err, IfSome, refl, sym, ◌∙◌, arith}
 use Rattle.std.specs.Io.KnownBytes.{Appends, Consumes, Keeps}
 use Rattle.rh_lisp.specs.Printed.{output_text}
 use Rattle.rh_lisp.specs.Program.{ProgramState}
@@ -102,6 +102,12 @@ lisp_session_goes limits (Err fault) old new ends is = absurd (lisp_fault_is_not
 
 pub lisp_session_is_0 : (limits : Limits) (old new : Option (List ℕ)) → ConcludesLispSession limits 0 old new → GoesOn limits.heap limits.steps (Ok true) old new
 lisp_session_is_0 limits old new c = lisp_session_goes limits c.0 old new c.1 c.2
+
+-- what holds where a session came to its end holds where its status is 0
+pub lisp_session_ended : (X : Type 0) (outcome : Result Bool LispFault) (status : ℕ) → IsLispSessionStatus outcome status → (outcome ≡ Ok true → X) → status ≡ 0 → X
+lisp_session_ended X (Ok true) status is ended zero = ended refl
+lisp_session_ended X (Ok false) status is ended zero = absurd (omega (arith, is, zero))
+lisp_session_ended X (Err fault) status is ended zero = absurd (lisp_fault_is_not_0 fault (sym zero ∙ is))
 
 -- what is due of a session is what is due of the subcommand that asks for it
 pub lisp_session_told : (subcommand : Subcommand) (limits : Limits) (known : Option (List ℕ)) (status : ℕ) (old new : Option (List ℕ)) → subcommand ≡ LispSession limits → IfSome known (λ input. ConcludesLispSession limits status old new)

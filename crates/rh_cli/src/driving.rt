@@ -1,11 +1,12 @@
 //! Doing what was asked, between a reader and two writers.
 
 ghost use Rattle.std.specs.Prelude.{◌≡◌, ◌≢◌, ◌⊎◌, List, ℕ, IfSome, IfErr};
-ghost use Rattle.std.specs.Io.KnownBytes.{Consumes, Keeps};
+ghost use Rattle.std.specs.Io.KnownBytes.{Consumes, IsAtEnd, Keeps};
 ghost use Rattle.rh_cli.specs.Drive.{Concludes};
 ghost use Rattle.rh_cli.specs.Fault.{status_of, status_after, IsLateFault, IsLateStatus};
-ghost use Rattle.rh_cli.specs.declared.ask.Subcommand.TheVariants.{Replay};
+ghost use Rattle.rh_cli.specs.declared.ask.Subcommand.TheVariants.{LispSession, Replay};
 ghost use Rattle.rh_cli.specs.declared.fault.LineFault.TheVariants as faults;
+ghost use Rattle.rh_lisp_run.specs.declared.limits.Limits.{Limits as LimitsOf};
 
 use crate::ask::{Ask, Subcommand};
 use crate::completing::print_completions;
@@ -57,6 +58,9 @@ where
     // Where it is done, and where a history that was read is wrong, nothing is told of a fault.
     ensures quiet { (result ≡ 0) ⊎ ((result ≡ 4) × (ask.now.subcommand ≡ Replay))
         → Keeps (E.contents err.old) (E.contents err.new) }
+    // A session of the small Scheme that came to its end has read all.
+    ensures ended { (limits : LimitsOf) → ask.now.subcommand ≡ LispSession limits → result ≡ 0
+        → IsAtEnd (R.remaining reader.new) }
     // The command line was understood, so that no status says otherwise.
     ensures late { IsLateStatus result }
 {
@@ -85,6 +89,8 @@ where
         × Consumes (R.remaining reader.old) (R.remaining reader.new) input
         × Concludes subcommand input (status_after result) (O.contents out.old)
         (O.contents out.new) }
+    ensures ended { (limits : LimitsOf) → subcommand ≡ LispSession limits
+        → status_after result ≡ 0 → IsAtEnd (R.remaining reader.new) }
     ensures late { IfErr result (λ fault. IsLateFault fault) }
     // A check of a history ends with another fault than that a history differs.
     ensures check { subcommand ≡ Replay → IfErr result (λ fault. status_of fault ≢ 4) }

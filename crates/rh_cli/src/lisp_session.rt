@@ -1,7 +1,7 @@
 //! A session of the small Scheme, whose entries are played as they are typed.
 
 ghost use Rattle.std.specs.Prelude.{◌≡◌, List, ℕ, Ok, IfErr, IfOk, IfSome};
-ghost use Rattle.std.specs.Io.KnownBytes.{Consumes};
+ghost use Rattle.std.specs.Io.KnownBytes.{Consumes, IsAtEnd};
 ghost use Rattle.rh_cli.specs.Fault.{IsLateStatus, IsUsualFault, status_after};
 ghost use Rattle.rh_cli.specs.Lisp.{ConcludesLispSession, IsLispSessionStatus};
 
@@ -54,6 +54,8 @@ pub(crate) fn play_entries<A: Allocator + Copy, R: Read, O: Write, C: Console>(
         × Consumes (R.remaining reader.old) (R.remaining reader.new) input
         × ConcludesLispSession limits (status_after result) (O.contents out.old)
         (O.contents out.new) }
+    // Where the session came to its end, all was read.
+    ensures ended { status_after result ≡ 0 → IsAtEnd (R.remaining reader.new) }
     ensures late { IfErr result (λ fault. IsUsualFault fault) }
 {
     match run_session(alloc, limits, reader, out, console) {

@@ -1,4 +1,4 @@
-use Rattle.std.proofs.Common.{◌≡◌}
+use Rattle.std.proofs.Common.{◌≡◌, sym, ◌∙◌}
 use Rattle.rh_cli.specs.declared.ask.Subcommand.TheVariants.{Replay}
 use Rattle.rh_text.specs.lemmas.Appends.{Keeps-same}
 use Rattle.rh_cli.specs.Fault.{status_of}
@@ -28,3 +28,9 @@ returns-in-Ok-clause-late g c = late_of_ending c.in-Ok.ending c.status.result c.
 
 pub returns-in-Err-clause-late : goal.returns-in-Err-clause-late
 returns-in-Err-clause-late g c = late_of_fault c.tell.result (status_of c.in-Err.fault) c.tell.ensures c.in-Err.ensures.late
+
+pub returns-in-Ok-clause-ended : goal.returns-in-Ok-clause-ended
+returns-in-Ok-clause-ended g c = λ limits is zero. c.in-Ok.ensures.ended limits is (sym c.status.ensures ∙ zero)
+
+pub returns-in-Err-clause-ended : goal.returns-in-Err-clause-ended
+returns-in-Err-clause-ended g c = λ limits is zero. c.in-Err.ensures.ended limits is (sym c.tell.ensures ∙ zero)

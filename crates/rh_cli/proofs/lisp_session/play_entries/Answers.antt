@@ -1,5 +1,8 @@
-use Rattle.std.proofs.Common.{Ok, Err}
+use Rattle.std.proofs.Common.{Ok, Err, sym, ◌∙◌}
+use Rattle.std.specs.Io.KnownBytes.{IsAtEnd}
+use Rattle.rh_cli.specs.Fault.{status_after}
 use Rattle.rh_cli.proofs.Counted.{known_is}
+use Rattle.rh_cli.proofs.LispStatuses.{lisp_fault_is_not_0, lisp_session_ended}
 use Rattle.rh_cli.proofs.lisp_session.play_entries.Goals as goal
 
 pub returns-in-Ok-clause-told : goal.returns-in-Ok-clause-told
@@ -17,3 +20,9 @@ pub returns-in-Err-clause-read : goal.returns-in-Err-clause-read
 returns-in-Err-clause-read g c =
     let given = c.in-Err.ensures.read in
     (given.0, given.1, (Err c.in-Err.fault, c.in-Err.ensures.ends, c.fault_of_lisp.ensures.status))
+
+pub returns-in-Ok-clause-ended : goal.returns-in-Ok-clause-ended
+returns-in-Ok-clause-ended g c = lisp_session_ended (IsAtEnd (g.R.Read.remaining c.run_session.new.reader)) (Ok c.in-Ok.begun) (status_after c.ending_of.result) c.ending_of.ensures.status c.in-Ok.ensures.ended
+
+pub returns-in-Err-clause-ended : goal.returns-in-Err-clause-ended
+returns-in-Err-clause-ended g c = λ zero. absurd (lisp_fault_is_not_0 c.in-Err.fault (sym zero ∙ c.fault_of_lisp.ensures.status))
