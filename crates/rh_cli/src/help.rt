@@ -326,9 +326,10 @@ no input. A name that it defines or sets is its own, and the procedures of the l
 without it.
 
 Without FILE a session is held: what is typed is played entry by entry, and the value of each form
-is written, unless it is unspecified. An entry ends with the line at whose end all parentheses are
-closed. One that stops is told in a line, and what it defined before stays. A prompt stands on
-standard error where standard input is a terminal. The end of the input (Ctrl-D) ends the session.
+is written, unless it is unspecified. An entry ends with the line at whose end all lists, strings
+and comments that it begins have ended. One that stops is told in a line, and what it defined before
+stays. A prompt stands on standard error where standard input is a terminal. The end of the input
+(Ctrl-D) ends the session.
 
   --heap WORDS  each space of the heap has so many words; where they are too few for what lives, the
                 program ends by `heap exhausted`
