@@ -1,4 +1,3 @@
-use Rattle.std.proofs.Common.{sym}
 use Rattle.rh_cli.proofs.Viewed.{other_reads}
 use Rattle.rh_cli.proofs.viewed_driving.reads_for.Goals as goal
 
