@@ -6,6 +6,7 @@ use Rattle.rh_lisp.specs.Program.{ProgramState}
 use Rattle.rh_machine.specs.declared.ending.Ending.TheVariants.{Halted}
 use Rattle.rh_lisp.specs.declared.outcome.Outcome.{Outcome}
 use Rattle.rh_lisp.specs.declared.outcome.Outcome.TheVariants.{Finished, Stopped}
+use Rattle.rh_lisp_run.specs.Cycling.{LispCyclesEnd, RunsWithCycles}
 use Rattle.rh_lisp_run.specs.Run.{IsNewMachine, IsRun, LispEnds}
 use Rattle.rh_lisp_run.specs.Session.{GoesOn, SessionEnds}
 use Rattle.rh_lisp_run.specs.declared.fault.LispFault.{LispFault}
@@ -13,7 +14,7 @@ use Rattle.rh_lisp_run.specs.declared.fault.LispFault.TheVariants as lisp_faults
 use Rattle.rh_lisp_run.specs.declared.limits.Limits.{Limits}
 use Rattle.rh_cli.specs.Drive.{Concludes}
 use Rattle.rh_cli.specs.Fault.{IsLateStatus}
-use Rattle.rh_cli.specs.Lisp.{ConcludesLisp, ConcludesLispSession, IsLispSessionStatus, IsLispStatus, lisp_status}
+use Rattle.rh_cli.specs.Lisp.{ConcludesLisp, ConcludesLispCycles, ConcludesLispSession, IsLispSessionStatus, IsLispStatus, lisp_status, outcome_in}
 use Rattle.rh_cli.specs.declared.ask.Subcommand.{Subcommand}
 use Rattle.rh_cli.specs.declared.ask.Subcommand.TheVariants.{LispSession}
 
@@ -56,11 +57,6 @@ lisp_is_3 (Err (lisp_faults.Heap fault)) steps input old new ends is = absurd (o
 lisp_is_3 (Err lisp_faults.Write) steps input old new ends is = absurd (omega (arith, is))
 lisp_is_3 (Err lisp_faults.OutOfMemory) steps input old new ends is = ends
 
--- how a run ended, of which more is known
-abbrev pub outcome_in : {X : Type 0} → (X → Outcome) → Result X LispFault → Result Outcome LispFault
-outcome_in outcome_of (Ok x) = Ok (outcome_of x)
-outcome_in outcome_of (Err fault) = Err fault
-
 ends_as_outcome : {X : Type 0} (outcome_of : X → Outcome) (steps : ℕ) (input : List ℕ) (r : Result X LispFault) (old new : Option (List ℕ))
     → LispEnds outcome_of steps input r old new → LispEnds (λ o. o) steps input (outcome_in outcome_of r) old new
 ends_as_outcome outcome_of steps input (Ok x) old new ends = ends
@@ -77,6 +73,35 @@ ends_as_outcome outcome_of steps input (Err lisp_faults.OutOfMemory) old new end
 pub lisp_concludes : {X : Type 0} (outcome_of : X → Outcome) (steps : ℕ) (r : Result X LispFault) (status : ℕ) (old new : Option (List ℕ)) → IsLispStatus (outcome_in outcome_of r) status
     → (input : List ℕ) → LispEnds outcome_of steps input r old new → ConcludesLisp steps input status old new
 lisp_concludes outcome_of steps r status old new is input ends = (outcome_in outcome_of r, ends_as_outcome outcome_of steps input r old new ends, is)
+
+cycles_end_as_outcome : {X : Type 0} (outcome_of : X → Outcome) (limits : Limits) (r : Result X LispFault) (old new before after : Option (List ℕ))
+    → LispCyclesEnd outcome_of limits r old new before after → LispCyclesEnd (λ o. o) limits (outcome_in outcome_of r) old new before after
+cycles_end_as_outcome outcome_of limits (Ok x) old new before after ends = ends
+cycles_end_as_outcome outcome_of limits (Err lisp_faults.Read) old new before after ends = ends
+cycles_end_as_outcome outcome_of limits (Err lisp_faults.Long) old new before after ends = ends
+cycles_end_as_outcome outcome_of limits (Err (lisp_faults.Text fault)) old new before after ends = ends
+cycles_end_as_outcome outcome_of limits (Err lisp_faults.Limits) old new before after ends = ends
+cycles_end_as_outcome outcome_of limits (Err (lisp_faults.Pace why)) old new before after ends = ends
+cycles_end_as_outcome outcome_of limits (Err (lisp_faults.Heap fault)) old new before after ends = ends
+cycles_end_as_outcome outcome_of limits (Err lisp_faults.Write) old new before after ends = ends
+cycles_end_as_outcome outcome_of limits (Err lisp_faults.OutOfMemory) old new before after ends = ends
+
+-- and so does one whose cycles are written
+pub lisp_cycles_conclude : {X : Type 0} (outcome_of : X → Outcome) (limits : Limits) (r : Result X LispFault) (status : ℕ) (old new before after : Option (List ℕ)) → IsLispStatus (outcome_in outcome_of r) status
+    → LispCyclesEnd outcome_of limits r old new before after
+    → (input : List ℕ) → LispEnds outcome_of limits.steps input r old new → ConcludesLispCycles limits input status old new before after
+lisp_cycles_conclude outcome_of limits r status old new before after is cycles input ends =
+    (outcome_in outcome_of r, ends_as_outcome outcome_of limits.steps input r old new ends, cycles_end_as_outcome outcome_of limits r old new before after cycles, is)
+
+-- where its status is 0, the program finished, and all lines of its cycles are written
+lisp_cycles_of_0 : (limits : Limits) (outcome : Result Outcome LispFault) (old new before after : Option (List ℕ)) → LispCyclesEnd (λ o. o) limits outcome old new before after → IsLispStatus outcome 0
+    → RunsWithCycles (λ o. o) limits (Ok Finished) old new before after
+lisp_cycles_of_0 limits (Ok Finished) old new before after ends is = ends
+lisp_cycles_of_0 limits (Ok (Stopped problem source position)) old new before after ends is = absurd (omega (arith, is))
+lisp_cycles_of_0 limits (Err fault) old new before after ends is = absurd (lisp_fault_is_not_0 fault is)
+
+pub lisp_cycles_is_0 : (limits : Limits) (input : List ℕ) (old new before after : Option (List ℕ)) → ConcludesLispCycles limits input 0 old new before after → RunsWithCycles (λ o. o) limits (Ok Finished) old new before after
+lisp_cycles_is_0 limits input old new before after c = lisp_cycles_of_0 limits c.0 old new before after c.2 c.3
 
 -- its status is one of those that come once the command line is understood
 pub lisp_late : (outcome : Result Outcome LispFault) (status : ℕ) → IsLispStatus outcome status → IsLateStatus status

@@ -116,9 +116,13 @@ program_rule = new_rule (codes "FILE")
 abbrev pub sized_app : App
 sized_app = with_rule (with_rule (new_app (codes "lisp")) program_rule) heap_rule
 
--- the command `lisp`: its file, and these options
+-- with these options
+abbrev pub bounded_app : App
+bounded_app = with_rule (with_rule sized_app grow_rule) steps_rule
+
+-- the command `lisp`: that, and the file of its cycles
 abbrev pub lisp_app : App
-lisp_app = with_rule (with_rule sized_app grow_rule) steps_rule
+lisp_app = with_rule bounded_app cycles_rule
 
 -- the command `shell`: no file
 abbrev pub shell_app : App
@@ -265,23 +269,26 @@ abbrev pub steps_given : Option Text → Option ℕ
 steps_given None = Some (2 ^ 64 - 1)
 steps_given (Some text) = number_of text
 
--- the program of a file, or a session where there is none
-abbrev pub lisp_within : Option Text → Limits → Subcommand
-lisp_within None limits = LispSession limits
-lisp_within (Some file) limits = Lisp limits
+-- the program of a file, or a session where there is none, of which no cycles are written
+abbrev pub lisp_within : Option Text → Option Text → Limits → Result Subcommand LineFault
+lisp_within cycles (Some file) limits = Ok (Lisp limits)
+lisp_within None None limits = Ok (LispSession limits)
+lisp_within (Some out) None limits = Err faults.Views
 
 -- that on such a heap with so many steps, or the fault of the first that is none
-abbrev pub lisp_with : Option Text → Option HeapWords → Option ℕ → Result Subcommand LineFault
-lisp_with file None steps = Err faults.Words
-lisp_with file (Some heap) None = Err faults.Steps
-lisp_with file (Some heap) (Some steps) =
-    Ok (lisp_within file (record { heap = heap; steps = steps }))
+abbrev pub lisp_with : Option Text → Option Text → Option HeapWords → Option ℕ
+    → Result Subcommand LineFault
+lisp_with cycles file None steps = Err faults.Words
+lisp_with cycles file (Some heap) None = Err faults.Steps
+lisp_with cycles file (Some heap) (Some steps) =
+    lisp_within cycles file (record { heap = heap; steps = steps })
 
 -- the program or session that is asked for: its heap of one size, or its heap that grows, its steps,
--- and its file
-abbrev pub lisp_asked : Option Text → Option Text → Option Text → Option Text
+-- the file of its cycles, and its file
+abbrev pub lisp_asked : Option Text → Option Text → Option Text → Option Text → Option Text
     → Result Subcommand LineFault
-lisp_asked heap grow steps file = lisp_with file (heap_words heap grow) (steps_given steps)
+lisp_asked heap grow steps cycles file =
+    lisp_with cycles file (heap_words heap grow) (steps_given steps)
 
 -- the completions for the shell of this name, or the fault where there are none
 abbrev pub completions_for : Text → Result Subcommand LineFault
@@ -331,7 +338,7 @@ command_named name given =
     else (if bytes_eq name (codes "draw") then draw_asked given.line
     else (if bytes_eq name (codes "shell") then Ok Session
     else (if bytes_eq name (codes "lisp")
-    then lisp_asked given.heap given.grow given.steps given.file
+    then lisp_asked given.heap given.grow given.steps given.cycles given.file
     else (if bytes_eq name (codes "completions") then completions_asked given.shell
     else Err faults.Incomplete)))))))
 

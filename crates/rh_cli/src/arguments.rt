@@ -58,7 +58,8 @@ struct Options<'a> {
 /// or `--steps` with a value that is no number below 2^32; `Line` where `draw` has `--line` with a
 /// value that is no number from 1 below 2^32;
 /// `Shell` where `completions` is asked for another shell than bash, zsh and fish; `Views` where
-/// two texts are for standard output, two for one file, or one for the file that is read;
+/// two texts are for standard output, two for one file, or one for the file that is read, or where
+/// `lisp` has `--cycles` and no file;
 /// `OutOfMemory` where memory was refused.
 pub fn read_words<'a>(alloc: Global, arguments: &'a [&'a str]) -> Result<Ask<'a>, LineFault>
     // The request has the command and the file that clap's parse of the arguments holds.
@@ -373,7 +374,13 @@ fn command_named(name: &str, given: Options<'_>) -> Result<Subcommand, LineFault
         return Ok(Subcommand::Session);
     }
     if name == "lisp" {
-        return lisp_asked(given.heap, given.grow, given.steps, given.file);
+        return lisp_asked(
+            given.heap,
+            given.grow,
+            given.steps,
+            given.cycles,
+            given.file,
+        );
     }
     if name == "completions" {
         return completions_asked(given.shell);

@@ -47,8 +47,8 @@ pub enum LineFault {
     Shell,
     /// More than one of `--cycles -`, `--history -`, `--echo`, `--json` and `--dot` is given, of
     /// which each has standard output for a text of its own; or a text is for the file that is read,
-    /// or two are for one file.
-    #[error("rheap: --echo, --json, --dot and OUT - can't stand together, and OUT is a file of its own")]
+    /// or two are for one file; or `lisp` has `--cycles` and no file, a session.
+    #[error("rheap: --echo, --json, --dot and OUT - can't stand together, OUT is a file of its own, and a session of lisp has none")]
     Views,
     /// `--heap` and `--grow` of `lisp` stand together, or the value of one isn't a number of words, 0
     /// to 4,294,967,295.

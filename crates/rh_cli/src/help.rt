@@ -338,6 +338,11 @@ stays. A prompt stands on standard error where standard input is a terminal. The
   --steps N     the instructions that may be done, from 0 to 4294967295, those of the language's own
                 procedures and of their definitions too; 2^64 - 1 without it. Each entry of a
                 session may do so many, besides those definitions
+  --cycles OUT  a line of numbers for each cycle of the heap as it ends, with tabs between, and a
+                head line. The commands of the program at which it began and ended are counted
+                from 1. OUT is a file, other than FILE, or - for standard output in place of what
+                the program prints. If a line isn't written, what the program prints isn't either.
+                A session has none
 
 Statuses:
   0  the program came to its end, or the input of a session did

@@ -36,6 +36,7 @@ ghost use Rattle.rh_cli.specs.Ask.{command_and_file_of, explains_of, has_options
 ghost use Rattle.rh_cli.specs.Count.{counts_line};
 ghost use Rattle.rh_cli.specs.Drive.{Concludes, run_status};
 ghost use Rattle.rh_cli.specs.Fault.{ending_status, status_of, IsLateStatus};
+ghost use Rattle.rh_cli.specs.Lisp.{ConcludesLispCycles};
 ghost use Rattle.rh_cli.specs.Paced.{paced_status};
 ghost use Rattle.rh_cli.specs.Replay.{IsJudged};
 ghost use Rattle.rh_text.specs.RawLine.{lines_of};
@@ -49,6 +50,8 @@ ghost use Rattle.rh_viewed_trace.specs.Ways.{IsTold, growing_answered, growing_c
 ghost use Rattle.rh_lisp.specs.Printed.{output_text as lisp_text};
 ghost use Rattle.rh_lisp.specs.Program.{ProgramState};
 ghost use Rattle.rh_machine.specs.declared.ending.Ending.TheVariants.{Halted};
+ghost use Rattle.rh_lisp.specs.declared.outcome.Outcome.TheVariants.{Finished};
+ghost use Rattle.rh_lisp_run.specs.Cycling.{RunsWithCycles};
 ghost use Rattle.rh_lisp_run.specs.Run.{IsNewMachine, IsRun as IsLispRun};
 ghost use Rattle.rh_lisp_run.specs.Session.{GoesOn};
 ghost use Rattle.rh_lisp_run.specs.declared.limits.Limits.{Limits as LimitsOf};
@@ -73,7 +76,8 @@ use std::alloc::Global;
 /// commands at its pace, a growing run its whole trace of commands, the history of one in threads
 /// is written, a history is legal and its report is written, or the counts of a dump's graph are,
 /// or its text for Graphviz, or a picture, or completions, or the whole text of a session, or what
-/// a program of the small Scheme printed that finished.
+/// a program of the small Scheme printed that finished, with all lines of its cycles where these
+/// are written.
 pub fn status_0_says_done()
     ensures run { (input : List ℕ) (old new : Option (List ℕ))
         → Concludes SubcommandOf.Run input 0 old new
@@ -113,6 +117,10 @@ pub fn status_0_says_done()
         → (begun : ProgramState) × (ended : ProgramState)
         × IsNewMachine limits.steps begun.machine × IsLispRun begun ended
         × (ended.machine.ended ≡ Some Halted) × Appends old new (lisp_text ended) }
+    ensures lisp_cycles { (limits : LimitsOf) (input : List ℕ)
+        (old new before after : Option (List ℕ))
+        → ConcludesLispCycles limits input 0 old new before after
+        → RunsWithCycles (λ o. o) limits (Ok Finished) old new before after }
     ensures lisp_session { (limits : LimitsOf) (input : List ℕ) (old new : Option (List ℕ))
         → Concludes (SubcommandOf.LispSession limits) input 0 old new
         → GoesOn limits.heap limits.steps (Ok true) old new }
@@ -347,6 +355,21 @@ pub fn worked_command_lines()
           SubcommandOf.LispSession (record { heap = HeapWordsOf.UpTo 9000; steps = 2 ^ 64 - 1 }),
           codes "-",
         ) }
+    ensures lisp_cycles { command_and_file_of (codes "rheap" ∷ codes "lisp" ∷ codes "x"
+        ∷ codes "--heap=9000" ∷ codes "--cycles=-" ∷ []) ≡ Ok (
+          SubcommandOf.Lisp (record { heap = HeapWordsOf.Just 9000; steps = 2 ^ 64 - 1 }),
+          codes "x",
+        ) }
+    ensures lisp_viewed { viewed_of (codes "rheap" ∷ codes "lisp" ∷ codes "x"
+        ∷ codes "--cycles=c" ∷ []) ≡ record {
+          telling = TellingOf.Answers;
+          cycles = Some (codes "c");
+          history = None;
+        } }
+    ensures lisp_session_cycles { command_and_file_of (codes "rheap" ∷ codes "lisp"
+        ∷ codes "--cycles=c" ∷ []) ≡ Err FaultOf.Views }
+    ensures lisp_crossed { command_and_file_of (codes "rheap" ∷ codes "lisp" ∷ codes "x"
+        ∷ codes "--cycles=x" ∷ []) ≡ Err FaultOf.Views }
     ensures lisp_mark { false
         ≡ is_taken (codes "rheap" ∷ codes "lisp" ∷ codes "x" ∷ codes "--mark=7" ∷ []) }
     ensures session_file { false ≡ is_taken (codes "rheap" ∷ codes "shell" ∷ codes "x" ∷ []) }

@@ -3,7 +3,7 @@
 ghost use Rattle.std.specs.Prelude.{◌≡◌, ◌⊎◌, List, ℕ, Ok, IfErr, IfOk, IfSome, codes};
 ghost use Rattle.std.specs.Io.KnownBytes.{Consumes, Keeps};
 ghost use Rattle.rh_cli.specs.Fault.{status_of, status_after, IsLateStatus, IsUsualFault};
-ghost use Rattle.rh_cli.specs.Lisp.{ConcludesLisp, IsLispStatus, lisp_status, lisp_told_as};
+ghost use Rattle.rh_cli.specs.Lisp.{ConcludesLisp, IsLispStatus, lisp_status, lisp_told_as, outcome_in};
 
 use crate::driving::tell;
 use crate::ending::Ending;
@@ -35,7 +35,24 @@ pub fn drive_lisp<A: Allocator + Copy, R: Read, O: Write, E: Write>(
     ensures quiet { result ≡ 0 → Keeps (E.contents err.old) (E.contents err.new) }
     ensures late { IsLateStatus result }
 {
-    match run_lisp(alloc, file.as_bytes(), limits, reader, out) {
+    tell_run(
+        file,
+        run_lisp(alloc, file.as_bytes(), limits, reader, out),
+        err,
+    )
+}
+
+/// Tells how a run ended, unless its program finished, and answers the status.
+pub(crate) fn tell_run<A: Allocator, E: Write>(
+    file: &str,
+    ran: Result<Ended<A>, LispFault>,
+    err: &mut E,
+) -> u8
+    ensures status { IsLispStatus (outcome_in (λ e. e.outcome) ran) result }
+    ensures quiet { result ≡ 0 → Keeps (E.contents err.old) (E.contents err.new) }
+    ensures late { IsLateStatus result }
+{
+    match ran {
         Ok(ended) => tell_end(&ended, err),
         Err(fault) => tell_fault(file, fault, err),
     }

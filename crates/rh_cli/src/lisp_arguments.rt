@@ -3,7 +3,7 @@
 ghost use Rattle.std.specs.Prelude.{◌≡◌, option_map, false, None, IfErr, IfOk, codes};
 ghost use Rattle.clap.specs.declared.builder.command.Command.TheViews.{out-Command as fields_of};
 ghost use Rattle.clap.specs.Words.{app_of};
-ghost use Rattle.rh_cli.specs.Ask.{command_for, heap_words, lisp_app, lisp_asked, lisp_within, sized_app, steps_given};
+ghost use Rattle.rh_cli.specs.Ask.{bounded_app, command_for, heap_words, lisp_app, lisp_asked, lisp_within, sized_app, steps_given};
 ghost use Rattle.rh_cli.specs.Fault.{IsArgumentsFault};
 
 use crate::ask::Subcommand;
@@ -16,6 +16,10 @@ use rh_lisp_run::{HeapWords, Limits, MOST_STEPS};
 use rh_text::read_number;
 use std::alloc::{AllocError, Global};
 
+/// What the option for cycles is told as.
+const CYCLES_HELP: &str =
+    "Writes a line for each cycle of its heap to the file OUT; - is standard output";
+
 /// The command `lisp` as clap knows it, where the word is the first.
 pub(crate) fn lisp_command<'a>(alloc: Global, word: &str) -> Result<Command<'a>, AllocError>
     ensures app { IfOk result (λ command.
@@ -26,6 +30,18 @@ pub(crate) fn lisp_command<'a>(alloc: Global, word: &str) -> Result<Command<'a>,
     if !has_options(word, "lisp") {
         return Ok(named_command(alloc, "lisp", about));
     }
+    let cycles = Arg::new(alloc, "cycles")
+        .long("cycles")
+        .value_name("OUT")
+        .help(CYCLES_HELP);
+    bounded_command(alloc, about)?.arg(cycles)
+}
+
+/// The command `lisp` with its file and what a program may take, as clap knows it.
+fn bounded_command<'a>(alloc: Global, about: &'a str) -> Result<Command<'a>, AllocError>
+    ensures app { IfOk result (λ command. app_of command ≡ bounded_app) }
+    ensures local { IfOk result (λ command. (fields_of command).has_globals ≡ false) }
+{
     let grow = Arg::new(alloc, "grow")
         .long("grow")
         .value_name("WORDS")
@@ -56,16 +72,17 @@ fn sized_command<'a>(alloc: Global, about: &'a str) -> Result<Command<'a>, Alloc
 }
 
 /// The program or the session that is asked for: its heap of one size or its heap that grows, its
-/// steps, and its file.
+/// steps, the file of its cycles, and its file.
 pub(crate) fn lisp_asked(
     heap: Option<&str>,
     grow: Option<&str>,
     steps: Option<&str>,
+    cycles: Option<&str>,
     file: Option<&str>,
 ) -> Result<Subcommand, LineFault>
     ensures asked { result ≡ lisp_asked (option_map (λ t. t.now) heap.entry)
         (option_map (λ t. t.now) grow.entry) (option_map (λ t. t.now) steps.entry)
-        (option_map (λ t. t.now) file.entry) }
+        (option_map (λ t. t.now) cycles.entry) (option_map (λ t. t.now) file.entry) }
     ensures kinds { IfErr result (λ fault. IsArgumentsFault fault) }
 {
     let Some(heap) = heap_words(heap, grow) else {
@@ -74,16 +91,25 @@ pub(crate) fn lisp_asked(
     let Some(steps) = steps_given(steps) else {
         return Err(LineFault::Steps);
     };
-    Ok(lisp_within(file, Limits { heap, steps }))
+    lisp_within(cycles, file, Limits { heap, steps })
 }
 
-/// The program of a file, or a session where there is none.
-fn lisp_within(file: Option<&str>, limits: Limits) -> Subcommand
-    ensures { result ≡ lisp_within (option_map (λ t. t.now) file.entry) limits }
+/// The program of a file, or a session where there is none, of which no cycles are written.
+fn lisp_within(
+    cycles: Option<&str>,
+    file: Option<&str>,
+    limits: Limits,
+) -> Result<Subcommand, LineFault>
+    ensures within { result ≡ lisp_within (option_map (λ t. t.now) cycles.entry)
+        (option_map (λ t. t.now) file.entry) limits }
+    ensures kinds { IfErr result (λ fault. IsArgumentsFault fault) }
 {
     match file {
-        None => Subcommand::LispSession { limits },
-        Some(_) => Subcommand::Lisp { limits },
+        Some(_) => Ok(Subcommand::Lisp { limits }),
+        None => match cycles {
+            None => Ok(Subcommand::LispSession { limits }),
+            Some(_) => Err(LineFault::Views),
+        },
     }
 }
 

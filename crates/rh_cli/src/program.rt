@@ -17,9 +17,11 @@ use crate::explaining::drive_explained;
 use crate::fault::LineFault;
 use crate::keeping::KeptReader;
 use crate::lisp::play_lisp;
+use crate::lisp_cycles::play_lisp_with_cycles;
 use crate::lisp_session::hold_entries;
 use crate::outputs::outputs_of;
 use crate::viewed_driving::{drive_viewed, tell_as};
+use rh_lisp_run::Limits;
 use std::alloc::Global;
 use std::env::{self, Args};
 use std::fs::File;
@@ -175,7 +177,7 @@ where
         return hold_session(rt, err, terminals.input);
     }
     if let Subcommand::Lisp { limits } = ask.subcommand {
-        return play_lisp(rt, ask.file, limits, err);
+        return play_program(rt, ask, limits, err);
     }
     if let Subcommand::LispSession { limits } = ask.subcommand {
         return hold_entries(rt, limits, err, terminals.input);
@@ -198,6 +200,23 @@ where
     }
     let file = opened(rt, ask.file)?;
     Ok(carried_out(threads, rt.alloc(), ask, file, &mut out, err, explains))
+}
+
+/// Runs the program of a file, and writes its cycles where that is asked.
+fn play_program<R, E>(rt: &R, ask: &Ask<'_>, limits: Limits, err: &mut E) -> Result<u8, LineFault>
+where
+    R: Files + Input + Print + AllocGlobal,
+    E: Write,
+    ensures late { IfOk result (λ status. IsLateStatus status) }
+    ensures refused { IfErr result (λ fault.
+        (fault ≡ LineFault.Open) ⊎ (fault ≡ LineFault.OutOfMemory)) }
+    ensures input { IfErr result (λ fault. ask.now.file.now ≡ codes "-"
+        → fault ≡ LineFault.OutOfMemory) }
+{
+    if ask.views.cycles.is_some() {
+        return play_lisp_with_cycles(rt, ask, limits, err);
+    }
+    play_lisp(rt, ask.file, limits, err)
 }
 
 /// Carries out a request with what the reader gives, and explains a fault where that is asked.

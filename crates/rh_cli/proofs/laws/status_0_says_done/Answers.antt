@@ -1,5 +1,5 @@
 use Rattle.rh_cli.proofs.StatusLaws.{concludes_run_0, concludes_replay_0, concludes_dump_0, concludes_dot_0, concludes_draw_0, concludes_completions_0, concludes_session_0, concludes_lisp_0, done_is_0, only_help_is_0, concludes_paced_run, concludes_growing_run}
-use Rattle.rh_cli.proofs.LispStatuses.{lisp_session_is_0}
+use Rattle.rh_cli.proofs.LispStatuses.{lisp_cycles_is_0, lisp_session_is_0}
 use Rattle.rh_cli.proofs.SharedStatuses.{concludes_shared_0}
 use Rattle.rh_cli.proofs.laws.status_0_says_done.Goals as goal
 
@@ -35,6 +35,9 @@ returns-clause-draw c = concludes_draw_0
 
 pub returns-clause-lisp : goal.returns-clause-lisp
 returns-clause-lisp c = concludes_lisp_0
+
+pub returns-clause-lisp_cycles : goal.returns-clause-lisp_cycles
+returns-clause-lisp_cycles c = lisp_cycles_is_0
 
 pub returns-clause-lisp_session : goal.returns-clause-lisp_session
 returns-clause-lisp_session c = λ limits input. lisp_session_is_0 limits

@@ -228,6 +228,22 @@ pub returns-clause-lisp_session : goal.returns-clause-lisp_session
 unfolding command_and_file_of number_of digits clap_on_literals
 returns-clause-lisp_session c = refl
 
+pub returns-clause-lisp_cycles : goal.returns-clause-lisp_cycles
+unfolding command_and_file_of number_of digits clap_on_literals
+returns-clause-lisp_cycles c = refl
+
+pub returns-clause-lisp_viewed : goal.returns-clause-lisp_viewed
+unfolding viewed_of clap_on_literals
+returns-clause-lisp_viewed c = refl
+
+pub returns-clause-lisp_session_cycles : goal.returns-clause-lisp_session_cycles
+unfolding command_and_file_of number_of digits clap_on_literals
+returns-clause-lisp_session_cycles c = refl
+
+pub returns-clause-lisp_crossed : goal.returns-clause-lisp_crossed
+unfolding command_and_file_of number_of digits clap_on_literals
+returns-clause-lisp_crossed c = refl
+
 pub returns-clause-lisp_mark : goal.returns-clause-lisp_mark
 unfolding is_taken clap_on_literals
 returns-clause-lisp_mark c = refl

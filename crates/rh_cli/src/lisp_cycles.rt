@@ -1,0 +1,109 @@
+//! Running a program of the small Scheme, whose cycles are written.
+
+ghost use Rattle.std.specs.Prelude.{◌≡◌, ◌⊎◌, List, ℕ, IfErr, IfOk, IfSome, codes};
+ghost use Rattle.std.specs.Io.KnownBytes.{Consumes, Keeps};
+ghost use Rattle.rh_cli.specs.Fault.{IsLateStatus};
+ghost use Rattle.rh_cli.specs.Lisp.{ConcludesLispCycles};
+
+use crate::ask::Ask;
+use crate::driving::tell;
+use crate::fault::LineFault;
+use crate::lisp::tell_run;
+use crate::outputs::outputs_of;
+use crate::program::{gathering, is_standard_input, opened};
+use rh_lisp_run::{Limits, run_lisp_with_cycles};
+use std::alloc::Allocator;
+use std::io::{Read, Write};
+use std::rt::Files;
+
+/// Runs the program that the reader gives as `drive_lisp` does, and writes a line for each cycle of
+/// its heap to `cycles` as it ends (`run_lisp_with_cycles`). Where one isn't written, nothing that
+/// the program printed is, and the status is 1, or 3 where memory was refused for it. Answers the
+/// writer of cycles and the status.
+pub fn drive_lisp_with_cycles<A, R, O, C, E>(
+    alloc: A,
+    file: &str,
+    limits: Limits,
+    reader: &mut R,
+    out: &mut O,
+    cycles: C,
+    err: &mut E,
+) -> (C, u8)
+where
+    A: Allocator + Copy,
+    R: Read,
+    O: Write,
+    C: Write + Drop,
+    E: Write,
+    // For a reader that tells its bytes: by what is due for the bytes that it had.
+    ensures told { IfSome (R.remaining reader.old) (λ input. ConcludesLispCycles limits input result.1
+        (O.contents out.old) (O.contents out.new) (C.contents cycles) (C.contents result.0)) }
+    // Of the bytes that were taken.
+    ensures read { (input : List ℕ)
+        × Consumes (R.remaining reader.old) (R.remaining reader.new) input
+        × ConcludesLispCycles limits input result.1 (O.contents out.old) (O.contents out.new)
+        (C.contents cycles) (C.contents result.0) }
+    // As of `drive_lisp`.
+    ensures quiet { result.1 ≡ 0 → Keeps (E.contents err.old) (E.contents err.new) }
+    ensures late { IsLateStatus result.1 }
+{
+    let (cycles, ran) = run_lisp_with_cycles(alloc, file.as_bytes(), limits, reader, out, cycles);
+    (cycles, tell_run(file, ran, err))
+}
+
+/// Runs the program of a file, and writes its cycles.
+pub(crate) fn play_lisp_with_cycles<R, E>(
+    rt: &R,
+    ask: &Ask<'_>,
+    limits: Limits,
+    err: &mut E,
+) -> Result<u8, LineFault>
+where
+    R: Files + Input + Print + AllocGlobal,
+    E: Write,
+    ensures late { IfOk result (λ status. IsLateStatus status) }
+    ensures refused { IfErr result (λ fault.
+        (fault ≡ LineFault.Open) ⊎ (fault ≡ LineFault.OutOfMemory)) }
+    ensures input { IfErr result (λ fault. ask.now.file.now ≡ codes "-"
+        → fault ≡ LineFault.OutOfMemory) }
+{
+    if is_standard_input(ask.file) {
+        return play_with_outputs(rt, ask, limits, rt.reader(), err);
+    }
+    let file = opened(rt, ask.file)?;
+    play_with_outputs(rt, ask, limits, file, err)
+}
+
+/// Runs the program that the reader gives. Nothing is read where the file of its cycles can't be
+/// made.
+fn play_with_outputs<R, I, E>(
+    rt: &R,
+    ask: &Ask<'_>,
+    limits: Limits,
+    reader: I,
+    err: &mut E,
+) -> Result<u8, LineFault>
+where
+    R: Files + Print + AllocGlobal,
+    I: Read + Drop,
+    E: Write,
+    ensures late { IfOk result (λ status. IsLateStatus status) }
+    ensures refused { IfErr result (λ fault. fault ≡ LineFault.OutOfMemory) }
+{
+    let (out, _, cycles) = match outputs_of(rt, &ask.views) {
+        Ok(outputs) => outputs,
+        Err(fault) => return Ok(tell(&fault, err)),
+    };
+    let mut reader = reader;
+    let mut out = gathering(rt.alloc(), out)?;
+    let (_, status) = drive_lisp_with_cycles(
+        rt.alloc(),
+        ask.file,
+        limits,
+        &mut reader,
+        &mut out,
+        cycles,
+        err,
+    );
+    Ok(status)
+}
