@@ -354,6 +354,24 @@ const SESSIONS: &[(&[&[u8]], &[u8], u8, &[u8], &[u8])] = &[
         b"",
         b"rheap: pace: TooSmall need 2669\n",
     ),
+    // What filled the heap is given back by an entry that lets go of it.
+    (
+        &[b"rheap", b"lisp", b"--heap=8000"],
+        b"(define l '())\n(let loop () (set! l (cons 1 l)) (loop))\n(set! l '())\n(+ 1 2)\n",
+        0,
+        b"3\n",
+        b"-:2:22: heap exhausted\n",
+    ),
+    // A heap that is full to the last words refuses each entry that is written. What lets go of what
+    // fills it is done all the same.
+    (
+        &[b"rheap", b"lisp", b"--heap=8001"],
+        b"(define l '())\n(define (f n) (set! l (cons n l)) (f (+ n 1)))\n(f 0)\n(+ 1 2)\n\
+            (+ 1 2)\n(set! l '())\n(+ 1 2)\n",
+        0,
+        b"3\n",
+        b"-:2:35: heap exhausted\n-:4:1: heap exhausted\n-:5:1: heap exhausted\n-:6:1: heap exhausted\n",
+    ),
     // The procedures of the language have no room.
     (
         &[b"rheap", b"lisp", b"--heap=3000"],
@@ -412,6 +430,9 @@ const SESSION: Ask<'static> = Ask {
 /// Entries of which the second one stops.
 const ENTRIES: &[u8] = b"(display 1)\n(car 5)\n23\n";
 
+/// An entry of two lines, which prints 3 and a line end.
+const TWO_LINES: &[u8] = b"(+ 1\n 2)\n";
+
 /// Holds a session, and expects that it ends so and tells this.
 fn expect_held<T, R, W>(rt: &T, reader: &mut R, out: &mut W, (status, told): (u8, &[u8]))
 where
@@ -442,16 +463,31 @@ fn a_failed_write_ends_a_session(rt: HostRuntime) {
     expect_held(&rt, &mut { ENTRIES }, &mut Unflushed, due);
 }
 
+/// How many allocations a session asks for, of which none is refused.
+fn asked_in_session<T>(rt: &T, typed: &[u8]) -> u64
+where
+    T: AllocGlobal + Abort + Threads + Wait + Sync,
+{
+    let memory = RefusingAllocator::new(rt.alloc(), 0);
+    let mut reader = typed;
+    let mut out = Vec::new(rt.alloc());
+    let mut err = Vec::new(rt.alloc());
+    let ended = status_of(rt, &memory, &SESSION, &mut reader, &mut out, &mut err);
+    expect_equal(rt, ended, 0);
+    memory.asked()
+}
+
 /// Whether the nth allocation of a session was refused. That is told, and a prefix of what it
 /// prints is written; else all of it is.
-fn is_refused_in_session<T>(rt: &T, nth: u64) -> bool
+fn is_refused_in_session<T>(rt: &T, (typed, printed): (&[u8], &[u8]), nth: u64) -> bool
 where
     T: AllocGlobal + Abort + Threads + Wait + Sync,
 {
     let memory = RefusingAllocator::new(rt.alloc(), nth);
+    let mut reader = typed;
     let mut out = Vec::new(rt.alloc());
     let mut err = Vec::new(rt.alloc());
-    let ended = status_of(rt, &memory, &SESSION, &mut { ENTRIES }, &mut out, &mut err);
+    let ended = status_of(rt, &memory, &SESSION, &mut reader, &mut out, &mut err);
     let is_refused = memory.has_refused();
     let (status, told): (u8, &[u8]) = if is_refused {
         (3, b"rheap: out of memory\n")
@@ -460,8 +496,8 @@ where
     };
     expect_equal(rt, ended, status);
     expect_bytes(rt, &err, told);
-    expect_prefix(rt, b"123\n", &out);
-    expect_equal(rt, is_refused || out.len() == 4, true);
+    expect_prefix(rt, printed, &out);
+    expect_equal(rt, is_refused || out.len() == printed.len(), true);
     is_refused
 }
 
@@ -469,10 +505,28 @@ where
 fn allocations_of_a_session_are_refused_further_and_further_on(rt: HostRuntime) {
     let mut nth = 1u64;
     for _ in 0..400u32 {
-        if !is_refused_in_session(&rt, nth) {
+        if !is_refused_in_session(&rt, (ENTRIES, b"123\n"), nth) {
             break;
         }
         nth = nth.saturating_add(1 + nth / 4);
     }
     assert!(rt; 1_000 < nth, "{nth} allocations");
+}
+
+#[test]
+fn each_allocation_of_an_entry_of_two_lines_is_refused_in_turn(rt: HostRuntime) {
+    let begun = asked_in_session(&rt, b"");
+    let all = asked_in_session(&rt, TWO_LINES);
+    assert!(rt;
+        begun.saturating_add(10) < all,
+        "{begun} and {all} allocations"
+    );
+    for nth in begun..all {
+        let nth = nth.saturating_add(1);
+        expect_equal(
+            &rt,
+            is_refused_in_session(&rt, (TWO_LINES, b"3\n"), nth),
+            true,
+        );
+    }
 }
