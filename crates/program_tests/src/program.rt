@@ -7,4 +7,5 @@ mod failing;
 mod faults;
 mod growing;
 mod lisp;
+mod lisp_cycles;
 mod viewing;

@@ -451,7 +451,7 @@ const EXPLAINED: &[Call<'static>] = &[
 
 /// What is told of views that can't stand together.
 const VIEWS_FAULT: &[u8] =
-    b"rheap: --echo, --json, --dot and OUT - can't stand together, and OUT is a file of its own\n";
+    b"rheap: --echo, --json, --dot and OUT - can't stand together, OUT is a file of its own, and a session of lisp has none\n";
 
 /// What the trace without fields is told as with each line.
 const WITHOUT_FIELDS_ECHO: &[u8] =
@@ -638,6 +638,43 @@ const PROGRAMS: &[Call<'static>] = &[
         2,
         b"",
         STEPS_FAULT,
+    ),
+    (
+        &[b"rheap", b"lisp", b"-", b"--cycles=-"],
+        1,
+        COLUMNS,
+        b"-:1:1: heap: unbound variable\n",
+    ),
+    (
+        &[b"rheap", b"lisp", b"no such file", b"--cycles=-"],
+        1,
+        b"",
+        b"rheap: open failed\n",
+    ),
+    (
+        &[b"rheap", b"lisp", b"-", b"--cycles", b"/"],
+        1,
+        b"",
+        b"rheap: write failed\n",
+    ),
+    (&[b"rheap", b"lisp", b"--cycles=a"], 2, b"", VIEWS_FAULT),
+    (
+        &[b"rheap", b"lisp", b"a", b"--cycles=a"],
+        2,
+        b"",
+        VIEWS_FAULT,
+    ),
+    (
+        &[b"rheap", b"lisp", b"-", b"--cycles"],
+        2,
+        b"",
+        b"error: a value is required",
+    ),
+    (
+        &[b"rheap", b"lisp", b"-", b"--history=a"],
+        2,
+        b"",
+        b"error: unexpected",
     ),
     (
         &[b"rheap", b"lisp", b"-", b"--explain"],

@@ -1,0 +1,121 @@
+//! The cycles of programs of the small Scheme, as they are written.
+
+use crate::expectations::{Row, expect_bytes, expect_equal, expect_prefix};
+use crate::texts::ended_lines;
+use refusing::RefusingAllocator;
+use rh_cli::{HeapWords, Limits, drive_lisp_with_cycles};
+use samples::devices::{Broken, SlowWriter, Unflushed};
+use samples::texts::COLUMNS;
+use std::alloc::Allocator;
+use std::io::Write;
+use std::process::Abort;
+
+/// A heap that grows as far as a heap can.
+const AMPLE: HeapWords = HeapWords::UpTo(16_777_216);
+
+/// Heaps in which the program below collects: one that keeps its size, and one that grows.
+const SMALL: &[HeapWords] = &[HeapWords::Just(3_200), HeapWords::UpTo(8_618)];
+
+/// What makes 2,000 pairs, none of which it keeps.
+const MAKES: &[u8] =
+    b"(define (make n) (if (= n 0) 'done (begin (cons n n) (make (- n 1)))))\n(display (make 2000))";
+
+/// Runs a program with its cycles, and expects this status, what is printed and what is told.
+fn expect_run<R, A, C>(
+    rt: &R,
+    memory: A,
+    heap: HeapWords,
+    text: &[u8],
+    cycles: C,
+    (status, printed, told): (u8, &[u8], &[u8]),
+)
+where
+    R: AllocGlobal + Abort,
+    A: Allocator + Copy,
+    C: Write + Drop,
+{
+    let limits = Limits {
+        heap,
+        steps: 10_000_000,
+    };
+    let mut out = Vec::new(rt.alloc());
+    let mut err = Vec::new(rt.alloc());
+    let mut reader = text;
+    let (_, ended) = drive_lisp_with_cycles(
+        memory,
+        "p",
+        limits,
+        &mut reader,
+        &mut out,
+        cycles,
+        &mut err,
+    );
+    expect_equal(rt, ended, status);
+    expect_bytes(rt, &out, printed);
+    expect_bytes(rt, &err, told);
+}
+
+#[test]
+fn a_program_that_needs_no_cycle_has_the_columns_alone(rt: HostRuntime) {
+    let mut cycles: Vec<u8> = Vec::new(rt.alloc());
+    let due: (u8, &[u8], &[u8]) = (0, b"1", b"");
+    expect_run(&rt, rt.alloc(), AMPLE, b"(display 1)", &mut cycles, due);
+    expect_bytes(&rt, &cycles, COLUMNS);
+}
+
+#[test]
+fn a_text_that_is_no_program_has_no_columns(rt: HostRuntime) {
+    let mut cycles: Vec<u8> = Vec::new(rt.alloc());
+    let due: (u8, &[u8], &[u8]) = (1, b"", b"p:1:1: unexpected )\n");
+    expect_run(&rt, rt.alloc(), AMPLE, b")", &mut cycles, due);
+    expect_equal(&rt, cycles.len(), 0);
+}
+
+#[test]
+fn each_cycle_of_a_program_has_a_line_of_all_columns(rt: HostRuntime) {
+    for (row, &heap) in SMALL.iter().enumerate() {
+        let test = Row { rt: &rt, row };
+        let mut cycles: Vec<u8> = Vec::new(rt.alloc());
+        let due: (u8, &[u8], &[u8]) = (0, b"done", b"");
+        expect_run(&test, rt.alloc(), heap, MAKES, &mut cycles, due);
+        expect_prefix(&test, &cycles, COLUMNS);
+        let tabs = cycles.iter().filter(|byte| **byte == b'\t').count();
+        let lines = ended_lines(&cycles);
+        // 2,000 pairs of 4 words each take 3,200 words twice.
+        assert!(test; 3 < lines, "{lines} lines");
+        expect_equal(&test, tabs, lines.saturating_mul(18));
+    }
+}
+
+#[test]
+fn a_line_of_a_cycle_that_is_lost_is_a_failed_write(rt: HostRuntime) {
+    let due: (u8, &[u8], &[u8]) = (1, b"", b"rheap: write failed\n");
+    let small = HeapWords::Just(3_200);
+    expect_run(&rt, rt.alloc(), small, MAKES, Broken, due);
+    expect_run(&rt, rt.alloc(), small, MAKES, Unflushed, due);
+    let mut full = SlowWriter::new(&rt, 1_000, 3);
+    expect_run(&rt, rt.alloc(), small, MAKES, &mut full, due);
+    expect_prefix(&rt, &full.text, COLUMNS);
+}
+
+/// Runs the program while its nth allocation is refused. Answers how many were asked for.
+fn asked_where_refused<R: AllocGlobal + Abort>(rt: &R, nth: u64) -> u64 {
+    let memory = RefusingAllocator::new(rt.alloc(), nth);
+    let mut cycles: Vec<u8> = Vec::new(rt.alloc());
+    let due: (u8, &[u8], &[u8]) = if nth == 0 {
+        (0, b"done", b"")
+    } else {
+        (3, b"", b"rheap: out of memory\n")
+    };
+    expect_run(rt, &memory, HeapWords::Just(3_200), MAKES, &mut cycles, due);
+    memory.asked()
+}
+
+#[test]
+fn a_line_of_a_cycle_may_lack_memory(rt: HostRuntime) {
+    // The last allocations are those of the first line and of what the program printed.
+    let all = asked_where_refused(&rt, 0);
+    for earlier in 0..12u64 {
+        asked_where_refused(&rt, all.saturating_sub(earlier));
+    }
+}
