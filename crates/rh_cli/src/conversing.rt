@@ -64,6 +64,8 @@ impl<R: Files, E: Write> Host for Prompter<'_, R, E> {
 }
 
 /// Answers the lines that the reader gives, and flushes each answer.
+// It isn't inlined, so that a run of another command clears no memory for what is read here.
+#[inline(never)]
 pub(crate) fn converse<A: Allocator + Copy, R: Read, O: Write, H: Host>(
     alloc: A,
     reader: &mut R,

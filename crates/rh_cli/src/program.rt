@@ -188,15 +188,7 @@ where
     }
     let mut out = gathering(rt.alloc(), io::writer(rt))?;
     if is_standard_input(ask.file) {
-        return Ok(carried_out(
-            threads,
-            rt.alloc(),
-            ask,
-            rt.reader(),
-            &mut out,
-            err,
-            explains,
-        ));
+        return Ok(carried_out_of_input(rt, threads, ask, &mut out, err, explains));
     }
     let file = opened(rt, ask.file)?;
     Ok(carried_out(threads, rt.alloc(), ask, file, &mut out, err, explains))
@@ -242,6 +234,27 @@ where
     }
     let mut plain = reader;
     drive(threads, alloc, ask, &mut plain, out, err)
+}
+
+/// Carries out a request with standard input. It isn't inlined, so that a run of a file clears no
+/// memory for that reader.
+#[inline(never)]
+fn carried_out_of_input<R, T, O, E>(
+    rt: &R,
+    threads: &T,
+    ask: &Ask<'_>,
+    out: &mut O,
+    err: &mut E,
+    explains: bool,
+) -> u8
+where
+    R: Input + AllocGlobal,
+    T: Threads + Wait + Sync,
+    O: Write,
+    E: Write,
+    ensures { IsLateStatus result }
+{
+    carried_out(threads, rt.alloc(), ask, rt.reader(), out, err, explains)
 }
 
 /// Answers the lines of a session, and shows a prompt where that is asked.
