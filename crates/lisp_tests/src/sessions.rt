@@ -30,6 +30,8 @@ const ENTRIES: &[(&[u8], &[u8])] = &[
     (b"(symbol->string early)", b"\"early\"\n"),
     (b"(define (name s) (symbol->string s))", b""),
     (b"(name 'late) (name early)", b"\"late\"\n\"early\"\n"),
+    (b"(define q '(1)) (define (p) '(2)) (define r (p))", b""),
+    (b"'(3) (eq? r (p))", b"(3)\n#t\n"),
     (b"; nothing", b""),
     (b"(define (%tell x) 'mine) (g '7)", b"14\n"),
 ];
@@ -131,7 +133,7 @@ fn a_program_of_an_earlier_entry_is_not_taken_for_the_last(rt: HostRuntime) {
     let (session, heap) = begun(rt.alloc()).expect(&rt, "memory is ample");
     let mut session = session;
     let mut heap = heap;
-    let text = b"(define a 1)"
+    let text = b"(define zig 1)"
         .to_vec(rt.alloc())
         .expect(&rt, "memory is ample");
     let mut program = session
@@ -139,10 +141,10 @@ fn a_program_of_an_earlier_entry_is_not_taken_for_the_last(rt: HostRuntime) {
         .ok()
         .expect(&rt, "a program");
     program.run(&mut heap);
-    let next = (b"(define (f x) (+ x a))".as_slice(), b"".as_slice());
+    let next = (b"(define zag 2) (define zog 3)".as_slice(), b"".as_slice());
     expect_answer(&rt, &mut session, &mut heap, next, false);
     session.take_back(program);
-    let last = (b"(f 2)".as_slice(), b"3\n".as_slice());
+    let last = (b"zog".as_slice(), b"3\n".as_slice());
     expect_answer(&rt, &mut session, &mut heap, last, true);
 }
 
