@@ -1,5 +1,6 @@
 //! A heap without a lock, and its replicators beside it.
 
+ghost use Rattle.std.specs.Prelude.{◌≡◌};
 ghost use Rattle.std.specs.List.{AllByRecursion};
 ghost use Rattle.rh_increment.specs.Settling.{IsNewHere};
 ghost use Rattle.shared_tests.specs.Beside.{IsHere};
@@ -59,6 +60,19 @@ fn replicator_of<A: Allocator + Copy>(
         Some(last) => Some(Replicator::new(alloc, last)),
         None => None,
     }
+}
+
+/// Ends the replicator, which has ends of the heap's rings, if it is there, and settles what went
+/// through them.
+fn settled_by<A: Allocator + Copy>(
+    kept: &mut Kept<A>,
+    replicator: Option<Replicator<A>>,
+) -> Option<Settled>
+    requires { IsHere kept.old.collector.rings replicator }
+    ensures { kept.new ≡ kept.old }
+{
+    let done = replicator?.finish()?;
+    Some(kept.settle(done))
 }
 
 impl<A: Allocator + Copy> Beside<A> {
@@ -127,10 +141,8 @@ impl<A: Allocator + Copy> Beside<A> {
             first,
             second,
         } = self;
-        let first = first?.finish()?;
-        let second = second?.finish()?;
-        let one = kept.settle(first);
-        let two = kept.settle(second);
-        Some((one, two))
+        let one = settled_by(&mut kept, first);
+        let two = settled_by(&mut kept, second);
+        one.zip(two)
     }
 }

@@ -3,16 +3,15 @@
 ghost use Rattle.std.specs.List.{AllByRecursion};
 ghost use Rattle.rh_shared.specs.Start.{IsFresh};
 
-use crate::calls::{
-    ALLOC_NONE, ALLOC_TWO, Answer, NO_FIELDS, NOT_SAME, NOTHING, SAME, TWO_FIELDS, numbers_of,
-};
+use crate::calls::{ALLOC_NONE, ALLOC_TWO, Answer, NO_FIELDS, NOT_SAME, NOTHING, SAME, TWO_FIELDS};
+use crate::closing::{Told, closed};
 use crate::expectations::{Row, expect_equal, play_again};
 use crate::gates::{LOOKS, Signs, Watched, is_seen};
 use crate::starts::{GATE, SMALL};
 use rh_layout::Command;
 use rh_replicator::{Replicator, RunEnd, Stepped, crew};
 use rh_rings::ReplicatorEnds;
-use rh_shared::{Did, Mutator, SharedHeap, Start, close};
+use rh_shared::{Did, Mutator, SharedHeap, Start};
 use std::alloc::Allocator;
 use std::process::Abort;
 use std::sync::Wait;
@@ -55,12 +54,39 @@ fn call_between<R: Wait>(
     is_seen(&signs.0.folded, missed);
 }
 
-/// Checks that two replicators were stopped, of which the second had nothing left to fold.
-fn expect_ended(rt: &impl Abort, mut ended: Vec<(Replicator, RunEnd)>) {
+/// Checks that the last replicator was stopped, and had nothing left to fold.
+fn expect_idle(rt: &impl Abort, ended: &mut Vec<(Replicator, RunEnd)>) {
     let (mut second, end) = ended.pop().expect(rt, "the second");
     expect_equal(rt, (end, second.step()), (RunEnd::Stopped, Stepped::Idle));
+}
+
+/// Checks that there is one replicator, which was stopped.
+fn expect_stopped(rt: &impl Abort, ended: &mut Vec<(Replicator, RunEnd)>) {
     let (_first, end) = ended.pop().expect(rt, "the first");
     expect_equal(rt, (end, ended.len()), (RunEnd::Stopped, 0));
+}
+
+/// Both replicators, each behind its gate.
+fn behind_gates<'f, R: AllocGlobal + Abort>(
+    rt: &R,
+    (first, second): (Replicator, Replicator),
+    signs: (&'f Signs, &'f Signs),
+    missed: &'f AtomicBool,
+) -> Vec<(Replicator, Watched<'f>)> {
+    let one = Watched {
+        own: signs.0,
+        other: signs.1,
+        missed,
+    };
+    let other = Watched {
+        own: signs.1,
+        other: signs.0,
+        missed,
+    };
+    let mut both = Vec::new(rt.alloc());
+    both.push((first, one)).expect(rt, "memory is ample");
+    both.push((second, other)).expect(rt, "memory is ample");
+    both
 }
 
 /// Plays the replicators behind gates, beside a call that gives what the second one folded before
@@ -70,30 +96,19 @@ fn play<R: Threads + Wait + Sync + AllocGlobal + Abort>(
     rt: &R,
     shared: &SharedHeap,
     one: &mut Mutator,
-    first: Replicator,
-    second: Replicator,
+    both: (Replicator, Replicator),
 ) {
     let signs = (Signs::new(false), Signs::new(true));
     let missed = AtomicBool::new(false);
-    let mut replicators = Vec::new(rt.alloc());
-    let gate = Watched {
-        own: &signs.0,
-        other: &signs.1,
-        missed: &missed,
-    };
-    let _ = replicators.push((first, gate));
-    let gate = Watched {
-        own: &signs.1,
-        other: &signs.0,
-        missed: &missed,
-    };
-    let _ = replicators.push((second, gate));
+    let replicators = behind_gates(rt, both, (&signs.0, &signs.1), &missed);
     let stop = AtomicBool::new(false);
     let ended = crew(rt, rt.alloc(), replicators, &stop, LOOKS, || {
         call_between(rt, shared, one, (&signs.0, &signs.1), &missed);
     });
     assert!(rt; !missed.load(Ordering::SeqCst));
-    expect_ended(rt, ended.ok().expect(rt, "they start"));
+    let mut ended = ended.ok().expect(rt, "they start");
+    expect_idle(rt, &mut ended);
+    expect_stopped(rt, &mut ended);
 }
 
 /// Plays the two replicators that have these ends beside a call of this owner.
@@ -107,7 +122,7 @@ fn play_both<R: Threads + Wait + Sync + AllocGlobal + Abort>(
 {
     let second = last_of(rt.alloc(), &mut ends).expect(rt, "the second");
     let first = last_of(rt.alloc(), &mut ends).expect(rt, "the first");
-    play(rt, shared, one, first, second);
+    play(rt, shared, one, (first, second));
 }
 
 /// Makes the calls after which each replicator has a piece, and plays both beside one more.
@@ -126,37 +141,46 @@ fn call_beside<R: Threads + Wait + Sync + AllocGlobal + Abort>(
     play_both(rt, shared, one, ends);
 }
 
-/// Checks what the heap has counted, once it is closed.
-fn expect_closed<R: AllocGlobal + Abort>(rt: &R, shared: SharedHeap, mutators: Vec<Mutator>) {
-    let kept = close(shared, mutators).ok();
-    let kept = kept.expect(rt, "all calls are there");
-    let numbers = ((6, 2, false, 1), (16, 12, 2, 0), Some(4));
-    expect_equal(rt, numbers_of(rt, &kept), numbers);
+/// What an increment does that gives a replica and ends the cycle.
+const GIVEN: Did = Did {
+    given: 1,
+    flipped: true,
+    ..NOTHING
+};
+
+/// What the heap has counted, once it is closed: all calls are there.
+const CLOSED: Told = (None, GIVEN, ((6, 2, false, 1), (16, 12, 2, 0), Some(4)), 0);
+
+/// Two replicators fold beside the calls of the last owner, and each piece is given under the lock.
+fn meet<R: Threads + Wait + Sync + AllocGlobal + Abort>(
+    rt: &R,
+    shared: &SharedHeap,
+    mutators: &mut Vec<Mutator>,
+    ends: Vec<ReplicatorEnds>,
+)
+    requires { AllByRecursion IsFresh ends.items }
+{
+    let mut one = mutators.pop().expect(rt, "owner 1");
+    call_beside(rt, shared, &mut one, ends);
+    // The fourth call gave what the second one had folded; an increment gives what the first has.
+    expect_equal(rt, shared.increment(rt), GIVEN);
+    let _ = mutators.push(one);
 }
 
-/// Two replicators fold beside the calls, and each piece is given under the lock.
-fn meet<R: Threads + Wait + Sync + AllocGlobal + Abort>(rt: &R) -> Result<(), &'static str> {
-    let start = Start::new(rt.alloc(), SMALL, GATE).ok().ok_or("it starts")?;
+/// Plays replicators beside calls on a new heap.
+fn meet_anew<R: Threads + Wait + Sync + AllocGlobal + Abort>(rt: &R) {
+    let start = Start::new(rt.alloc(), SMALL, GATE)
+        .ok()
+        .expect(rt, "it starts");
     let Ok((shared, mut mutators, ends)) = SharedHeap::new(rt.alloc(), start) else {
-        return Err("memory is ample");
+        panic!(rt; "memory is ample")
     };
-    let mut one = mutators.pop().ok_or("owner 1")?;
-    call_beside(rt, &shared, &mut one, ends);
-    // The fourth call gave what the second one had folded; an increment gives what the first has.
-    let last = shared.increment(rt);
-    let flipped = Did {
-        given: 1,
-        flipped: true,
-        ..NOTHING
-    };
-    expect_equal(rt, last, flipped);
-    let _ = mutators.push(one);
-    expect_closed(rt, shared, mutators);
-    Ok(())
+    meet(rt, &shared, &mut mutators, ends);
+    expect_equal(rt, closed(rt, shared, mutators), CLOSED);
 }
 
 #[test]
 fn replicators_fold_beside_calls(rt: HostRuntime) {
-    let played = play_again(|| expect_equal(&rt, meet(&rt), Ok(())));
+    let played = play_again(|| meet_anew(&rt));
     expect_equal(&rt, played, 200);
 }

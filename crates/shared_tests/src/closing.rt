@@ -8,7 +8,9 @@ use crate::expectations::{Row, expect_equal};
 use crate::starts::{EAGER, SMALL};
 use rh_core::Config;
 use rh_layout::{Command, Operand, Refusal, Reply, RootId};
-use rh_shared::{CallError, CloseError, Did, Mutator, SharedConfig, SharedHeap, Start, close};
+use rh_shared::{
+    CallError, CloseError, Did, Kept, Mutator, NotClosed, SharedConfig, SharedHeap, Start, close,
+};
 use std::process::Abort;
 use std::sync::Wait;
 
@@ -46,10 +48,10 @@ pub fn shared_of<R: AllocGlobal + Abort>(
 /// mutators come back.
 pub type Told = (Option<CloseError>, Did, Numbers, usize);
 
-/// Closes a heap.
-pub fn closed<R: AllocGlobal>(rt: &R, shared: SharedHeap, mutators: Vec<Mutator>) -> Told {
-    match close(shared, mutators) {
-        Ok(kept) => (None, kept.last_did(), numbers_of(rt, &kept), 0),
+/// What is told of a heap that was closed, or wasn't.
+fn told_of<R: AllocGlobal>(rt: &R, closed: &Result<Kept, NotClosed>) -> Told {
+    match closed {
+        Ok(kept) => (None, kept.last_did(), numbers_of(rt, kept), 0),
         Err(left) => (
             Some(left.why),
             left.kept.last_did(),
@@ -57,6 +59,12 @@ pub fn closed<R: AllocGlobal>(rt: &R, shared: SharedHeap, mutators: Vec<Mutator>
             left.mutators.len(),
         ),
     }
+}
+
+/// Closes a heap.
+pub fn closed<R: AllocGlobal>(rt: &R, shared: SharedHeap, mutators: Vec<Mutator>) -> Told {
+    let closed = close(shared, mutators);
+    told_of(rt, &closed)
 }
 
 /// A call: whether a mutator of the other heap makes it, the place of the mutator, whether it is
@@ -314,23 +322,38 @@ fn call_by<R: Wait>(
     Some(mutators.get_mut(place)?.call(rt, heap, command))
 }
 
+/// The other heap where that is asked, and else the one.
+pub fn heap_of<'h>(elsewhere: bool, one: &'h SharedHeap, other: &'h SharedHeap) -> &'h SharedHeap {
+    if elsewhere { other } else { one }
+}
+
+/// Makes a call on a heap, by one of the other heap's mutators where that is asked.
+fn call_on<R: Wait>(
+    rt: &R,
+    &(theirs, place, _, command, _): &Asked,
+    heap: &SharedHeap,
+    mutators: &mut Vec<Mutator>,
+    others: &mut Vec<Mutator>,
+) -> Option<Answer> {
+    if theirs {
+        call_by(rt, others, place, heap, command)
+    } else {
+        call_by(rt, mutators, place, heap, command)
+    }
+}
+
 /// Makes the calls of a case on a heap and on the other one, by the mutators of either.
 fn call_each<R: Wait + Abort>(
     rt: &R,
     calls: &[Asked],
-    shared: &SharedHeap,
+    heaps: (&SharedHeap, &SharedHeap),
     mutators: &mut Vec<Mutator>,
-    other: &SharedHeap,
     others: &mut Vec<Mutator>,
 ) {
-    for (row, &(theirs, place, elsewhere, command, answer)) in calls.iter().enumerate() {
-        let heap = if elsewhere { other } else { shared };
-        let told = if theirs {
-            call_by(rt, others, place, heap, command)
-        } else {
-            call_by(rt, mutators, place, heap, command)
-        };
-        expect_equal(&Row { rt, row }, told, Some(answer));
+    for (row, asked) in calls.iter().enumerate() {
+        let heap = heap_of(asked.2, heaps.0, heaps.1);
+        let told = call_on(rt, asked, heap, mutators, others);
+        expect_equal(&Row { rt, row }, told, Some(asked.4));
     }
 }
 
@@ -357,7 +380,13 @@ fn exchange_last(case: &Case, mutators: &mut Vec<Mutator>, others: &mut Vec<Muta
 fn play<R: AllocGlobal + Wait + Abort>(rt: &R, case: &Case) -> Told {
     let (shared, mut mutators) = shared_of(rt, case.config, case.shared);
     let (other, mut others) = shared_of(rt, case.other, case.shared);
-    call_each(rt, case.calls, &shared, &mut mutators, &other, &mut others);
+    call_each(
+        rt,
+        case.calls,
+        (&shared, &other),
+        &mut mutators,
+        &mut others,
+    );
     increment_each(rt, &shared, case.increments);
     exchange_last(case, &mut mutators, &mut others);
     closed(rt, shared, mutators)

@@ -5,26 +5,37 @@ use refusing::{RefusingAllocator, refused_in_turn};
 use rh_replicator::{OpenGate, Replicator, crew};
 use rh_rings::new_link;
 use std::alloc::Allocator;
+use std::process::Abort;
 use std::sync::Wait;
 use std::sync::atomic::{AtomicBool, Ordering};
 use std::thread::Threads;
+
+/// A replicator without turns, on rings that are read by nobody.
+fn one_of<A: Allocator + Copy>(rt: &impl Abort, ample: A, number: u32) -> Replicator<A> {
+    let Ok((_link, ends)) = new_link(ample, number) else {
+        panic!(rt; "memory is ample")
+    };
+    Replicator::new(ample, ends)
+}
+
+/// Two such replicators.
+fn two_of<A: Allocator + Copy>(rt: &impl Abort, ample: A) -> Vec<(Replicator<A>, OpenGate), A> {
+    let mut both = Vec::new(ample);
+    for number in 0..2u32 {
+        let one = (one_of(rt, ample, number), OpenGate);
+        both.push(one).expect(rt, "memory is ample");
+    }
+    both
+}
 
 /// Whether a crew of two without turns, on rings from memory that is ample, met want of memory. The
 /// work wasn't run then; else it was, and the crew was told to stop.
 fn crew_is_refused<R, A>(rt: &R, ample: A, memory: A) -> bool
 where
-    R: Threads + Wait + Sync,
+    R: Threads + Wait + Sync + Abort,
     A: Allocator + Copy + Send,
 {
-    let Ok(mut replicators) = Vec::with_capacity(ample, 2) else {
-        return false;
-    };
-    for number in 0..2u32 {
-        let Ok((_link, ends)) = new_link(ample, number) else {
-            return false;
-        };
-        let _ = replicators.push((Replicator::new(ample, ends), OpenGate));
-    }
+    let replicators = two_of(rt, ample);
     let stop = AtomicBool::new(false);
     let worked = AtomicBool::new(false);
     let ended = crew(rt, memory, replicators, &stop, 0, || {

@@ -365,22 +365,38 @@ const PLAYS: &[Play] = &[
     ),
 ];
 
+/// Makes a call, and ends the test unless it has this answer and the last increment did this.
+fn play_call(rt: &impl Abort, beside: &mut Beside, command: Command, answer: Answer, did: Did) {
+    expect_equal(rt, beside.call(command), answer);
+    expect_equal(rt, beside.kept().last_did(), did);
+}
+
+/// Increments, and ends the test unless that does this, and is the last that was done.
+fn play_increment(rt: &impl Abort, beside: &mut Beside, did: Did) {
+    expect_equal(rt, beside.increment(), did);
+    expect_equal(rt, beside.kept().last_did(), did);
+}
+
 /// Plays a step, and ends the test unless it comes to what it says.
 fn play_step<R: AllocGlobal + Abort>(rt: &R, beside: &mut Beside, step: Step) {
     match step {
-        Step::Call(command, answer, did) => {
-            expect_equal(rt, beside.call(command), answer);
-            expect_equal(rt, beside.kept().last_did(), did);
-        }
-        Step::Increment(did) => {
-            expect_equal(rt, beside.increment(), did);
-            expect_equal(rt, beside.kept().last_did(), did);
-        }
+        Step::Call(command, answer, did) => play_call(rt, beside, command, answer, did),
+        Step::Increment(did) => play_increment(rt, beside, did),
         Step::First(stepped) => expect_equal(rt, beside.step_first(), stepped),
         Step::Second(stepped) => expect_equal(rt, beside.step_second(), stepped),
         Step::Lose => beside.lose(),
         Step::Has(numbers) => expect_equal(rt, numbers_of(rt, beside.kept()), numbers),
     }
+}
+
+/// Plays a part of a play. Answers how many steps it had.
+fn play_part<R: AllocGlobal + Abort>(rt: &R, beside: &mut Beside, steps: &[Step]) -> u32 {
+    let mut played: u32 = 0;
+    for (row, &step) in steps.iter().enumerate() {
+        play_step(&Row { rt, row }, beside, step);
+        played = played.saturating_add(1);
+    }
+    played
 }
 
 /// Plays a play on a new heap, and settles. Answers how many steps it had.
@@ -389,12 +405,8 @@ fn play_all<R: AllocGlobal + Abort>(rt: &R, &(shared, parts, settled): &Play) ->
     expect_equal(rt, beside.kept().last_did(), NOTHING);
     let mut played: u32 = 0;
     for (row, &steps) in parts.iter().enumerate() {
-        let rt = &Row { rt, row };
-        for (row, &step) in steps.iter().enumerate() {
-            let rt = &Row { rt, row };
-            play_step(rt, &mut beside, step);
-            played = played.saturating_add(1);
-        }
+        let more = play_part(&Row { rt, row }, &mut beside, steps);
+        played = played.saturating_add(more);
     }
     expect_equal(rt, beside.settle(), settled);
     played

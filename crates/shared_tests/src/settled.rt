@@ -3,7 +3,7 @@
 
 ghost use Rattle.std.specs.Prelude.{◌≡◌};
 ghost use Rattle.std.specs.List.{AllByRecursion};
-ghost use Rattle.rh_increment.specs.Settling.{IsNewHere, pairs_of};
+ghost use Rattle.rh_increment.specs.Settling.{AreEndsHere, IsNewHere, pairs_of};
 ghost use Rattle.shared_tests.specs.Beside.{AreEndsOf};
 
 use crate::expectations::{Row, expect_equal, play_again};
@@ -175,9 +175,44 @@ fn call_all<B: Rings + Send, R: Threads + Wait + Sync>(rt: &R, crowded: &Mutex<C
     );
 }
 
-/// Settles each ring: what was handed back came to the heap, or is left in the ring. Of what came
-/// all was given or dropped, but one for each ring that waits, and of what was pushed all was
-/// taken, but for what the rings have.
+/// Settles the rings to a replicator: what was handed back came to the heap, or is left in the
+/// ring. Answers how many replicas came, and how many pieces the replicator had taken.
+fn settle_one<R: Abort>(
+    rt: &R,
+    kept: &mut Kept,
+    own: (Replicator, RunEnd),
+    folds: &[Folds],
+) -> (u64, u64)
+    requires { AreEndsHere kept.old.collector.rings own.0 }
+    ensures { kept.new ≡ kept.old }
+{
+    let (replicator, end) = own;
+    expect_equal(rt, end, RunEnd::Stopped);
+    let done = replicator.finish().expect(rt, "the heap's ends are there");
+    let number = done.replicator() as usize;
+    let counted = folds.get(number).expect(rt, "its folds");
+    let settled = kept.settle(done);
+    let handed = counted.handed.load(Ordering::SeqCst);
+    expect_equal(rt, settled.received.saturating_add(settled.left), handed);
+    assert!(rt; handed >= 10, "{handed}");
+    (settled.received, counted.taken.load(Ordering::SeqCst))
+}
+
+/// Ends the test unless of the replicas that came all were taken, but one for each ring that waits,
+/// and of the pieces that were pushed all were read, but for what the rings have.
+fn expect_sums(rt: &impl Abort, (received, taken): (u64, u64), (pushed, read): (u64, u64)) {
+    assert!(rt;
+        taken <= received && received <= taken.saturating_add(4),
+        "{received} {taken}"
+    );
+    assert!(rt;
+        read <= pushed && pushed <= read.saturating_add(32),
+        "{pushed} {read}"
+    );
+}
+
+/// Settles each ring. Of what came all was given or dropped, but one for each ring that waits, and
+/// of what was pushed all was taken, but for what the rings have.
 fn settle_all<B: Rings, R: Abort>(
     rt: &R,
     crowded: Crowded<B>,
@@ -194,29 +229,21 @@ fn settle_all<B: Rings, R: Abort>(
     } = crowded;
     let (mut rings, mut received, mut read): (usize, u64, u64) = (0, 0, 0);
     for own in ended {
-        let rt = &Row { rt, row: rings };
-        let (replicator, end) = own;
-        expect_equal(rt, end, RunEnd::Stopped);
-        let done = replicator.finish().expect(rt, "the heap's ends are there");
-        let number = done.replicator() as usize;
-        let counted = folds.get(number).expect(rt, "its folds");
-        let settled = kept.settle(done);
-        let handed = counted.handed.load(Ordering::SeqCst);
-        expect_equal(rt, settled.received.saturating_add(settled.left), handed);
-        assert!(rt; handed >= 10, "{handed}");
-        received = received.saturating_add(settled.received);
-        read = read.saturating_add(counted.taken.load(Ordering::SeqCst));
+        let (came, took) = settle_one(&Row { rt, row: rings }, &mut kept, own, folds);
+        received = received.saturating_add(came);
+        read = read.saturating_add(took);
         rings = rings.saturating_add(1);
     }
     expect_equal(rt, rings, 4);
-    assert!(rt;
-        taken <= received && received <= taken.saturating_add(4),
-        "{received} {taken}"
-    );
-    assert!(rt;
-        read <= pushed && pushed <= read.saturating_add(32),
-        "{pushed} {read}"
-    );
+    expect_sums(rt, (received, taken), (pushed, read));
+}
+
+/// Ends the test unless enough cycles have ended, and enough calls were noted: no limit refuses a
+/// copy or a load.
+fn expect_played(rt: &impl Abort, kept: &Kept) {
+    assert!(rt; kept.heap().stat().flips > FLIPS);
+    let noted = kept.history().calls().len();
+    assert!(rt; noted >= 240, "{noted}");
 }
 
 /// Plays a heap that has these rings.
@@ -243,10 +270,7 @@ fn play<B: Rings + Send, R: Threads + Wait + Sync + AllocGlobal + Abort>(
         panic!(rt; "they start")
     };
     let crowded = crowded.into_inner();
-    assert!(rt; crowded.kept.heap().stat().flips > FLIPS);
-    // No limit refuses a copy or a load.
-    let noted = crowded.kept.history().calls().len();
-    assert!(rt; noted >= 240, "{noted}");
+    expect_played(rt, &crowded.kept);
     settle_all(rt, crowded, ended, &folds);
 }
 

@@ -1,7 +1,7 @@
 //! Mutators in threads of their own.
 
 use crate::calls::NOTHING;
-use crate::closing::{HALF, LARGE, Told, closed, shared_of};
+use crate::closing::{HALF, LARGE, Told, closed, heap_of, shared_of};
 use crate::expectations::{Row, expect_equal, play_again};
 use rh_layout::{Command, Operand, Reply, RootId};
 use rh_shared::{CloseError, Mutator, SharedHeap};
@@ -53,7 +53,7 @@ fn played<R: Wait>(
     let mut number: u32 = 0;
     for command in calls_of_owner(mutator.owner()) {
         number = number.saturating_add(1);
-        let heap = if number == 4 { fourth } else { shared };
+        let heap = heap_of(number == 4, shared, fourth);
         let _ = mutator.call(rt, heap, command);
     }
     mutator
@@ -105,7 +105,7 @@ fn play_two<R: Threads + Wait + Sync + AllocGlobal + Abort>(
 ) -> (bool, bool, Told) {
     let (shared, mut mutators) = shared_of(rt, LARGE, HALF);
     let (other, _others) = shared_of(rt, LARGE, HALF);
-    let fourth = if elsewhere { &other } else { &shared };
+    let fourth = heap_of(elsewhere, &shared, &other);
     let (one, two) = join_two(rt, &shared, fourth, &mut mutators, leaves);
     (one, two, closed(rt, shared, mutators))
 }

@@ -268,6 +268,12 @@ fn replaced_often<R: AllocGlobal + Abort>(rt: &R) -> Vec<u8> {
     text
 }
 
+/// How many calls stand in a history.
+fn calls_of<R: AllocGlobal + Abort>(rt: &R, written: &[u8]) -> usize {
+    let history = read_history(rt.alloc(), written).expect(rt, "a history");
+    history.calls().len()
+}
+
 /// How many calls stand in the history of such a trace.
 fn calls_in<R: AllocGlobal + Abort + Threads + Wait + Sync>(
     rt: &R,
@@ -277,8 +283,7 @@ fn calls_in<R: AllocGlobal + Abort + Threads + Wait + Sync>(
     let mut written = Vec::new(rt.alloc());
     let outcome = run_shared(rt, rt.alloc(), &mut text, &mut written, options);
     expect_equal(rt, outcome, Ok(()));
-    let history = read_history(rt.alloc(), &written).expect(rt, "a history");
-    history.calls().len()
+    calls_of(rt, &written)
 }
 
 #[test]
@@ -297,23 +302,31 @@ fn replicators_of_a_run_step(rt: HostRuntime) {
     assert!(rt; collected > 0, "{collected}");
 }
 
+/// Whether a run of two owners has ended for want of memory: then some was refused, and nothing is
+/// written. Else the history is legal, be it that a replicator was refused some and asked again.
+fn is_cut<R: AllocGlobal + Abort>(
+    rt: &R,
+    outcome: Result<(), SharedRunFault>,
+    written: &[u8],
+    has_refused: bool,
+) -> bool {
+    if outcome.is_ok() {
+        expect_legal(rt, written);
+        return false;
+    }
+    expect_equal(rt, outcome, Err(SharedRunFault::OutOfMemory));
+    expect_equal(rt, (has_refused, written.len()), (true, 0));
+    true
+}
+
 /// Refuses the nth allocation of a run of two owners, whose cycle begins where the fifth of their
-/// objects leaves less than half of the words. Answers whether the run ends for want of memory: then
-/// some was refused, and nothing is written. Else the history is legal, be it that a replicator was
-/// refused some and asked again.
+/// objects leaves less than half of the words. Answers whether the run ends for want of memory.
 fn is_refused_in_threads<R: AllocGlobal + Abort + Threads + Wait + Sync>(rt: &R, nth: u64) -> bool {
     let memory = RefusingAllocator::new(rt.alloc(), nth);
     let mut reader = SHARED;
     let mut written = Vec::new(rt.alloc());
     let outcome = run_shared(rt, &memory, &mut reader, &mut written, TWO);
-    if outcome.is_ok() {
-        expect_legal(rt, &written);
-        return false;
-    }
-    expect_equal(rt, outcome, Err(SharedRunFault::OutOfMemory));
-    assert!(rt; memory.has_refused());
-    expect_equal(rt, written.len(), 0);
-    true
+    is_cut(rt, outcome, &written, memory.has_refused())
 }
 
 #[test]
