@@ -742,16 +742,6 @@ fn calls_of_the_program(rt: HostRuntime) {
     expect_calls(&rt, &rt, WITHOUT_FIELDS, true, CLOSED);
 }
 
-/// A program of the small Scheme that prints.
-const PRINTING: Call<'static> = (&[b"rheap", b"lisp", b"-"], 0, b"a\n", b"");
-
-/// What a program of the small Scheme prints is on standard output.
-#[test]
-fn a_program_of_the_command_line_prints(rt: HostRuntime) {
-    let input = b"(display \"a\") (newline)";
-    expect_played(&rt, &rt, input, false, &PRINTING);
-}
-
 /// A session whose standard input is a terminal.
 #[test]
 fn a_session_shows_its_prompts(rt: HostRuntime) {

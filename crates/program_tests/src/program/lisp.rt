@@ -293,6 +293,14 @@ const SESSIONS: &[(&[&[u8]], &[u8], u8, &[u8], &[u8])] = &[
         b"",
     ),
     (&[b"rheap", b"lisp"], b"(+ 1\n 2)", 0, b"3\n", b""),
+    // A program of standard input is no session: it writes what it displays alone.
+    (
+        &[b"rheap", b"lisp", b"-"],
+        b"(+ 1 2) (display \"a\") (newline)",
+        0,
+        b"a\n",
+        b"",
+    ),
     // What a later entry defines or sets anew is what earlier ones call.
     (
         &[b"rheap", b"lisp"],
@@ -475,6 +483,25 @@ where
     let ended = status_of(rt, &memory, &SESSION, &mut reader, &mut out, &mut err);
     expect_equal(rt, ended, 0);
     memory.asked()
+}
+
+/// Entries, 20 and 40 of them.
+const TWENTY: &[u8] = b"1\n1\n1\n1\n1\n1\n1\n1\n1\n1\n1\n1\n1\n1\n1\n1\n1\n1\n1\n1\n";
+
+const FORTY: &[u8] = b"1\n1\n1\n1\n1\n1\n1\n1\n1\n1\n1\n1\n1\n1\n1\n1\n1\n1\n1\n1\n\
+    1\n1\n1\n1\n1\n1\n1\n1\n1\n1\n1\n1\n1\n1\n1\n1\n1\n1\n1\n1\n";
+
+/// The code of entries is kept: what is compiled once isn't compiled for a later entry.
+#[test]
+fn an_entry_asks_for_no_code_of_those_before_it(rt: HostRuntime) {
+    let language = asked_in_session(&rt, b"");
+    let twenty = asked_in_session(&rt, TWENTY);
+    let forty = asked_in_session(&rt, FORTY);
+    // Each of the last 20 would ask for at least as many as the language.
+    assert!(rt;
+        forty < twenty.saturating_add(language),
+        "{language}, {twenty} and {forty} allocations"
+    );
 }
 
 /// Whether the nth allocation of a session was refused. That is told, and a prefix of what it

@@ -1,6 +1,6 @@
 //! The cycles of programs of the small Scheme, as they are written.
 
-use crate::expectations::{Row, expect_bytes, expect_equal, expect_prefix};
+use crate::expectations::{Row, ample, expect_bytes, expect_equal, expect_prefix};
 use crate::texts::ended_lines;
 use refusing::RefusingAllocator;
 use rh_cli::{HeapWords, Limits, drive_lisp_with_cycles};
@@ -71,6 +71,18 @@ fn a_text_that_is_no_program_has_no_columns(rt: HostRuntime) {
     expect_equal(&rt, cycles.len(), 0);
 }
 
+/// Expects that the lines after the first are numbered from 1 on.
+fn expect_numbered<R: AllocGlobal + Abort>(rt: &R, cycles: &[u8]) {
+    let lines = cycles.split(|byte| *byte == b'\n');
+    for (number, line) in lines.enumerate().skip(1) {
+        let begun = ample(rt, format!(in rt.alloc(); "{number}\t"));
+        assert!(rt;
+            line.is_empty() || line.starts_with(begun.as_bytes()),
+            "line {number}"
+        );
+    }
+}
+
 #[test]
 fn each_cycle_of_a_program_has_a_line_of_all_columns(rt: HostRuntime) {
     for (row, &heap) in SMALL.iter().enumerate() {
@@ -84,6 +96,7 @@ fn each_cycle_of_a_program_has_a_line_of_all_columns(rt: HostRuntime) {
         // 2,000 pairs of 4 words each take 3,200 words twice.
         assert!(test; 3 < lines, "{lines} lines");
         expect_equal(&test, tabs, lines.saturating_mul(18));
+        expect_numbered(&test, &cycles);
     }
 }
 
@@ -98,8 +111,9 @@ fn a_line_of_a_cycle_that_is_lost_is_a_failed_write(rt: HostRuntime) {
     expect_prefix(&rt, &full.text, COLUMNS);
 }
 
-/// Runs the program while its nth allocation is refused. Answers how many were asked for.
-fn asked_where_refused<R: AllocGlobal + Abort>(rt: &R, nth: u64) -> u64 {
+/// Runs the program while its nth allocation is refused. Answers how many were asked for, and
+/// whether the columns alone were written.
+fn asked_where_refused<R: AllocGlobal + Abort>(rt: &R, nth: u64) -> (u64, bool) {
     let memory = RefusingAllocator::new(rt.alloc(), nth);
     let mut cycles: Vec<u8> = Vec::new(rt.alloc());
     let due: (u8, &[u8], &[u8]) = if nth == 0 {
@@ -108,14 +122,21 @@ fn asked_where_refused<R: AllocGlobal + Abort>(rt: &R, nth: u64) -> u64 {
         (3, b"", b"rheap: out of memory\n")
     };
     expect_run(rt, &memory, HeapWords::Just(3_200), MAKES, &mut cycles, due);
-    memory.asked()
+    (memory.asked(), cycles == COLUMNS)
 }
 
 #[test]
 fn a_line_of_a_cycle_may_lack_memory(rt: HostRuntime) {
     // The last allocations are those of the first line and of what the program printed.
-    let all = asked_where_refused(&rt, 0);
+    let (all, _) = asked_where_refused(&rt, 0);
+    let mut without_line = 0u64;
     for earlier in 0..12u64 {
-        asked_where_refused(&rt, all.saturating_sub(earlier));
+        if asked_where_refused(&rt, all.saturating_sub(earlier)).1 {
+            without_line = without_line.saturating_add(1);
+        }
     }
+    assert!(rt;
+        0 < without_line && without_line < 12,
+        "{without_line} refusals"
+    );
 }
