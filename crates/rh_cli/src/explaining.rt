@@ -1,10 +1,11 @@
 //! Doing what was asked, and showing where the file fails.
 
 ghost use Rattle.std.specs.Prelude.{◌≡◌, ◌⊎◌, ◌≤◌, length, List, ℕ, IfSome};
-ghost use Rattle.std.specs.Io.KnownBytes.{Consumes, Keeps};
+ghost use Rattle.std.specs.Io.KnownBytes.{Consumes, IsAtEnd, Keeps};
 ghost use Rattle.rh_cli.specs.Drive.{Concludes};
 ghost use Rattle.rh_cli.specs.Fault.{IsLateStatus};
-ghost use Rattle.rh_cli.specs.declared.ask.Subcommand.TheVariants.{Replay};
+ghost use Rattle.rh_cli.specs.declared.ask.Subcommand.TheVariants.{LispSession, Replay};
+ghost use Rattle.rh_lisp_run.specs.declared.limits.Limits.{Limits as LimitsOf};
 
 use crate::ask::{Ask, Subcommand};
 use crate::driving::{act, tell};
@@ -46,6 +47,8 @@ where
         × Concludes ask.now.subcommand input result (O.contents out.old) (O.contents out.new) }
     ensures quiet { (result ≡ 0) ⊎ ((result ≡ 4) × (ask.now.subcommand ≡ Replay))
         → Keeps (E.contents err.old) (E.contents err.new) }
+    ensures ended { (limits : LimitsOf) → ask.now.subcommand ≡ LispSession limits → result ≡ 0
+        → IsAtEnd (R.remaining reader.new.reader) }
     ensures late { IsLateStatus result }
 {
     match act(rt, alloc, ask.subcommand, reader, out) {

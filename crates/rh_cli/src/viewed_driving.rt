@@ -1,12 +1,13 @@
 //! Doing what was asked, seen in other ways.
 
 ghost use Rattle.std.specs.Prelude.{◌≡◌, ◌≢◌, ◌⊎◌, List, ℕ, false, IfSome, IfErr, IsOk};
-ghost use Rattle.std.specs.Io.KnownBytes.{Consumes, Keeps};
+ghost use Rattle.std.specs.Io.KnownBytes.{Consumes, IsAtEnd, Keeps};
 ghost use Rattle.rh_cli.specs.Fault.{status_of, status_after, IsLateFault, IsLateStatus};
 ghost use Rattle.rh_text.specs.IoLog.{CountsDown};
 ghost use Rattle.rh_cli.specs.ViewLog.{FlushedSince, ViewLogState};
 ghost use Rattle.rh_cli.specs.Views.{ConcludesViewed, reads_given, viewed_texts};
-ghost use Rattle.rh_cli.specs.declared.ask.Subcommand.TheVariants.{Replay};
+ghost use Rattle.rh_cli.specs.declared.ask.Subcommand.TheVariants.{LispSession, Replay};
+ghost use Rattle.rh_lisp_run.specs.declared.limits.Limits.{Limits as LimitsOf};
 
 use crate::ask::{Ask, Subcommand};
 use crate::driving::{act, tell};
@@ -85,6 +86,9 @@ where
     // Where it is done, and where a history that was read is wrong, nothing is told of a fault.
     ensures quiet { (result ≡ 0) ⊎ ((result ≡ 4) × (ask.now.subcommand ≡ Replay))
         → Keeps (E.contents err.old) (E.contents err.new) }
+    // As of `drive`.
+    ensures ended { (limits : LimitsOf) → ask.now.subcommand ≡ LispSession limits → result ≡ 0
+        → IsAtEnd (R.remaining reader.new.reader) }
     ensures late { IsLateStatus result }
 {
     let mut log = ViewLog::new(reads_for(ask.subcommand));
@@ -143,6 +147,9 @@ where
     // As of `drive_viewed`.
     ensures quiet { (result ≡ 0) ⊎ ((result ≡ 4) × (ask.now.subcommand ≡ Replay))
         → Keeps (E.contents err.old) (E.contents err.new) }
+    // As of `drive`.
+    ensures ended { (limits : LimitsOf) → ask.now.subcommand ≡ LispSession limits → result ≡ 0
+        → IsAtEnd (R.remaining reader.new.reader) }
     ensures late { IsLateStatus result }
     // Each read that was made took one of those that were left.
     ensures reads_counted { CountsDown log.old.reads.left log.old.reads log.new.reads }
@@ -230,6 +237,8 @@ where
           cycles_old = C.contents cycles.old;
           cycles_new = C.contents cycles.new;
         }) }
+    ensures ended { (limits : LimitsOf) → subcommand ≡ LispSession limits
+        → status_after result ≡ 0 → IsAtEnd (R.remaining reader.new) }
     ensures late { IfErr result (λ fault. IsLateFault fault) }
     ensures reads_counted { CountsDown log.old.reads.left log.old.reads log.new.reads }
     ensures flushed { IsOk result → FlushedSince (viewed_texts subcommand) log.old log.new }

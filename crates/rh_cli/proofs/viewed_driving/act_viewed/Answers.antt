@@ -44,3 +44,6 @@ returns-in_default-clause-reads_counted g c = none_counted c.args.log.now.reads
 
 pub returns-in_default-clause-flushed : goal.returns-in_default-clause-flushed
 returns-in_default-clause-flushed g c = λ ok. none_flushed c.args.subcommand c.args.log.now c.in_default.not-Run c.in_default.not-RunPaced c.in_default.not-RunGrowing c.in_default.not-Replay c.in_default.not-Dump
+
+pub returns-in_default-clause-ended : goal.returns-in_default-clause-ended
+returns-in_default-clause-ended g c = c.act.ensures.ended

@@ -1,4 +1,4 @@
-use Rattle.std.proofs.Common.{◌≡◌, refl}
+use Rattle.std.proofs.Common.{◌≡◌, ◌∙◌, refl, sym}
 use Rattle.rh_cli.specs.declared.ask.Subcommand.TheVariants.{Replay}
 use Rattle.rh_text.specs.lemmas.Appends.{Keeps-same}
 use Rattle.rh_cli.specs.Fault.{status_of}
@@ -34,3 +34,9 @@ returns-in-Ok-clause-flushed g c = λ is. c.in-Ok.ensures.flushed refl
 
 pub returns-after-explains-clause-flushed : goal.returns-after-explains-clause-flushed
 returns-after-explains-clause-flushed g c = λ is. absurd (late_is_told (c.args.ask.now.subcommand ≡ Replay) c.tell_as-status.result (status_of c.in-Err.fault) c.tell_as-status.ensures c.in-Err.ensures.late c.in-Err.ensures.check is)
+
+pub returns-in-Ok-clause-ended : goal.returns-in-Ok-clause-ended
+returns-in-Ok-clause-ended g c = λ limits is zero. c.in-Ok.ensures.ended limits is (sym c.status.ensures ∙ zero)
+
+pub returns-after-explains-clause-ended : goal.returns-after-explains-clause-ended
+returns-after-explains-clause-ended g c = λ limits is zero. c.in-Err.ensures.ended limits is (sym c.tell_as-status.ensures ∙ zero)
