@@ -708,23 +708,33 @@ fn a_slow_input_is_explained(rt: HostRuntime) {
     expect_bytes(&rt, &err, told);
 }
 
-/// Whether memory was refused. Where it was refused for the copy alone, the fault is told in its
-/// line, and isn't explained.
+/// What is due at this status in place of an explained fault: want of memory, or where what was told
+/// is shorter the fault in its line.
+fn due_of(status: u8, is_short: bool, told: &[u8]) -> &[u8] {
+    match status {
+        3 => b"rheap: out of memory\n",
+        _ if is_short => b"rheap: line 2: Word\n",
+        _ => told,
+    }
+}
+
+/// Whether memory was refused, at this status and where this was told. Where it was refused for the
+/// copy alone, the fault is told in its line, and isn't explained.
+fn is_cut(rt: &impl Abort, status: u8, err: &[u8], told: &[u8]) -> bool {
+    let is_short = err.len() < told.len();
+    expect_bytes(rt, err, due_of(status, is_short, told));
+    status == 3 || is_short
+}
+
+/// Explains a fault with this memory. Answers whether some was refused.
 fn is_refused<R: AllocGlobal + Abort + Threads + Wait + Sync, A: Allocator + Copy + Send>(
     rt: &R,
     memory: A,
 ) -> bool {
     let (ask, text, told) = MISTYPED;
     let (status, out, err) = explained(rt, memory, &ask, text);
-    let is_short = err.len() < told.len();
-    let due = match status {
-        3 => b"rheap: out of memory\n".as_slice(),
-        _ if is_short => b"rheap: line 2: Word\n",
-        _ => told,
-    };
     expect_equal(rt, (status == 3 || status == 1, out.len()), (true, 0));
-    expect_bytes(rt, &err, due);
-    status == 3 || is_short
+    is_cut(rt, status, &err, told)
 }
 
 #[test]
