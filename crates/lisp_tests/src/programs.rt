@@ -213,6 +213,16 @@ const STOPS: &[(&[u8], &[u8])] = &[
         b"(display (+ 1 (cdr (quote ()))))",
         b"p:1:15: cdr: not a pair",
     ),
+    // An operand of a call is told at its own place.
+    (b"(display\n (car 5))", b"p:2:2: car: not a pair"),
+    (
+        b"(define (f)\n (list 7 (cdr '(1))\n  (* 2 'a)))\n(f)",
+        b"p:3:3: *: not a number",
+    ),
+    (
+        b"(define (f x) x)\n(f 1\n (car '(2)))",
+        b"p:2:1: wrong number of arguments",
+    ),
     (b"(+ 1 'a)", b"p:1:1: +: not a number"),
     (b"(quotient 7 0)", b"p:1:1: quotient: division by zero"),
     (b"(* 1073741824 1073741824)", b"p:1:1: overflow"),
@@ -239,7 +249,7 @@ const STOPS: &[(&[u8], &[u8])] = &[
     ),
     (
         b"(define (keep l) (keep (cons l l))) (keep '())",
-        b"p:1:18: heap exhausted",
+        b"p:1:24: heap exhausted",
     ),
     (b"(display unknown)", b"p:1:10: unknown: unbound variable"),
     (b"(set! unknown 1)", b"p:1:7: unknown: unbound variable"),

@@ -54,7 +54,7 @@ const PROGRAMS: &[(Limits, &[u8], u8, &[u8], &[u8])] = &[
         b"(display 1)\n(define (keep l) (keep (cons l l)))\n(keep '())",
         1,
         b"1",
-        b"p:2:18: heap exhausted\n",
+        b"p:2:24: heap exhausted\n",
     ),
     (
         Limits {
