@@ -1,7 +1,7 @@
 //! Laws of sessions, and of cycles that are read. Each function does nothing: its contract is the
 //! law.
 
-ghost use Rattle.std.specs.Prelude.{◌≡◌, ◌+◌, ◌^◌, ◌<◌, ◌⊎◌, ◌++◌, ℕ, List, true};
+ghost use Rattle.std.specs.Prelude.{◌≡◌, ◌+◌, ◌^◌, ◌<◌, ◌⊎◌, ◌++◌, ℕ, List, length, true};
 ghost use Rattle.rh_core.specs.runs.Programs.{CommandAnswers};
 ghost use Rattle.rh_model.specs.Plain.{PlainHeap};
 ghost use Rattle.rh_mutator.specs.Mutator.{MutatorState, StandsFor};
@@ -51,8 +51,8 @@ pub fn an_entry_prints_what_it_prints_on_the_plain_heap<S, X>()
 ///
 /// - `heap`, `answers`: its commands make the same of the heap, and are answered the same, as where
 ///   they aren't read.
-/// - `in_turn`: the commands at which cycles are told to have ended rise. Counted from 1, none is more
-///   than the steps that may be done.
+/// - `in_turn`: the commands at which cycles are told to have ended rise. They are counted from 1, up
+///   to as many as were answered.
 pub fn cycles_are_read_beside_the_heap<S, X>()
     ensures heap { (paced : S → PacedState) (step : Stepping X S) (given : CommandAnswers → X)
         (n : ℕ) (machine : Control) (s : S)
@@ -64,6 +64,7 @@ pub fn cycles_are_read_beside_the_heap<S, X>()
         ≡ answers_to step asks hears given n machine s }
     ensures in_turn { (paced : S → PacedState) (step : Stepping X S) (given : CommandAnswers → X)
         (n : ℕ) (machine : Control) (s : S) → n < 2 ^ 64
-        → EndInTurn 0 n (heap_after (reading_steps paced step) asks hears given n machine
+        → EndInTurn 0 (length (answers_to step asks hears given n machine s))
+        (heap_after (reading_steps paced step) asks hears given n machine
         (read_from paced s)).ended }
 {}
