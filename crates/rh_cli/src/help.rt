@@ -76,7 +76,7 @@ more was refused; LogFull too, where N is at most 349000 times RATIO.
 
 A run can be seen in other ways. --echo or --json, --history and --cycles can stand together, but
 standard output has one text alone. OUT is a file, or - for standard output in place of answers. It
-is emptied before FILE is read, also where a line has a fault: give it a file of its own.
+keeps what it had until its text comes: a FILE that has a fault leaves it as it was.
   --echo         of each line but the first its number, its text and its answer, with tabs between
   --json         objects of JSON, one a line; a fault is one too
   --history OUT  the commands that no limit refused, with their answers: `rheap replay` reads it

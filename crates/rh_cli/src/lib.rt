@@ -22,6 +22,7 @@ mod lisp;
 mod lisp_arguments;
 mod lisp_cycles;
 mod lisp_session;
+mod output_file;
 mod outputs;
 mod pacing;
 mod program;

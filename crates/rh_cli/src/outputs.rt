@@ -6,13 +6,16 @@ ghost use Rattle.rh_cli.specs.Outputs.{GoesTo, answers_file};
 use crate::arguments::is_output;
 use crate::ask::Views;
 use crate::fault::LineFault;
+use crate::output_file::{OutputFile, output_file};
 use either::{Either, Left, Right};
-use std::fs::File;
 use std::io::{self, Printer, Sink};
 use std::rt::Files;
 
 /// Where a text goes: standard output, a file, or nowhere.
-pub(crate) type Output<'a, R> = Either<Printer<'a, R>, Either<<R as Files>::File, Sink>>;
+pub(crate) type Output<'a, R> = Either<
+    Printer<'a, R>,
+    Either<OutputFile<<R as Files>::File>, Sink>,
+>;
 
 /// Where the text goes for which this file is given: nowhere where none is. `Write` comes where the
 /// file can't be made.
@@ -28,7 +31,7 @@ where
     if name == "-" {
         return Ok(Left(io::writer(rt)));
     }
-    match File::create(rt, name) {
+    match output_file(rt, name) {
         Ok(file) => Ok(Right(Left(file))),
         Err(_) => Err(LineFault::Write),
     }
