@@ -330,18 +330,56 @@ const SIZES: Sizes = Sizes {
     slots: 8,
 };
 
-/// Runs a program on a heap that grows. Answers how it ended; nothing where memory was refused.
-fn run_growing<A: Allocator + Copy>(alloc: A, program: &mut Program<A>) -> Option<Outcome> {
-    let mut heap = GrowingHeap::new(alloc, 20_000).ok()?;
-    Some(program.run(&mut heap))
+/// A heap that grows, to so many words at most.
+pub fn growing_heap<R: AllocGlobal + Abort>(rt: &R, at_most: u32) -> GrowingHeap<Global> {
+    let heap = GrowingHeap::new(rt.alloc(), at_most).ok();
+    heap.expect(rt, "memory is ample")
 }
 
-/// Runs a program on a heap of one size. Answers how it ended, and how often the heap collected;
-/// nothing where memory was refused.
-fn run_paced<A: Allocator + Copy>(alloc: A, program: &mut Program<A>) -> Option<(Outcome, u64)> {
-    let mut heap = PacedHeap::sized(alloc, SIZES).ok()?;
-    let outcome = program.run_on_paced(&mut heap);
-    Some((outcome, heap.stat().flips))
+/// A heap of these sizes.
+fn paced_heap<R: AllocGlobal + Abort>(rt: &R, sizes: Sizes) -> PacedHeap<Global> {
+    let heap = PacedHeap::sized(rt.alloc(), sizes).ok();
+    heap.expect(rt, "memory is ample")
+}
+
+/// Runs a program on a heap that grows. No test needs what is promised of that.
+pub fn run_growing<A: Allocator + Copy>(
+    program: &mut Program<A>,
+    heap: &mut GrowingHeap<A>,
+) -> Outcome {
+    program.run(heap)
+}
+
+/// Runs a program on a heap of one size. No test needs what is promised of that.
+fn run_paced<A: Allocator + Copy>(program: &mut Program<A>, heap: &mut PacedHeap<A>) -> Outcome {
+    program.run_on_paced(heap)
+}
+
+/// Runs a program on a new heap that grows.
+fn outcome_of<R: AllocGlobal + Abort>(rt: &R, program: &mut Program<Global>) -> Outcome {
+    let mut heap = growing_heap(rt, 20_000);
+    run_growing(program, &mut heap)
+}
+
+/// Runs a program on a new heap of one size. Answers how often the heap collected too.
+fn paced_outcome_of<R: AllocGlobal + Abort>(
+    rt: &R,
+    program: &mut Program<Global>,
+) -> (Outcome, u64) {
+    let mut heap = paced_heap(rt, SIZES);
+    let outcome = run_paced(program, &mut heap);
+    (outcome, heap.stat().flips)
+}
+
+/// What a program has printed. No test needs what is promised of that.
+fn printed_by<R: AllocGlobal + Abort>(rt: &R, program: &Program<Global>) -> Printed<Global> {
+    program.printed(rt.alloc()).expect(rt, "memory is ample")
+}
+
+/// Ends the test unless a program has printed this.
+pub fn expect_output<R: AllocGlobal + Abort>(rt: &R, program: &Program<Global>, due: &[u8]) {
+    let printed = printed_by(rt, program);
+    expect_bytes(rt, &printed.output, due);
 }
 
 /// Ends the test unless a program that ended so has this message.
@@ -349,73 +387,74 @@ fn expect_message<R: AllocGlobal + Abort>(
     rt: &R,
     program: &Program<Global>,
     outcome: Outcome,
-    printed: &Printed<Global>,
     due: &[u8],
 ) {
-    let message = program.message(rt.alloc(), b"p", outcome, printed);
+    let printed = printed_by(rt, program);
+    let message = program.message(rt.alloc(), b"p", outcome, &printed);
     expect_bytes(rt, &message.expect(rt, "memory is ample"), due);
-}
-
-/// Ends the test unless a program that ended so printed this, where something is due, and has this
-/// message.
-fn expect_told<R: AllocGlobal + Abort>(
-    rt: &R,
-    program: &Program<Global>,
-    outcome: Outcome,
-    output: Option<&[u8]>,
-    due: &[u8],
-) {
-    let printed = program.printed(rt.alloc()).ok();
-    let printed = printed.expect(rt, "memory is ample");
-    expect_message(rt, program, outcome, &printed, due);
-    if let Some(output) = output {
-        expect_bytes(rt, &printed.output, output);
-    }
 }
 
 /// Runs the program that the text is on a heap that grows, and ends the test unless it prints this,
 /// where something is due, and has this message.
 fn expect_run<R: AllocGlobal + Abort>(rt: &R, text: &[u8], output: Option<&[u8]>, due: &[u8]) {
     let mut program = program_of(rt, text);
-    let outcome = run_growing(rt.alloc(), &mut program).expect(rt, "memory is ample");
-    expect_told(rt, &program, outcome, output, due);
+    let outcome = outcome_of(rt, &mut program);
+    expect_message(rt, &program, outcome, due);
+    if let Some(output) = output {
+        expect_output(rt, &program, output);
+    }
 }
 
 /// Runs the program that the text is on a heap of one size, and ends the test unless it prints
 /// this. Answers how often the heap collected.
 fn expect_run_on_paced<R: AllocGlobal + Abort>(rt: &R, text: &[u8], output: &[u8]) -> u64 {
     let mut program = program_of(rt, text);
-    let (outcome, flips) = run_paced(rt.alloc(), &mut program).expect(rt, "memory is ample");
-    expect_told(rt, &program, outcome, Some(output), b"");
+    let (outcome, flips) = paced_outcome_of(rt, &mut program);
+    expect_message(rt, &program, outcome, b"");
+    expect_output(rt, &program, output);
     flips
+}
+
+/// The program that a text is, which may put out so many characters and spend so many steps, or its
+/// fault. No test needs what is promised of that.
+fn made<A: Allocator + Copy>(
+    alloc: A,
+    text: &[u8],
+    most: u32,
+    steps: u64,
+) -> Result<Program<A>, Fault> {
+    Program::new(alloc, text, most, steps)
 }
 
 /// The program that a text is.
 fn program_of<R: AllocGlobal + Abort>(rt: &R, text: &[u8]) -> Program<Global> {
-    Program::new(rt.alloc(), text, 1_000, 400_000)
-        .ok()
-        .expect(rt, "a program")
+    let program = made(rt.alloc(), text, 1_000, 400_000).ok();
+    program.expect(rt, "a program")
 }
 
-/// A fault in words, with its place.
-pub fn fault_text<A: Allocator + Copy>(alloc: A, fault: Fault) -> Option<String<A>> {
+/// Ends the test unless a fault has these words, with its place.
+pub fn expect_fault<R: AllocGlobal + Abort>(rt: &R, fault: Fault, due: &[u8]) {
     let Fault { position, kind, .. } = fault;
-    format!(in alloc; "{}:{}: {kind}", position.line, position.column).ok()
+    let text = format!(in rt.alloc(); "{}:{}: {kind}", position.line, position.column);
+    let text = text.expect(rt, "memory is ample");
+    expect_bytes(rt, text.as_str().as_bytes(), due);
 }
 
-/// The fault of a text, in words.
-fn fault_of<A: Allocator + Copy>(alloc: A, text: &[u8]) -> Option<String<A>> {
-    match Program::new(alloc, text, 1_000, 400_000) {
-        Ok(_) => None,
-        Err(fault) => fault_text(alloc, fault),
+/// The fault of a text, if it has one.
+fn fault_of<A: Allocator + Copy>(alloc: A, text: &[u8], most: u32, steps: u64) -> Option<Fault> {
+    made(alloc, text, most, steps).err()
+}
+
+/// Runs each of these programs, and ends the test unless it prints what stands beside it.
+fn expect_runs<R: AllocGlobal + Abort>(rt: &R, programs: &[(&[u8], &[u8])]) {
+    for (row, &(text, output)) in programs.iter().enumerate() {
+        expect_run(&Row { rt, row }, text, Some(output), b"");
     }
 }
 
 #[test]
 fn programs_print_what_another_scheme_prints(rt: HostRuntime) {
-    for (row, &(text, output)) in PROGRAMS.iter().enumerate() {
-        expect_run(&Row { rt: &rt, row }, text, Some(output), b"");
-    }
+    expect_runs(&rt, PROGRAMS);
 }
 
 #[test]
@@ -425,50 +464,65 @@ fn a_datum_of_each_kind_is_written_as_its_text(rt: HostRuntime) {
     }
 }
 
+/// The same on heaps of one size. Answers how often they collected.
+fn expect_runs_on_paced<R: AllocGlobal + Abort>(rt: &R, programs: &[(&[u8], &[u8])]) -> u64 {
+    let mut collected = 0u64;
+    for (row, &(text, output)) in programs.iter().enumerate() {
+        let flips = expect_run_on_paced(&Row { rt, row }, text, output);
+        collected = collected.saturating_add(flips);
+    }
+    collected
+}
+
 #[test]
 fn programs_print_the_same_where_the_heap_keeps_its_size(rt: HostRuntime) {
-    let mut collected = false;
-    for (row, &(text, output)) in PROGRAMS.iter().enumerate() {
-        let flips = expect_run_on_paced(&Row { rt: &rt, row }, text, output);
-        collected = collected || 0 < flips;
+    let collected = expect_runs_on_paced(&rt, PROGRAMS);
+    assert!(rt; 0 < collected, "no heap collected");
+}
+
+/// Runs each of these programs, and ends the test unless it has the message beside it.
+fn expect_stops<R: AllocGlobal + Abort>(rt: &R, programs: &[(&[u8], &[u8])]) {
+    for (row, &(text, due)) in programs.iter().enumerate() {
+        expect_run(&Row { rt, row }, text, None, due);
     }
-    assert!(rt; collected, "no heap collected");
 }
 
 #[test]
 fn programs_stop_where_their_messages_say(rt: HostRuntime) {
-    for (row, &(text, due)) in STOPS.iter().enumerate() {
-        expect_run(&Row { rt: &rt, row }, text, None, due);
+    expect_stops(&rt, STOPS);
+}
+
+/// Ends the test unless each of these texts has the fault beside it.
+fn expect_faults<R: AllocGlobal + Abort>(rt: &R, texts: &[(&[u8], &[u8])]) {
+    for (row, &(text, due)) in texts.iter().enumerate() {
+        let rt = Row { rt, row };
+        let fault = fault_of(rt.alloc(), text, 1_000, 400_000);
+        expect_fault(&rt, fault.expect(&rt, "a fault"), due);
     }
 }
 
 #[test]
 fn texts_that_are_no_programs_have_their_first_faults(rt: HostRuntime) {
-    for (row, &(text, due)) in FAULTS.iter().enumerate() {
-        let fault = fault_of(rt.alloc(), text).expect(&rt, "a fault");
-        assert!(rt; fault.as_str().as_bytes() == due, "row {row}: {fault}");
+    expect_faults(&rt, FAULTS);
+}
+
+/// The program for whose making memory is refused.
+const MADE: &[u8] = b"(define (append a b) `(,a #(1) \"x\")) (append 1 2)";
+
+/// Whether there is a fault exactly where memory was refused, and says so.
+fn is_told(fault: Option<Fault>, is_refused: bool) -> bool {
+    match fault {
+        Some(fault) => is_refused && fault.kind == FaultKind::Read(ReadKind::OutOfMemory),
+        None => !is_refused,
     }
 }
 
 /// Whether a program is made exactly where the nth allocation isn't refused, and whether it was.
 fn is_made_unless_refused<A: Allocator + Copy>(alloc: A, nth: u64) -> (bool, bool) {
     let memory = RefusingAllocator::new(alloc, nth);
-    let kind = match Program::new(
-        &memory,
-        b"(define (append a b) `(,a #(1) \"x\")) (append 1 2)",
-        9,
-        9,
-    ) {
-        Ok(_) => None,
-        Err(fault) => Some(fault.kind),
-    };
+    let fault = fault_of(&memory, MADE, 9, 9);
     let is_refused = memory.has_refused();
-    let due = if is_refused {
-        Some(FaultKind::Read(ReadKind::OutOfMemory))
-    } else {
-        None
-    };
-    (kind == due, is_refused)
+    (is_told(fault, is_refused), is_refused)
 }
 
 #[test]

@@ -1,10 +1,10 @@
 //! Sessions: entries that are played one after the other on one heap.
 
 use crate::expectations::{Row, expect_bytes};
-use crate::programs::fault_text;
+use crate::programs::{expect_fault, expect_output, growing_heap, run_growing};
 use refusing::RefusingAllocator;
 use rh_growing::GrowingHeap;
-use rh_lisp::{Program, Session, Typed};
+use rh_lisp::{Fault, Program, Session, Typed};
 use std::alloc::{Allocator, Global};
 use std::process::Abort;
 use std::rt::HostRuntime;
@@ -52,70 +52,102 @@ const TYPED: &[(&[u8], Typed)] = &[
     (b"(1.5", Typed::Whole),
 ];
 
-/// A session, and a heap on which its language has run. Nothing where memory was refused.
-fn begun<A: Allocator + Copy>(alloc: A) -> Option<(Session<A>, GrowingHeap<A>)> {
-    let session = Session::new(alloc);
-    let mut heap = GrowingHeap::new(alloc, 40_000).ok()?;
-    let mut language = session.language(1_000, 400_000).ok()?;
-    language.run(&mut heap);
-    Some((session, heap))
+/// A session's language, which may put out so many characters and spend so many steps. No test
+/// needs what is promised of that.
+fn language_of<A: Allocator + Copy>(
+    session: &Session<A>,
+    most: u32,
+    steps: u64,
+) -> Result<Program<A>, Fault> {
+    session.language(most, steps)
 }
 
-/// Runs a program. Answers what it printed; nothing where memory was refused.
-fn output_of<A: Allocator + Copy>(
-    alloc: A,
-    program: &mut Program<A>,
-    heap: &mut GrowingHeap<A>,
-) -> Option<Vec<u8, A>> {
-    program.run(heap);
-    let printed = program.printed(alloc).ok()?;
-    Some(printed.output)
+/// Runs a session's language on a heap.
+fn run_language(rt: &impl Abort, session: &Session<Global>, heap: &mut GrowingHeap<Global>) {
+    let language = language_of(session, 1_000, 400_000).ok();
+    let mut language = language.expect(rt, "memory is ample");
+    run_growing(&mut language, heap);
 }
 
-/// What a text prints as the next entry, or its fault. Its program is taken back, or it isn't.
-/// Nothing where memory was refused.
-fn answer_to<A: Allocator + Copy>(
-    alloc: A,
+/// The program that a text is as the next entry, which may put out so many characters, or its
+/// fault. No test needs what is promised of that.
+fn entry_of<A: Allocator + Copy>(
     session: &mut Session<A>,
-    heap: &mut GrowingHeap<A>,
-    text: &[u8],
-    takes_back: bool,
-) -> Option<Vec<u8, A>> {
-    match session.entry(text.to_vec(alloc).ok()?, 1_000, 400_000) {
-        Ok(program) => {
-            let mut program = program;
-            let output = output_of(alloc, &mut program, heap);
-            if takes_back {
-                session.take_back(program);
-            }
-            output
-        }
-        Err(fault) => Some(fault_text(alloc, fault)?.into_bytes()),
+    text: Vec<u8, A>,
+    most: u32,
+) -> Result<Program<A>, Fault> {
+    session.entry(text, most, 400_000)
+}
+
+/// Ends the test unless a program prints this.
+fn expect_printed<R: AllocGlobal + Abort>(
+    rt: &R,
+    heap: &mut GrowingHeap<Global>,
+    program: &mut Program<Global>,
+    due: &[u8],
+) {
+    run_growing(program, heap);
+    expect_output(rt, program, due);
+}
+
+/// Takes the program of the last entry back, where that is asked.
+fn take_back_if(asked: bool, session: &mut Session<Global>, program: Program<Global>) {
+    if asked {
+        session.take_back(program);
     }
 }
 
-/// Ends the test unless an entry prints this.
+/// Ends the test unless the program of the last entry prints this. It is taken back, or it isn't.
+fn expect_entry<R: AllocGlobal + Abort>(
+    rt: &R,
+    session: &mut Session<Global>,
+    heap: &mut GrowingHeap<Global>,
+    mut program: Program<Global>,
+    due: &[u8],
+    takes_back: bool,
+) {
+    expect_printed(rt, heap, &mut program, due);
+    take_back_if(takes_back, session, program);
+}
+
+/// Ends the test unless an entry prints this, or has this fault. Its program is taken back, or it
+/// isn't.
 fn expect_answer<R: AllocGlobal + Abort>(
     rt: &R,
     session: &mut Session<Global>,
     heap: &mut GrowingHeap<Global>,
-    entry: (&[u8], &[u8]),
+    (text, due): (&[u8], &[u8]),
     takes_back: bool,
 ) {
-    let answer = answer_to(rt.alloc(), session, heap, entry.0, takes_back);
-    expect_bytes(rt, &answer.expect(rt, "memory is ample"), entry.1);
+    let text = text.to_vec(rt.alloc()).expect(rt, "memory is ample");
+    match entry_of(session, text, 1_000) {
+        Ok(program) => expect_entry(rt, session, heap, program, due, takes_back),
+        Err(fault) => expect_fault(rt, fault, due),
+    }
 }
 
-/// Ends the test unless each entry of a session prints what is due. All programs are taken back, or
-/// each second one.
-fn expect_entries<R: AllocGlobal + Abort>(rt: &R, takes_all: bool) {
-    let (session, heap) = begun(rt.alloc()).expect(rt, "memory is ample");
-    let mut session = session;
-    let mut heap = heap;
-    for (row, &entry) in ENTRIES.iter().enumerate() {
+/// Ends the test unless each of these entries prints what stands beside it. All programs are taken
+/// back, or each second one.
+fn expect_each<R: AllocGlobal + Abort>(
+    rt: &R,
+    session: &mut Session<Global>,
+    heap: &mut GrowingHeap<Global>,
+    entries: &[(&[u8], &[u8])],
+    takes_all: bool,
+) {
+    for (row, &entry) in entries.iter().enumerate() {
         let takes_back = takes_all || row % 2 == 0;
-        expect_answer(&Row { rt, row }, &mut session, &mut heap, entry, takes_back);
+        expect_answer(&Row { rt, row }, session, heap, entry, takes_back);
     }
+}
+
+/// Ends the test unless each entry of a new session prints what is due. All programs are taken
+/// back, or each second one.
+fn expect_entries<R: AllocGlobal + Abort>(rt: &R, takes_all: bool) {
+    let mut session = Session::new(rt.alloc());
+    let mut heap = growing_heap(rt, 40_000);
+    run_language(rt, &session, &mut heap);
+    expect_each(rt, &mut session, &mut heap, ENTRIES, takes_all);
 }
 
 #[test]
@@ -128,39 +160,55 @@ fn programs_need_not_be_taken_back(rt: HostRuntime) {
     expect_entries(&rt, false);
 }
 
+/// Ends the test unless the last entry is the one after a program that is taken back late.
+fn take_back_late<R: AllocGlobal + Abort>(
+    rt: &R,
+    session: &mut Session<Global>,
+    heap: &mut GrowingHeap<Global>,
+) {
+    let text = b"(define zig 1)".to_vec(rt.alloc());
+    let text = text.expect(rt, "memory is ample");
+    let program = entry_of(session, text, 9).ok();
+    let mut program = program.expect(rt, "a program");
+    run_growing(&mut program, heap);
+    let next = (b"(define zag 2) (define zog 3)".as_slice(), b"".as_slice());
+    expect_answer(rt, session, heap, next, false);
+    session.take_back(program);
+}
+
 #[test]
 fn a_program_of_an_earlier_entry_is_not_taken_for_the_last(rt: HostRuntime) {
-    let (session, heap) = begun(rt.alloc()).expect(&rt, "memory is ample");
-    let mut session = session;
-    let mut heap = heap;
-    let text = b"(define zig 1)"
-        .to_vec(rt.alloc())
-        .expect(&rt, "memory is ample");
-    let mut program = session
-        .entry(text, 9, 400_000)
-        .ok()
-        .expect(&rt, "a program");
-    program.run(&mut heap);
-    let next = (b"(define zag 2) (define zog 3)".as_slice(), b"".as_slice());
-    expect_answer(&rt, &mut session, &mut heap, next, false);
-    session.take_back(program);
+    let mut session = Session::new(rt.alloc());
+    let mut heap = growing_heap(&rt, 40_000);
+    run_language(&rt, &session, &mut heap);
+    take_back_late(&rt, &mut session, &mut heap);
     let last = (b"zog".as_slice(), b"3\n".as_slice());
     expect_answer(&rt, &mut session, &mut heap, last, true);
 }
 
+/// What a text is taken for; nothing where memory was refused. No test needs what is promised of
+/// that.
+fn typed<A: Allocator + Copy>(alloc: A, text: &[u8]) -> Option<Typed> {
+    Typed::of(alloc, text).ok()
+}
+
+/// Ends the test unless each of these texts is taken for what stands beside it.
+fn expect_typed<R: AllocGlobal + Abort>(rt: &R, texts: &[(&[u8], Typed)]) {
+    for (row, &(text, due)) in texts.iter().enumerate() {
+        assert!(rt; typed(rt.alloc(), text) == Some(due), "row {row}");
+    }
+}
+
 #[test]
 fn texts_are_typed_to_an_end_or_not(rt: HostRuntime) {
-    for (row, &(text, due)) in TYPED.iter().enumerate() {
-        let typed = Typed::of(rt.alloc(), text).ok();
-        assert!(rt; typed == Some(due), "row {row}");
-    }
+    expect_typed(&rt, TYPED);
 }
 
 /// Whether what was typed is told exactly where the nth allocation isn't refused, and whether it
 /// was.
 fn is_typed_unless_refused<A: Allocator + Copy>(alloc: A, nth: u64) -> (bool, bool) {
     let memory = RefusingAllocator::new(alloc, nth);
-    let is_told = Typed::of(&memory, b"(a \"b\" (c").ok() == Some(Typed::Unfinished);
+    let is_told = typed(&memory, b"(a \"b\" (c") == Some(Typed::Unfinished);
     let is_refused = memory.has_refused();
     (is_told != is_refused, is_refused)
 }
