@@ -122,7 +122,7 @@ fn asked_where_refused<R: AllocGlobal + Abort>(rt: &R, nth: u64) -> (u64, bool) 
         (3, b"", b"rheap: out of memory\n")
     };
     expect_run(rt, &memory, HeapWords::Just(3_200), MAKES, &mut cycles, due);
-    (memory.asked(), cycles == COLUMNS)
+    (memory.asked(), cycles.as_slice() == COLUMNS)
 }
 
 #[test]
