@@ -126,6 +126,11 @@ fn expect_answer<R: AllocGlobal + Abort>(
     }
 }
 
+/// Whether the program of this entry is taken back: all are, or each second one.
+fn is_taken_back(row: usize, takes_all: bool) -> bool {
+    takes_all || row % 2 == 0
+}
+
 /// Ends the test unless each of these entries prints what stands beside it. All programs are taken
 /// back, or each second one.
 fn expect_each<R: AllocGlobal + Abort>(
@@ -136,7 +141,7 @@ fn expect_each<R: AllocGlobal + Abort>(
     takes_all: bool,
 ) {
     for (row, &entry) in entries.iter().enumerate() {
-        let takes_back = takes_all || row % 2 == 0;
+        let takes_back = is_taken_back(row, takes_all);
         expect_answer(&Row { rt, row }, session, heap, entry, takes_back);
     }
 }
