@@ -7,7 +7,7 @@ use rh_dump::{Graph, plain_graph, same_text, write_dump};
 use rh_layout::Command;
 use rh_model::{CommandError, Plain};
 use rh_partial::{PartialReplica, Piece};
-use rh_trace::{Request, config_of, graph, parse, write_answer};
+use rh_trace::{Request, Trace, config_of, graph, parse, write_answer};
 use samples::texts::WITHOUT_FIELDS;
 use std::alloc::Allocator;
 use std::process::Abort;
@@ -129,17 +129,17 @@ fn play_on(
     }
 }
 
-/// Plays a trace on a heap, and its commands on a plain heap too, which answers the same. Answers
-/// both, and what the commands are answered, a line each.
-fn play(rt: &(impl AllocGlobal + Abort), text: &[u8]) -> (Heap, Plain, Vec<u8>) {
-    let trace = parse(rt.alloc(), text).ok().expect(rt, "a trace");
-    let config = config_of(trace.header());
-    let mut heap = Heap::new(rt.alloc(), config).ok().expect(rt, "a heap");
-    let plain = Plain::new(rt.alloc(), config.owners, config.slots);
-    let mut plain = plain.ok().expect(rt, "a plain heap");
-    let mut answers = Vec::new(rt.alloc());
-    play_on(rt, (&mut heap, &mut plain), &mut answers, trace.requests());
-    (heap, plain, answers)
+/// Plays a trace on these heaps, which answer the same, and expects what its commands are answered,
+/// a line each.
+fn play(
+    rt: &(impl AllocGlobal + Abort),
+    (heap, plain): (&mut Heap, &mut Plain),
+    requests: &[Request],
+    answers: &[u8],
+) {
+    let mut answered = Vec::new(rt.alloc());
+    play_on(rt, (heap, plain), &mut answered, requests);
+    expect_bytes(rt, &answered, answers);
 }
 
 /// Expects the text of a graph.
@@ -160,14 +160,24 @@ fn expect_dumps(rt: &(impl AllocGlobal + Abort), heap: &Heap, plain: &Plain, tex
     assert!(rt; same_text(&moving, &still));
 }
 
+/// Plays a trace on a heap, and its commands on a plain heap too, and expects these answers and
+/// this dump of both.
+fn expect_played(rt: &(impl AllocGlobal + Abort), trace: &Trace, answers: &[u8], dump: &[u8]) {
+    let config = config_of(trace.header());
+    let mut heap = Heap::new(rt.alloc(), config).ok().expect(rt, "a heap");
+    let plain = Plain::new(rt.alloc(), config.owners, config.slots);
+    let mut plain = plain.ok().expect(rt, "a plain heap");
+    play(rt, (&mut heap, &mut plain), trace.requests(), answers);
+    expect_dumps(rt, &heap, &plain, dump);
+}
+
 #[test]
 fn heaps_answer_as_plain_heaps_and_have_their_dumps(rt: HostRuntime) {
     let mut played: u32 = 0;
     for (row, &(text, answers, dump)) in PLAYED.iter().enumerate() {
         let rt = Row { rt: &rt, row };
-        let (heap, plain, answered) = play(&rt, text);
-        expect_bytes(&rt, &answered, answers);
-        expect_dumps(&rt, &heap, &plain, dump);
+        let trace = parse(rt.alloc(), text).ok().expect(&rt, "a trace");
+        expect_played(&rt, &trace, answers, dump);
         played = played.saturating_add(1);
     }
     expect_equal(&rt, played, 8);

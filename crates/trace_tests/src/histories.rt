@@ -11,7 +11,6 @@ use rh_trace::{Kind, Write, command_of, write_answer, write_command};
 use samples::devices::SlowWriter;
 use samples::texts::{RIGHT, RIGHT_REPORT, WRONG, WRONG_REPORT, repeated};
 use std::process::Abort;
-use std::test::Fail;
 
 /// A history that tells a raw object as one that isn't, and the report on it.
 const OBJECT_FOR_RAW: &[u8] = b"history 2 2\n1 raw 1.0 2 = object 2\nend 1\n";
@@ -68,15 +67,20 @@ fn expect_verdict(rt: &(impl AllocGlobal + Abort), history: &History, verdict: V
     expect_equal(rt, found, Some(verdict));
 }
 
-/// Expects the report on a history with this verdict, and its text.
-fn expect_reported(
+/// Expects the report on a history with this verdict.
+fn expect_report(
     rt: &(impl AllocGlobal + Abort),
     history: &History,
-    &(text, verdict, told): &(&[u8], Verdict, &[u8]),
+    verdict: &Verdict,
+    told: &[u8],
 ) {
     let mut writer = SlowWriter::new(rt, 1, 0);
-    expect_equal(rt, report(history, &verdict, &mut writer), Ok(()));
+    expect_equal(rt, report(history, verdict, &mut writer), Ok(()));
     expect_bytes(rt, &writer.text, told);
+}
+
+/// Expects the text of a history.
+fn expect_history(rt: &(impl AllocGlobal + Abort), history: &History, text: &[u8]) {
     let mut writer = SlowWriter::new(rt, 1000, 0);
     expect_equal(rt, write_history(history, &mut writer), Ok(()));
     expect_bytes(rt, &writer.text, text);
@@ -84,11 +88,12 @@ fn expect_reported(
 
 #[test]
 fn replays_a_history(rt: HostRuntime) {
-    for (row, played) in HISTORIES.iter().enumerate() {
+    for (row, &(text, verdict, told)) in HISTORIES.iter().enumerate() {
         let rt = Row { rt: &rt, row };
-        let history = history_of(&rt, played.0);
-        expect_verdict(&rt, &history, played.1);
-        expect_reported(&rt, &history, played);
+        let history = history_of(&rt, text);
+        expect_verdict(&rt, &history, verdict);
+        expect_report(&rt, &history, &verdict, told);
+        expect_history(&rt, &history, text);
     }
 }
 
@@ -101,27 +106,31 @@ const NO_RECORDERS: &[(u32, u32, u32, RecorderError)] = &[
     (2, 2, 1_048_577, RecorderError::BadHistory),
 ];
 
-#[test]
-fn a_recorder_takes_as_many_calls_as_its_limit(rt: HostRuntime) -> Result<(), Fail> {
-    let mut recorder = Recorder::new(rt.alloc(), 2, 2, 1).ok().ok_or("a recorder")?;
+/// Notes one call in a recorder of one call, and another one, which is refused.
+fn note_two(rt: &(impl AllocGlobal + Abort), recorder: &mut Recorder) {
     let full = recorder.note(1, &ALLOC, Ok(Reply::Object(1)));
-    expect_equal(&rt, full, Ok(()));
+    expect_equal(rt, full, Ok(()));
     let full = recorder.note(1, &ALLOC, Err(Refusal::NoRoot));
-    expect_equal(&rt, full, Err(TraceFull));
-    expect_equal(&rt, recorder.history().calls().len(), 1);
-    expect_verdict(&rt, recorder.history(), Verdict::Legal(1));
+    expect_equal(rt, full, Err(TraceFull));
+    expect_equal(rt, recorder.history().calls().len(), 1);
+    expect_verdict(rt, recorder.history(), Verdict::Legal(1));
+}
+
+#[test]
+fn a_recorder_takes_as_many_calls_as_its_limit(rt: HostRuntime) {
+    let recorder = Recorder::new(rt.alloc(), 2, 2, 1).ok();
+    note_two(&rt, &mut recorder.expect(&rt, "a recorder"));
     for (row, &(owners, slots, limit, error)) in NO_RECORDERS.iter().enumerate() {
         let rt = Row { rt: &rt, row };
         let made = Recorder::new(rt.alloc(), owners, slots, limit);
         expect_equal(&rt, made.err(), Some(error));
     }
     assert!(rt; Recorder::new(rt.alloc(), 16, 256, 1_048_576).is_ok());
-    Ok(())
 }
 
 /// How many calls a history of this text has, or the fault of the text and its line.
 fn read(rt: &impl AllocGlobal, text: &[u8]) -> Option<Result<usize, (u32, HistoryKind)>> {
-    match read_history(rt.alloc(), text) {
+    match &read_history(rt.alloc(), text) {
         Ok(history) => Some(Ok(history.calls().len())),
         Err(HistoryError::Fault(fault)) => Some(Err((fault.line, fault.kind))),
         Err(HistoryError::OutOfMemory) => None,

@@ -12,6 +12,8 @@ mod faults;
 #[cfg(test)]
 mod histories;
 #[cfg(test)]
+mod parts;
+#[cfg(test)]
 mod reading_dumps;
 #[cfg(test)]
 mod sizes;

@@ -1,60 +1,75 @@
 //! Sizes at which nothing lacks memory, and the texts of errors.
 
-use crate::expectations::{expect_equal, expect_texts};
+use crate::expectations::{ample, expect_equal, expect_texts};
 use rh_core::{Config, DealError, GiveError, Heap};
 use rh_dump::limits::MAX_OBJECTS;
-use rh_dump::{plain_graph, read_dump, same_text, write_dump};
+use rh_dump::{Graph, plain_graph, read_dump, same_text, write_dump};
 use rh_layout::{Command, Operand, Reply, RootId};
 use rh_model::Plain;
 use rh_replay::{Recorder, RecorderError, TraceFull, Verdict, check};
 use rh_trace::{DealRefusal, GiveRefusal, JoinRefusal, graph};
 use std::process::Abort;
-use std::test::Fail;
 
 const A: RootId = RootId { owner: 1, slot: 0 };
 
 const B: RootId = RootId { owner: 1, slot: 1 };
 
-#[test]
-fn the_greatest_history(rt: HostRuntime) -> Result<(), Fail> {
+/// The most calls that a history may have.
+const MOST_CALLS: u32 = 1_048_576;
+
+/// Notes as many calls as there may be. One more is refused.
+fn note_all(rt: &impl Abort, recorder: &mut Recorder) {
     let drop = Command::Drop { root: A };
-    let mut recorder = Recorder::new(rt.alloc(), 2, 2, 1_048_576)
-        .ok()
-        .ok_or("a recorder")?;
-    for _ in 0..1_048_576u32 {
-        expect_equal(&rt, recorder.note(1, &drop, Ok(Reply::Done)), Ok(()));
+    for _ in 0..MOST_CALLS {
+        expect_equal(rt, recorder.note(1, &drop, Ok(Reply::Done)), Ok(()));
     }
     let full = recorder.note(1, &drop, Ok(Reply::Done));
-    expect_equal(&rt, full, Err(TraceFull));
+    expect_equal(rt, full, Err(TraceFull));
+}
+
+#[test]
+fn the_greatest_history(rt: HostRuntime) {
+    let recorder = Recorder::new(rt.alloc(), 2, 2, MOST_CALLS).ok();
+    let mut recorder = recorder.expect(&rt, "a recorder");
+    note_all(&rt, &mut recorder);
     let verdict = check(rt.alloc(), recorder.history()).ok();
-    expect_equal(&rt, verdict, Some(Verdict::Legal(1_048_576)));
-    Ok(())
+    expect_equal(&rt, verdict, Some(Verdict::Legal(MOST_CALLS)));
+}
+
+/// Adds the line of an object of a chain to a dump: it has ten fields.
+fn add_object(rt: &(impl AllocGlobal + Abort), text: &mut Vec<u8>, n: u32) {
+    let next = n.saturating_add(1);
+    let line = format!(in rt.alloc(); "@{n} 10 nil nil nil nil nil 1 2 3 @0 @{next}\n");
+    let line = ample(rt, line);
+    ample(rt, text.extend_from_slice(line.as_bytes()));
 }
 
 /// The dump of a chain of 1,100,000 objects, each with ten fields but the last.
-fn chain(rt: &(impl AllocGlobal + Abort)) -> Result<Vec<u8>, Fail> {
+fn chain(rt: &(impl AllocGlobal + Abort)) -> Vec<u8> {
     let mut text = Vec::new(rt.alloc());
-    text.extend_from_slice(b"rheap 2\nroots 1\n1.0 @0\nobjects 1100000\n")?;
+    let first = b"rheap 2\nroots 1\n1.0 @0\nobjects 1100000\n".as_slice();
+    ample(rt, text.extend_from_slice(first));
     for n in 0..1_099_999u32 {
-        let next = n + 1;
-        let line = format!(in rt.alloc(); "@{n} 10 nil nil nil nil nil 1 2 3 @0 @{next}\n")?;
-        text.extend_from_slice(line.as_bytes())?;
+        add_object(rt, &mut text, n);
     }
-    text.extend_from_slice(b"@1099999 0\nend\n")?;
-    Ok(text)
+    ample(rt, text.extend_from_slice(b"@1099999 0\nend\n"));
+    text
+}
+
+/// Ends the test unless this is the text of a graph.
+fn expect_text_of(rt: &(impl AllocGlobal + Abort), graph: &Graph, text: &[u8]) {
+    let mut written = Vec::new(rt.alloc());
+    expect_equal(rt, write_dump(graph, &mut written), Ok(()));
+    assert!(rt; written.as_slice() == text);
 }
 
 #[test]
-fn a_dump_of_eleven_million_values(rt: HostRuntime) -> Result<(), Fail> {
-    let text = chain(&rt)?;
-    let graph = read_dump(rt.alloc(), &mut { text.as_slice() })
-        .ok()
-        .ok_or("a dump")?;
+fn a_dump_of_eleven_million_values(rt: HostRuntime) {
+    let text = chain(&rt);
+    let graph = read_dump(rt.alloc(), &mut { text.as_slice() }).ok();
+    let graph = graph.expect(&rt, "a dump");
     expect_equal(&rt, graph.objects(), 1_100_000);
-    let mut written = Vec::new(rt.alloc());
-    expect_equal(&rt, write_dump(&graph, &mut written), Ok(()));
-    assert!(rt; written.as_slice() == text.as_slice());
-    Ok(())
+    expect_text_of(&rt, &graph, &text);
 }
 
 /// Sizes for a million objects of one field.
@@ -79,22 +94,32 @@ const LINK: &[Command] = &[
     Command::Copy { dst: B, src: A },
 ];
 
-#[test]
-fn a_chain_of_a_million_objects(rt: HostRuntime) -> Result<(), Fail> {
-    let mut heap = Heap::new(rt.alloc(), LARGE).ok().ok_or("a heap")?;
-    let mut plain = Plain::new(rt.alloc(), 2, 2).ok().ok_or("a plain heap")?;
+/// Makes a chain of 1,100,000 objects in a heap and in a plain heap, which answer the same.
+fn link(rt: &impl Abort, heap: &mut Heap, plain: &mut Plain) {
     for _ in 0..1_100_000u32 {
         for command in LINK {
             let answer = heap.command(1, command).ok();
-            expect_equal(&rt, answer, plain.command(1, command).ok());
+            expect_equal(rt, answer, plain.command(1, command).ok());
         }
     }
-    let moving = graph(rt.alloc(), &heap).ok().ok_or("a graph")?;
+}
+
+/// Ends the test unless a heap and a plain heap have the same graph, of 1,100,000 objects.
+fn expect_same_graph(rt: &(impl AllocGlobal + Abort), heap: &Heap, plain: &Plain) {
+    let moving = graph(rt.alloc(), heap).ok().expect(rt, "a graph");
     assert!(rt; plain.objects() <= MAX_OBJECTS as usize);
-    let never = plain_graph(rt.alloc(), &plain).ok().ok_or("a graph")?;
-    expect_equal(&rt, moving.objects(), 1_100_000);
+    let never = plain_graph(rt.alloc(), plain).ok().expect(rt, "a graph");
+    expect_equal(rt, moving.objects(), 1_100_000);
     assert!(rt; same_text(&moving, &never));
-    Ok(())
+}
+
+#[test]
+fn a_chain_of_a_million_objects(rt: HostRuntime) {
+    let mut heap = Heap::new(rt.alloc(), LARGE).ok().expect(&rt, "a heap");
+    let plain = Plain::new(rt.alloc(), 2, 2).ok();
+    let mut plain = plain.expect(&rt, "a plain heap");
+    link(&rt, &mut heap, &mut plain);
+    expect_same_graph(&rt, &heap, &plain);
 }
 
 /// Why there is no recorder.

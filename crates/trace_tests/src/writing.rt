@@ -2,37 +2,13 @@
 //! fails.
 
 use crate::expectations::{Row, expect_equal, expect_prefix};
-use rh_dump::{read_dump, write_dump};
+use rh_dump::{Graph, read_dump, write_dump};
 use rh_layout::{Command, Operand, Refusal, Reply, RootId};
-use rh_replay::{Verdict, read_history, report, write_history};
-use rh_trace::{Write, parse, print, write_answer, write_command};
+use rh_replay::{History, Verdict, read_history, report, write_history};
+use rh_trace::{Trace, Write, parse, print, write_answer, write_command};
 use samples::devices::SlowWriter;
 use samples::texts::{BESIDE_RAW, RIGHT, RIGHT_REPORT, WHOLE_CYCLE};
 use std::process::Abort;
-use std::test::Fail;
-
-/// Writes a text, three bytes a time, each write failing in turn: a prefix is left then. Answers
-/// how many writes there are.
-fn fail_texts<R, F>(rt: &R, text: &[u8], write: F) -> u32
-where
-    R: AllocGlobal + Abort,
-    F: Fn(&mut SlowWriter) -> Result<(), Write>,
-    requires { F.IsAlwaysCallable write }
-{
-    for nth in 1..1000u32 {
-        let row = nth as usize;
-        let rt = &Row { rt, row };
-        let mut writer = SlowWriter::new(rt, 3, nth);
-        let outcome = write(&mut writer);
-        expect_prefix(rt, text, &writer.text);
-        if writer.writes < nth {
-            expect_equal(rt, (outcome, writer.text.len()), (Ok(()), text.len()));
-            return writer.writes;
-        }
-        assert!(rt; outcome.is_err() && writer.text.len() < text.len());
-    }
-    0
-}
 
 /// A command and an answer, with their texts.
 const COMMAND: Command = Command::Store {
@@ -47,33 +23,98 @@ const ANSWER: Result<Reply, Refusal> = Err(Refusal::IntRange);
 
 const ANSWER_TEXT: &[u8] = b"refused IntRange";
 
-#[test]
-fn texts_are_written_up_to_a_failed_write(rt: HostRuntime) -> Result<(), Fail> {
-    let trace = parse(rt.alloc(), WHOLE_CYCLE).ok().ok_or("a trace")?;
-    let history = read_history(rt.alloc(), RIGHT).ok().ok_or("a history")?;
-    let graph = read_dump(rt.alloc(), &mut { BESIDE_RAW })
-        .ok()
-        .ok_or("a dump")?;
-    let legal = Verdict::Legal(3);
-    let prints = fail_texts(&rt, WHOLE_CYCLE, |writer| print(&trace, writer));
-    let histories = fail_texts(&rt, RIGHT, |writer| write_history(&history, writer));
-    let reports = fail_texts(&rt, RIGHT_REPORT, |writer| report(&history, &legal, writer));
-    let dumps = fail_texts(&rt, BESIDE_RAW, |writer| write_dump(&graph, writer));
-    let commands = fail_texts(&rt, COMMAND_TEXT, |writer| {
-        write_command(1, &COMMAND, writer)
-    });
-    let answers = fail_texts(&rt, ANSWER_TEXT, |writer| write_answer(&ANSWER, writer));
-    let table = [
-        (prints, WHOLE_CYCLE.len()),
-        (histories, RIGHT.len()),
-        (reports, RIGHT_REPORT.len()),
-        (dumps, BESIDE_RAW.len()),
-        (commands, COMMAND_TEXT.len()),
-        (answers, ANSWER_TEXT.len()),
-    ];
-    for (row, &(writes, length)) in table.iter().enumerate() {
-        let rt = Row { rt: &rt, row };
-        assert!(rt; writes as usize >= length / 3);
+/// What is written as a text.
+#[derive(Clone, Copy)]
+enum Source<'a> {
+    Trace(&'a Trace),
+    History(&'a History),
+    /// The report on a history that is legal, of three calls.
+    Report(&'a History),
+    Dump(&'a Graph),
+    Command,
+    Answer,
+}
+
+/// Writes the text of a source.
+fn write(source: Source<'_>, writer: &mut SlowWriter) -> Result<(), Write> {
+    match source {
+        Source::Trace(trace) => print(trace, writer),
+        Source::History(history) => write_history(history, writer),
+        Source::Report(history) => report(history, &Verdict::Legal(3), writer),
+        Source::Dump(graph) => write_dump(graph, writer),
+        Source::Command => write_command(1, &COMMAND, writer),
+        Source::Answer => write_answer(&ANSWER, writer),
     }
-    Ok(())
+}
+
+/// Ends the test unless a writer that fails at its nth write has the whole text, or it has failed
+/// and has a shorter prefix.
+fn expect_written(
+    rt: &impl Abort,
+    text: &[u8],
+    writer: &SlowWriter,
+    (nth, outcome): (u32, Result<(), Write>),
+) {
+    expect_prefix(rt, text, &writer.text);
+    if writer.writes < nth {
+        expect_equal(rt, (outcome, writer.text.len()), (Ok(()), text.len()));
+    } else {
+        assert!(rt; outcome.is_err() && writer.text.len() < text.len());
+    }
+}
+
+/// Writes a text, three bytes a time, with a write that fails. Answers how many writes there were.
+fn fail_at(rt: &(impl AllocGlobal + Abort), text: &[u8], source: Source<'_>, nth: u32) -> u32 {
+    let mut writer = SlowWriter::new(rt, 3, nth);
+    let outcome = write(source, &mut writer);
+    expect_written(rt, text, &writer, (nth, outcome));
+    writer.writes
+}
+
+/// Writes a text, each write failing in turn. Answers how many writes there are.
+fn fail_each(rt: &(impl AllocGlobal + Abort), text: &[u8], source: Source<'_>) -> u32 {
+    for nth in 1..1000u32 {
+        let row = nth as usize;
+        let writes = fail_at(&Row { rt, row }, text, source, nth);
+        if writes < nth {
+            return writes;
+        }
+    }
+    0
+}
+
+/// Writes a text, each write failing in turn: there is one for three bytes or more.
+fn fail_text(rt: &(impl AllocGlobal + Abort), text: &[u8], source: Source<'_>) {
+    let writes = fail_each(rt, text, source);
+    assert!(rt; writes as usize >= text.len() / 3);
+}
+
+/// Writes a trace, each write failing in turn.
+fn fail_trace(rt: &(impl AllocGlobal + Abort)) {
+    let trace = parse(rt.alloc(), WHOLE_CYCLE).ok().expect(rt, "a trace");
+    fail_text(rt, WHOLE_CYCLE, Source::Trace(&trace));
+}
+
+/// Writes a history and a report on it, each write failing in turn.
+fn fail_history(rt: &(impl AllocGlobal + Abort)) {
+    let history = read_history(rt.alloc(), RIGHT).ok();
+    let history = history.expect(rt, "a history");
+    fail_text(rt, RIGHT, Source::History(&history));
+    fail_text(rt, RIGHT_REPORT, Source::Report(&history));
+}
+
+/// Writes a dump, each write failing in turn.
+fn fail_dump(rt: &(impl AllocGlobal + Abort)) {
+    let graph = read_dump(rt.alloc(), &mut { BESIDE_RAW }).ok();
+    let graph = graph.expect(rt, "a dump");
+    fail_text(rt, BESIDE_RAW, Source::Dump(&graph));
+}
+
+#[test]
+fn texts_are_written_up_to_a_failed_write(rt: HostRuntime) {
+    fail_trace(&rt);
+    fail_history(&rt);
+    fail_dump(&rt);
+    fail_text(&rt, COMMAND_TEXT, Source::Command);
+    fail_text(&rt, ANSWER_TEXT, Source::Answer);
 }

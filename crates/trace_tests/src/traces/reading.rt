@@ -1,15 +1,15 @@
 //! Reading and printing traces.
 
-use crate::expectations::{Row, expect_bytes, expect_equal, expect_prefix};
+use crate::expectations::{Row, ample, expect_bytes, expect_equal, expect_prefix};
+use crate::parts::{Part, text_of};
 use crate::texts::{
     DUMPS, FOUR_CYCLES, LARGE_TRAYS, LONG_HEADER, LONG_LINE, RAW_OBJECT, TOO_MANY, TWO_EPOCHS,
     WATCHED,
 };
 use rh_trace::{Kind, Line, ParseError, Request, Trace, TraceFault, Write, parse, print};
 use samples::devices::SlowWriter;
-use samples::texts::{JOINED, WHOLE_CYCLE, WITHOUT_FIELDS, repeated};
+use samples::texts::{JOINED, WHOLE_CYCLE, WITHOUT_FIELDS};
 use std::process::Abort;
-use std::test::Fail;
 
 /// A first line, and one line of each keyword.
 const KEYWORDS: &[u8] =
@@ -89,19 +89,31 @@ fn expect_line(rt: &(impl AllocGlobal + Abort), trace: &Trace, i: usize, text: &
     expect_prefix(rt, shown.as_bytes(), text.as_bytes());
 }
 
+/// Expects the first line of a trace to be shown so.
+fn expect_header(rt: &(impl AllocGlobal + Abort), trace: &Trace, text: &str) {
+    let header = trace.header();
+    let shown = format!(in rt.alloc(); "{header:?}").expect(rt, "memory is ample");
+    expect_equal(rt, shown.as_str(), text);
+}
+
+/// Expects lines of a trace to be shown so, from the first on. Answers how many.
+fn expect_lines(rt: &(impl AllocGlobal + Abort), trace: &Trace, texts: &[&str]) -> u32 {
+    let mut lines: u32 = 0;
+    for (i, text) in texts.iter().enumerate() {
+        expect_line(rt, trace, i, text);
+        lines = lines.saturating_add(1);
+    }
+    lines
+}
+
 #[test]
 fn reads_each_keyword(rt: HostRuntime) {
     let mut lines: u32 = 0;
     for (row, &(text, first, others)) in SHOWN.iter().enumerate() {
         let rt = Row { rt: &rt, row };
         let trace = parse(rt.alloc(), text).expect(&rt, "a trace");
-        let header = trace.header();
-        let shown = format!(in rt.alloc(); "{header:?}").expect(&rt, "memory is ample");
-        expect_equal(&rt, shown.as_str(), first);
-        for (i, line) in others.iter().enumerate() {
-            expect_line(&rt, &trace, i, line);
-            lines = lines.saturating_add(1);
-        }
+        expect_header(&rt, &trace, first);
+        lines = lines.saturating_add(expect_lines(&rt, &trace, others));
     }
     expect_equal(&rt, lines, 31);
     assert!(rt; size_of::<Line>() <= 40 && size_of::<Request>() <= 40);
@@ -124,35 +136,52 @@ const PRINTED: &[&[u8]] = &[
     WATCHED,
 ];
 
+/// Expects this text where a trace is printed.
+fn expect_printed(rt: &(impl AllocGlobal + Abort), trace: &Trace, text: &[u8]) {
+    let mut printed = Vec::new(rt.alloc());
+    expect_equal(rt, print(trace, &mut printed), Ok(()));
+    expect_bytes(rt, &printed, text);
+}
+
+/// Expects the first nine bytes of a text where the fourth write of three bytes fails.
+fn expect_cut(rt: &(impl AllocGlobal + Abort), trace: &Trace, text: &[u8]) {
+    let mut writer = SlowWriter::new(rt, 3, 4);
+    expect_equal(rt, print(trace, &mut writer), Err(Write));
+    expect_bytes(rt, &writer.text, text.split_at(9.min(text.len())).0);
+}
+
 #[test]
 fn prints_what_was_parsed(rt: HostRuntime) {
     for (row, &text) in PRINTED.iter().enumerate() {
         let rt = Row { rt: &rt, row };
         let trace = parse(rt.alloc(), text).expect(&rt, "a trace");
-        let mut printed = Vec::new(rt.alloc());
-        expect_equal(&rt, print(&trace, &mut printed), Ok(()));
-        expect_bytes(&rt, &printed, text);
-        let mut writer = SlowWriter::new(&rt, 3, 4);
-        expect_equal(&rt, print(&trace, &mut writer), Err(Write));
-        expect_bytes(&rt, &writer.text, text.split_at(9.min(text.len())).0);
+        expect_printed(&rt, &trace, text);
+        expect_cut(&rt, &trace, text);
     }
 }
 
-#[test]
-fn the_greatest_trace(rt: HostRuntime) -> Result<(), Fail> {
-    let mut text = repeated(&rt, LONG_HEADER, LONG_LINE, 1_048_575)?;
-    expect_equal(&rt, text.len(), 16_777_216);
-    let trace = parse(rt.alloc(), &text).ok().ok_or("a trace")?;
-    expect_equal(&rt, trace.len(), 1_048_575);
+/// The greatest trace.
+const GREATEST: &[Part] = &[Part::Once(LONG_HEADER), Part::Times(1_048_575, LONG_LINE)];
+
+/// Expects the greatest trace to be read, and printed as it was.
+fn expect_greatest(rt: &(impl AllocGlobal + Abort), text: &[u8]) {
+    expect_equal(rt, text.len(), 16_777_216);
+    let trace = parse(rt.alloc(), text).ok().expect(rt, "a trace");
+    expect_equal(rt, trace.len(), 1_048_575);
     let mut printed = Vec::new(rt.alloc());
-    expect_equal(&rt, print(&trace, &mut printed), Ok(()));
-    assert!(rt; printed.as_slice() == text.as_slice());
-    text.extend_from_slice(b"\n")?;
+    expect_equal(rt, print(&trace, &mut printed), Ok(()));
+    assert!(rt; printed.as_slice() == text);
+}
+
+#[test]
+fn the_greatest_trace(rt: HostRuntime) {
+    let mut text = text_of(&rt, GREATEST);
+    expect_greatest(&rt, &text);
+    ample(&rt, text.extend_from_slice(b"\n"));
     let long = TraceFault {
         line: 1_048_577,
         kind: Kind::Long,
     };
     let found = parse(rt.alloc(), &text).err();
     assert!(rt; matches!(found, Some(ParseError::Fault(found)) if found == long));
-    Ok(())
 }

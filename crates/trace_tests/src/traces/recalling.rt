@@ -1,11 +1,8 @@
 //! Cycles that are recalled or abandoned at each moment, and then brought to their end.
 
-use crate::expectations::Row;
+use crate::expectations::{Row, ample};
 use rh_trace::run_trace;
-use samples::texts::repeated;
-use std::alloc::AllocError;
 use std::process::Abort;
-use std::test::Fail;
 
 /// The first lines of a trace: two objects, of which the first refers to the second.
 const FIRST: &[u8] =
@@ -43,22 +40,18 @@ const LAST: &[u8] = b"\nrheap 2\nroots 2\n1.0 @0\n1.1 @1\nobjects 2\n@0 2 6 @1\n
         total commands 8 refused 0 flips 1 rootwords 2\n";
 
 /// The trace with a line before the one at this position of its cycle, and with an end.
-fn interrupted(
-    rt: &impl AllocGlobal,
-    moment: usize,
-    line: &[u8],
-    end: &[u8],
-) -> Result<Vec<u8>, AllocError> {
-    let mut text = repeated(rt, FIRST, b"", 0)?;
+fn interrupted(rt: &(impl AllocGlobal + Abort), moment: usize, line: &[u8], end: &[u8]) -> Vec<u8> {
+    let mut text = Vec::new(rt.alloc());
+    ample(rt, text.extend_from_slice(FIRST));
     for (position, part) in CYCLE.iter().enumerate() {
         if position == moment {
-            text.extend_from_slice(line)?;
+            ample(rt, text.extend_from_slice(line));
         }
-        text.extend_from_slice(part)?;
+        ample(rt, text.extend_from_slice(part));
     }
-    text.extend_from_slice(end)?;
-    text.extend_from_slice(FINISH)?;
-    Ok(text)
+    ample(rt, text.extend_from_slice(end));
+    ample(rt, text.extend_from_slice(FINISH));
+    text
 }
 
 /// Runs a trace, and expects its last answers.
@@ -76,7 +69,7 @@ fn expect_last(rt: &(impl AllocGlobal + Abort), text: &[u8]) {
 }
 
 #[test]
-fn a_cycle_is_recalled_or_abandoned_at_each_moment(rt: HostRuntime) -> Result<(), Fail> {
+fn a_cycle_is_recalled_or_abandoned_at_each_moment(rt: HostRuntime) {
     for moment in 1..CYCLE.len() {
         let rt = Row {
             rt: &rt,
@@ -84,9 +77,8 @@ fn a_cycle_is_recalled_or_abandoned_at_each_moment(rt: HostRuntime) -> Result<()
         };
         for (row, &(line, end)) in ENDS.iter().enumerate() {
             let rt = Row { rt: &rt, row };
-            let text = interrupted(&rt, moment, line, end)?;
-            expect_last(&rt, text.as_slice());
+            let text = interrupted(&rt, moment, line, end);
+            expect_last(&rt, &text);
         }
     }
-    Ok(())
 }

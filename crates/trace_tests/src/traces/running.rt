@@ -1,6 +1,7 @@
 //! Runs of traces.
 
-use crate::expectations::{Row, expect_bytes, expect_equal, expect_prefix, expect_refusals};
+use crate::expectations::{Row, ample, expect_bytes, expect_equal, expect_prefix, expect_refusals};
+use crate::parts::{Part, text_of};
 use crate::texts::{
     DUMPS, DUMPS_ANSWERS, FOUR_CYCLES, FOUR_CYCLES_ANSWERS, LARGE_TRAYS, LARGE_TRAYS_ANSWERS,
     LONG_ANSWER, LONG_HEADER, LONG_LINE, RAW_OBJECT, RAW_OBJECT_ANSWERS, RESIZED, RESIZED_ANSWERS,
@@ -11,12 +12,25 @@ use rh_trace::{RunFault, Summary, run_trace};
 use samples::devices::{SlowReader, SlowWriter};
 use samples::texts::{
     JOINED, JOINED_ANSWERS, WHOLE_CYCLE, WHOLE_CYCLE_ANSWERS, WITHOUT_FIELDS,
-    WITHOUT_FIELDS_ANSWERS, add_numbered, repeated, without_last_line,
+    WITHOUT_FIELDS_ANSWERS, without_last_line,
 };
 use std::alloc::Allocator;
 use std::cell::Cell;
 use std::process::Abort;
-use std::test::Fail;
+
+/// Ends the test unless answers end with the line of this summary.
+fn expect_total(rt: &(impl AllocGlobal + Abort), summary: Summary, answers: &[u8]) {
+    let Summary {
+        commands,
+        refused,
+        flips,
+        root_words,
+    } = summary;
+    let total = format!(in rt.alloc();
+        "\ntotal commands {commands} refused {refused} flips {flips} rootwords {root_words}\n"
+    );
+    assert!(rt; answers.ends_with(ample(rt, total).as_bytes()));
+}
 
 /// Runs a trace, which is read a byte a time and whose answers are taken so many bytes a time, and
 /// expects these answers, and the summary that their last line tells. Answers in how many writes
@@ -30,17 +44,21 @@ fn expect_run(
     let mut writer = SlowWriter::new(rt, most, 0);
     let outcome = run_trace(rt.alloc(), &mut reader, &mut writer);
     expect_bytes(rt, &writer.text, answers);
-    let Summary {
-        commands,
-        refused,
-        flips,
-        root_words,
-    } = outcome.expect(rt, "a run");
-    let total = format!(in rt.alloc();
-        "\ntotal commands {commands} refused {refused} flips {flips} rootwords {root_words}\n"
-    ).expect(rt, "memory is ample");
-    assert!(rt; answers.ends_with(total.as_bytes()));
+    expect_total(rt, outcome.expect(rt, "a run"), answers);
     writer.writes
+}
+
+/// Runs a trace of these parts, and expects answers of those. Answers in how many writes they came,
+/// of so many bytes at most.
+fn expect_long_run(
+    rt: &(impl AllocGlobal + Abort),
+    input: &[Part],
+    answers: &[Part],
+    most: usize,
+) -> u32 {
+    let input = text_of(rt, input);
+    let answers = text_of(rt, answers);
+    expect_run(rt, (&input, &answers), most)
 }
 
 /// Traces, each with its answers, and how many lines these are.
@@ -71,87 +89,107 @@ fn answers_each_in_one_write(rt: HostRuntime) {
     }
 }
 
+/// A hundred cycles of a heap without objects, and their answers.
+const CYCLES: &[Part] = &[
+    Part::Once(b"heap 16 8 4 2 2\n"),
+    Part::Times(100, b"begin\nflip\n"),
+];
+
+const CYCLES_ANSWERS: &[Part] = &[
+    Part::Numbered(100, "cycle ", "\nflipped roots 0 live 0\n"),
+    Part::Once(b"total commands 0 refused 0 flips 100 rootwords 0\n"),
+];
+
 #[test]
-fn a_hundred_cycles(rt: HostRuntime) -> Result<(), Fail> {
-    let text = repeated(&rt, b"heap 16 8 4 2 2\n", b"begin\nflip\n", 100)?;
-    let mut answers = Vec::new(rt.alloc());
-    add_numbered(
-        &rt,
-        &mut answers,
-        100,
-        ("cycle ", "\nflipped roots 0 live 0\n"),
-    )?;
-    answers.extend_from_slice(b"total commands 0 refused 0 flips 100 rootwords 0\n")?;
-    expect_equal(&rt, expect_run(&rt, (&text, &answers), 1000), 201);
-    Ok(())
+fn a_hundred_cycles(rt: HostRuntime) {
+    let writes = expect_long_run(&rt, CYCLES, CYCLES_ANSWERS, 1000);
+    expect_equal(&rt, writes, 201);
 }
 
+/// As many tickets as there may be for one object, one more, and a cycle in which it goes; and the
+/// answers.
+const TICKETS: &[Part] = &[
+    Part::Once(b"heap 16 8 4 2 2\n1 alloc 1.0 0\ntickets 65536\n"),
+    Part::Times(65_536, b"1 watch 1.0\n"),
+    Part::Once(b"1 watch 1.0\n1 drop 1.0\nbegin\nflip\ngone\ngone\n"),
+];
+
+const TICKETS_ANSWERS: &[Part] = &[
+    Part::Once(b"object 0\ntickets 65536\nticket 0\n"),
+    Part::Numbered(65_535, "ticket ", "\n"),
+    Part::Once(b"refused Full\ndone\ncycle 1\nflipped roots 0 live 0\ngone 0"),
+    Part::Numbered(65_535, " ", ""),
+    Part::Once(b"\ngone none\ntotal commands 2 refused 0 flips 1 rootwords 0\n"),
+];
+
 #[test]
-fn many_tickets_are_told_in_one_write(rt: HostRuntime) -> Result<(), Fail> {
-    let first = b"heap 16 8 4 2 2\n1 alloc 1.0 0\ntickets 65536\n";
-    let mut text = repeated(&rt, first, b"1 watch 1.0\n", 65_536)?;
-    text.extend_from_slice(b"1 watch 1.0\n1 drop 1.0\nbegin\nflip\ngone\ngone\n")?;
-    let mut answers = repeated(&rt, b"object 0\ntickets 65536\n", b"ticket 0\n", 1)?;
-    add_numbered(&rt, &mut answers, 65_535, ("ticket ", "\n"))?;
-    answers.extend_from_slice(b"refused Full\ndone\ncycle 1\nflipped roots 0 live 0\ngone 0")?;
-    add_numbered(&rt, &mut answers, 65_535, (" ", ""))?;
-    answers.extend_from_slice(b"\ngone none\ntotal commands 2 refused 0 flips 1 rootwords 0\n")?;
-    expect_equal(&rt, expect_run(&rt, (&text, &answers), 1_000_000), 65_545);
-    Ok(())
+fn many_tickets_are_told_in_one_write(rt: HostRuntime) {
+    let writes = expect_long_run(&rt, TICKETS, TICKETS_ANSWERS, 1_000_000);
+    expect_equal(&rt, writes, 65_545);
 }
 
-/// The first lines of a trace in which an object is placed, with credit for one item.
-const PLACED: &[u8] =
-    b"heap 64 1 8 2 2\n1 alloc 1.0 1\nbegin\n1 alloc 1.1 7\n1 drop 1.1\nshade 1.0\n";
+/// An object is placed, with credit for one item. The trace has 64 trays then, t1 to t64, and goes
+/// on about more of them.
+const MANY_TRAYS: &[Part] = &[
+    Part::Once(b"heap 64 1 8 2 2\n1 alloc 1.0 1\nbegin\n1 alloc 1.1 7\n1 drop 1.1\nshade 1.0\n"),
+    Part::Numbered(64, "deal copies 0 t", "\n"),
+    Part::Once(
+        b"deal copies 0 t65\ndeal entries 1 t65\ndeal entries 1 t64\njoin t65 t1\njoin t65 t66\n\
+            join t1 t64\ndeal copies 1 t64\ngive t65\ntrays\n",
+    ),
+];
 
-/// Lines of a trace that has 64 trays, t1 to t64.
-const BEYOND: &[u8] =
-    b"deal copies 0 t65\ndeal entries 1 t65\ndeal entries 1 t64\njoin t65 t1\njoin t65 t66\n\
-        join t1 t64\ndeal copies 1 t64\ngive t65\ntrays\n";
-
-/// What is answered to these, before the trays.
-const BEYOND_ANSWERS: &[u8] =
-    b"refused TooManyTrays\nrefused TooManyTrays\nrefused NothingToDeal\nrefused TooManyTrays\n\
-        refused NoTray\njoined 0\ndealt 1 passed 0\nrefused NoTray\n";
-
-/// The last tray, and what is counted.
-const BEYOND_LAST: &[u8] =
-    b"tray t64 epoch 1 entries 1\ntotal commands 3 refused 0 flips 0 rootwords 0\n";
+const MANY_TRAYS_ANSWERS: &[Part] = &[
+    Part::Once(b"object 1\ncycle 1\nobject 7\ndone\nplaced\n"),
+    Part::Times(64, b"dealt 0 passed 0\n"),
+    Part::Once(
+        b"refused TooManyTrays\nrefused TooManyTrays\nrefused NothingToDeal\n\
+            refused TooManyTrays\nrefused NoTray\njoined 0\ndealt 1 passed 0\nrefused NoTray\n",
+    ),
+    Part::Numbered(63, "tray t", " epoch 1 entries 0\n"),
+    Part::Once(b"tray t64 epoch 1 entries 1\ntotal commands 3 refused 0 flips 0 rootwords 0\n"),
+];
 
 #[test]
-fn a_trace_has_64_trays(rt: HostRuntime) -> Result<(), Fail> {
-    let mut text = repeated(&rt, PLACED, b"", 0)?;
-    add_numbered(&rt, &mut text, 64, ("deal copies 0 t", "\n"))?;
-    text.extend_from_slice(BEYOND)?;
-    let first = b"object 1\ncycle 1\nobject 7\ndone\nplaced\n";
-    let mut answers = repeated(&rt, first, b"dealt 0 passed 0\n", 64)?;
-    answers.extend_from_slice(BEYOND_ANSWERS)?;
-    add_numbered(&rt, &mut answers, 63, ("tray t", " epoch 1 entries 0\n"))?;
-    answers.extend_from_slice(BEYOND_LAST)?;
-    expect_run(&rt, (&text, &answers), 1000);
-    Ok(())
+fn a_trace_has_64_trays(rt: HostRuntime) {
+    expect_long_run(&rt, MANY_TRAYS, MANY_TRAYS_ANSWERS, 1000);
 }
 
-#[test]
-fn the_greatest_trace(rt: HostRuntime) -> Result<(), Fail> {
-    let mut text = repeated(&rt, LONG_HEADER, LONG_LINE, 1_048_575)?;
+/// The greatest trace, its answers, and what these add up to.
+const GREATEST: &[Part] = &[Part::Once(LONG_HEADER), Part::Times(1_048_575, LONG_LINE)];
+
+const GREATEST_ANSWERS: &[Part] = &[
+    Part::Times(1_048_575, LONG_ANSWER),
+    Part::Once(b"total commands 1048575 refused 0 flips 0 rootwords 0\n"),
+];
+
+const GREATEST_SUMMARY: Summary = Summary {
+    commands: 1_048_575,
+    refused: 0,
+    flips: 0,
+    root_words: 0,
+};
+
+/// Ends the test unless a run of a trace has this outcome and writes these answers.
+fn expect_outcome(
+    rt: &(impl AllocGlobal + Abort),
+    text: &[u8],
+    outcome: Result<Summary, RunFault>,
+    answers: &[u8],
+) {
     let mut written = Vec::new(rt.alloc());
-    let outcome = run_trace(rt.alloc(), &mut { text.as_slice() }, &mut written);
-    let summary = Summary {
-        commands: 1_048_575,
-        refused: 0,
-        flips: 0,
-        root_words: 0,
-    };
-    expect_equal(&rt, outcome, Ok(summary));
-    let mut answers = repeated(&rt, b"", LONG_ANSWER, 1_048_575)?;
-    answers.extend_from_slice(b"total commands 1048575 refused 0 flips 0 rootwords 0\n")?;
-    assert!(rt; written.as_slice() == answers.as_slice());
-    text.push(b'\n')?;
-    let outcome = run_trace(rt.alloc(), &mut { text.as_slice() }, &mut written);
-    expect_equal(&rt, outcome, Err(RunFault::Long));
-    expect_equal(&rt, written.len(), answers.len());
-    Ok(())
+    let ended = run_trace(rt.alloc(), &mut { text }, &mut written);
+    expect_equal(rt, ended, outcome);
+    assert!(rt; written.as_slice() == answers);
+}
+
+#[test]
+fn the_greatest_trace(rt: HostRuntime) {
+    let mut text = text_of(&rt, GREATEST);
+    let answers = text_of(&rt, GREATEST_ANSWERS);
+    expect_outcome(&rt, &text, Ok(GREATEST_SUMMARY), &answers);
+    ample(&rt, text.extend_from_slice(b"\n"));
+    expect_outcome(&rt, &text, Err(RunFault::Long), b"");
 }
 
 #[test]
@@ -173,8 +211,24 @@ fn interrupted_writes_are_made_again(rt: HostRuntime) {
     }
 }
 
-/// Runs a trace. Answers how many writes were made before memory was refused, if it was: then what
-/// is written is a prefix of the answers before their total line.
+/// How many writes a run made before memory was refused, if it was: then what is written is a
+/// prefix of the answers before their total line.
+fn writes_of(
+    rt: &impl Abort,
+    outcome: Result<Summary, RunFault>,
+    writer: &SlowWriter,
+    answers: &[u8],
+) -> Option<u32> {
+    if outcome.is_ok() {
+        expect_bytes(rt, &writer.text, answers);
+        return None;
+    }
+    expect_equal(rt, outcome, Err(RunFault::OutOfMemory));
+    expect_prefix(rt, without_last_line(answers), &writer.text);
+    Some(writer.writes)
+}
+
+/// Runs a trace. Answers how many writes were made before memory was refused, if it was.
 fn writes_before_refusal<A: Allocator + Copy>(
     rt: &(impl AllocGlobal + Abort),
     memory: A,
@@ -184,13 +238,16 @@ fn writes_before_refusal<A: Allocator + Copy>(
     let mut reader = SlowReader::new(input, 0);
     let mut writer = SlowWriter::new(rt, 1000, 0);
     let outcome = run_trace(memory, &mut reader, &mut writer);
-    if outcome.is_ok() {
-        expect_bytes(rt, &writer.text, answers);
-        return None;
-    }
-    expect_equal(rt, outcome, Err(RunFault::OutOfMemory));
-    expect_prefix(rt, without_last_line(answers), &writer.text);
-    Some(writer.writes)
+    writes_of(rt, outcome, &writer, answers)
+}
+
+/// Notes before how many writes memory was refused, if it was. Answers whether it was.
+fn note_writes(seen: &Cell<u32>, writes: Option<u32>) -> bool {
+    let Some(writes) = writes else {
+        return false;
+    };
+    seen.set(seen.get() | 1_u32.wrapping_shl(writes));
+    true
 }
 
 /// Runs a trace, each of its allocations refused in turn, and expects so many refusals or more.
@@ -203,24 +260,25 @@ fn writes_before_refusals(
 ) -> u32 {
     let seen = Cell::new(0_u32);
     let refused = refused_in_turn(rt.alloc(), |memory| {
-        match writes_before_refusal(rt, memory, input, answers) {
-            Some(writes) => {
-                seen.set(seen.get() | 1_u32.wrapping_shl(writes));
-                true
-            }
-            None => false,
-        }
+        note_writes(&seen, writes_before_refusal(rt, memory, input, answers))
     });
     expect_refusals(rt, refused, least);
     seen.get()
 }
 
+/// Forty-eight commands, and their answers.
+const COMMANDS: &[Part] = &[Part::Once(LONG_HEADER), Part::Times(48, LONG_LINE)];
+
+const COMMANDS_ANSWERS: &[Part] = &[
+    Part::Times(48, LONG_ANSWER),
+    Part::Once(b"total commands 48 refused 0 flips 0 rootwords 0\n"),
+];
+
 #[test]
-fn refused_memory(rt: HostRuntime) -> Result<(), Fail> {
-    let text = repeated(&rt, LONG_HEADER, LONG_LINE, 48)?;
-    let mut answers = repeated(&rt, b"", LONG_ANSWER, 48)?;
-    answers.extend_from_slice(b"total commands 48 refused 0 flips 0 rootwords 0\n")?;
+fn refused_memory(rt: HostRuntime) {
     // Commands want no memory.
+    let text = text_of(&rt, COMMANDS);
+    let answers = text_of(&rt, COMMANDS_ANSWERS);
     let seen = writes_before_refusals(&rt, (&text, &answers), 12);
     expect_equal(&rt, seen, 0b1);
     // A dump wants some: one comes after the first answer, and one after sixteen.
@@ -228,7 +286,6 @@ fn refused_memory(rt: HostRuntime) -> Result<(), Fail> {
     expect_equal(&rt, seen & 0b11, 0b11);
     let seen = writes_before_refusals(&rt, (RAW_OBJECT, RAW_OBJECT_ANSWERS), 8);
     expect_equal(&rt, (seen >> 16) & 1, 1);
-    Ok(())
 }
 
 /// Traces that use trays, one whose spaces get other sizes, and one that watches objects, with their

@@ -249,26 +249,36 @@ fn writer(rt: &impl AllocGlobal, fails: bool, nth: u32) -> SlowWriter {
     SlowWriter::new(rt, 1000, if fails { nth } else { 0 })
 }
 
-/// Runs a view on writers of which one fails at its nth write, and expects prefixes of its texts; of
-/// what is told a whole one only if the run is done. Answers whether it is.
-fn is_done(rt: &(impl AllocGlobal + Abort), view: &View, failing: Failing, nth: u32) -> bool {
+/// Expects prefixes of the three texts of a view.
+fn expect_prefixes(rt: &impl Abort, view: &View, (out, noted, cycles): (&[u8], &[u8], &[u8])) {
     let [told, history, lines] = view.texts;
-    let mut out = writer(rt, matches!(failing, Failing::Out), nth);
-    let mut noted = writer(rt, matches!(failing, Failing::History), nth);
-    let mut cycles = writer(rt, matches!(failing, Failing::Cycles), nth);
-    let done = run(rt.alloc(), view, &mut out, &mut noted, &mut cycles);
-    expect_prefix(rt, told, &out.text);
-    expect_prefix(rt, history, &noted.text);
-    match cycles.text.strip_prefix(COLUMNS) {
+    expect_prefix(rt, told, out);
+    expect_prefix(rt, history, noted);
+    match cycles.strip_prefix(COLUMNS) {
         Some(rest) => expect_prefix(rt, lines, rest),
-        None => expect_prefix(rt, COLUMNS, &cycles.text),
+        None => expect_prefix(rt, COLUMNS, cycles),
     }
+}
+
+/// Whether a run is done. If not, a write has failed, and not all is told.
+fn is_whole(rt: &impl Abort, view: &View, done: Result<(), Fault>, out: &[u8]) -> bool {
     if done.is_ok() {
         return true;
     }
     expect_equal(rt, done, Err(Fault::Write));
-    assert!(rt; out.text.len() < told.len());
+    assert!(rt; out.len() < view.texts[0].len());
     false
+}
+
+/// Runs a view on writers of which one fails at its nth write, and expects prefixes of its texts; of
+/// what is told a whole one only if the run is done. Answers whether it is.
+fn is_done(rt: &(impl AllocGlobal + Abort), view: &View, failing: Failing, nth: u32) -> bool {
+    let mut out = writer(rt, matches!(failing, Failing::Out), nth);
+    let mut noted = writer(rt, matches!(failing, Failing::History), nth);
+    let mut cycles = writer(rt, matches!(failing, Failing::Cycles), nth);
+    let done = run(rt.alloc(), view, &mut out, &mut noted, &mut cycles);
+    expect_prefixes(rt, view, (&out.text, &noted.text, &cycles.text));
+    is_whole(rt, view, done, &out.text)
 }
 
 /// How many writes of a writer failed in turn before the run was done.
@@ -281,19 +291,28 @@ fn failed_writes(rt: &(impl AllocGlobal + Abort), view: &View, failing: Failing)
     0
 }
 
+/// Expects the three texts of a view.
+fn expect_whole(rt: &impl Abort, view: &View, (out, noted, cycles): (&[u8], &[u8], &[u8])) {
+    let [told, history, lines] = view.texts;
+    expect_bytes(rt, out, told);
+    expect_bytes(rt, noted, history);
+    expect_prefix(rt, cycles, COLUMNS);
+    expect_bytes(rt, cycles.strip_prefix(COLUMNS).unwrap_or(b""), lines);
+}
+
+/// Runs a view, and expects its three texts.
+fn expect_view(rt: &(impl AllocGlobal + Abort), view: &View) {
+    let (mut out, mut noted) = (Vec::new(rt.alloc()), Vec::new(rt.alloc()));
+    let mut cycles = Vec::new(rt.alloc());
+    let done = run(rt.alloc(), view, &mut out, &mut noted, &mut cycles);
+    expect_equal(rt, done, Ok(()));
+    expect_whole(rt, view, (&out, &noted, &cycles));
+}
+
 #[test]
 fn each_way_gives_its_three_texts(rt: HostRuntime) {
     for (row, view) in VIEWS.iter().enumerate() {
-        let rt = Row { rt: &rt, row };
-        let [told, history, lines] = view.texts;
-        let (mut out, mut noted) = (Vec::new(rt.alloc()), Vec::new(rt.alloc()));
-        let mut cycles = Vec::new(rt.alloc());
-        let done = run(rt.alloc(), view, &mut out, &mut noted, &mut cycles);
-        expect_equal(&rt, done, Ok(()));
-        expect_bytes(&rt, &out, told);
-        expect_bytes(&rt, &noted, history);
-        expect_prefix(&rt, &cycles, COLUMNS);
-        expect_bytes(&rt, cycles.strip_prefix(COLUMNS).unwrap_or(b""), lines);
+        expect_view(&Row { rt: &rt, row }, view);
     }
 }
 
@@ -306,19 +325,24 @@ fn each_write_fails_in_turn(rt: HostRuntime) {
     expect_equal(&rt, failed_writes(&rt, view, Failing::Cycles), 2);
 }
 
-/// Whether memory was refused. Then nothing of the history was written.
-fn is_refused<A: Allocator + Copy>(rt: &(impl AllocGlobal + Abort), memory: A) -> bool {
-    let view = &VIEWS[1];
-    let (mut out, mut noted) = (Vec::new(rt.alloc()), Vec::new(rt.alloc()));
-    let mut cycles = Vec::new(rt.alloc());
-    let done = run(memory, view, &mut out, &mut noted, &mut cycles);
-    expect_prefix(rt, view.texts[0], &out);
+/// Whether a run was cut short, for want of memory. Then nothing of the history was written.
+fn is_cut(rt: &impl Abort, done: Result<(), Fault>, noted: &[u8]) -> bool {
     if done.is_ok() {
         return false;
     }
     expect_equal(rt, done, Err(Fault::OutOfMemory));
     expect_equal(rt, noted.len(), 0);
     true
+}
+
+/// Whether memory was refused.
+fn is_refused<A: Allocator + Copy>(rt: &(impl AllocGlobal + Abort), memory: A) -> bool {
+    let view = &VIEWS[1];
+    let (mut out, mut noted) = (Vec::new(rt.alloc()), Vec::new(rt.alloc()));
+    let mut cycles = Vec::new(rt.alloc());
+    let done = run(memory, view, &mut out, &mut noted, &mut cycles);
+    expect_prefix(rt, view.texts[0], &out);
+    is_cut(rt, done, &noted)
 }
 
 #[test]
