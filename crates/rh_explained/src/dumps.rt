@@ -1,6 +1,7 @@
 //! Where a dump fails.
 
-ghost use Rattle.std.specs.Prelude.{◌≤◌, length};
+ghost use Rattle.rh_explained.specs.Line.{line_at};
+ghost use Rattle.rh_explained.specs.Spot.{IsInLine};
 
 use crate::due::Due;
 use crate::lines::{count_parts, nth_line, number_at, part_at};
@@ -36,7 +37,7 @@ struct Before {
 
 /// The spot of a dump's fault that reading told.
 pub fn dump_spot<'a>(text: &'a [u8], fault: DumpFault) -> Spot<'a>
-    ensures { (result.begins ≤ result.ends) × (result.ends ≤ length result.line.now) }
+    ensures { IsInLine fault.line (line_at fault.line text.now).bytes result }
 {
     let number = fault.line;
     let (line, _) = nth_line(text, number);
@@ -45,7 +46,7 @@ pub fn dump_spot<'a>(text: &'a [u8], fault: DumpFault) -> Spot<'a>
         DumpKind::Long => at_line(number, line, Told::LongDump),
         DumpKind::Trailing => at_line(number, line, Told::AfterEnd),
         DumpKind::End => end_spot(number, line, before.due),
-        DumpKind::Header => header_spot(line),
+        DumpKind::Header => header_spot(number, line),
         DumpKind::Form => form_spot(number, line, &before),
         DumpKind::Number | DumpKind::Order | DumpKind::Count => {
             part_spot(number, line, &before, fault.kind)
@@ -150,7 +151,7 @@ fn after_line(before: &Before, roots: u32, line: &[u8]) -> (Before, u32) {
 
 /// The spot of a text that ends too early.
 fn end_spot<'a>(number: u32, line: &'a [u8], due: Due) -> Spot<'a>
-    ensures { (result.begins ≤ result.ends) × (result.ends ≤ length result.line.now) }
+    ensures { IsInLine number line.now result }
 {
     let told = match due {
         _ if !line.is_empty() => Told::Line(Why::Unended),
@@ -167,27 +168,27 @@ fn end_spot<'a>(number: u32, line: &'a [u8], due: Due) -> Spot<'a>
 }
 
 /// The spot of a first line that isn't a dump's.
-fn header_spot<'a>(line: &'a [u8]) -> Spot<'a>
-    ensures { (result.begins ≤ result.ends) × (result.ends ≤ length result.line.now) }
+fn header_spot<'a>(number: u32, line: &'a [u8]) -> Spot<'a>
+    ensures { IsInLine number line.now result }
 {
     if !is_formed(line) {
         if let Some(part) = fault_part(1, line, true) {
-            return at_found(1, line, part, Told::Line(part.why));
+            return at_found(number, line, part, Told::Line(part.why));
         }
     }
     let word = part_at(line, 0);
     if is_text(word, b"heap") {
-        return at_part(1, line, 0, Told::Trace);
+        return at_part(number, line, 0, Told::Trace);
     }
     if is_text(word, b"history") {
-        return at_part(1, line, 0, Told::Line(Why::History));
+        return at_part(number, line, 0, Told::Line(Why::History));
     }
-    at_line(1, line, Told::DumpHeader)
+    at_line(number, line, Told::DumpHeader)
 }
 
 /// The spot of a line whose form is wrong.
 fn form_spot<'a>(number: u32, line: &'a [u8], before: &Before) -> Spot<'a>
-    ensures { (result.begins ≤ result.ends) × (result.ends ≤ length result.line.now) }
+    ensures { IsInLine number line.now result }
 {
     if !is_formed(line) {
         return bytes_spot(number, line);
@@ -204,7 +205,7 @@ fn form_spot<'a>(number: u32, line: &'a [u8], before: &Before) -> Spot<'a>
 /// The spot of a line that has a byte or a space where none may stand. It may be longer than a line
 /// of a trace.
 fn bytes_spot<'a>(number: u32, line: &'a [u8]) -> Spot<'a>
-    ensures { (result.begins ≤ result.ends) × (result.ends ≤ length result.line.now) }
+    ensures { IsInLine number line.now result }
 {
     for (index, byte) in line.iter().enumerate() {
         let is_text = (b' '..=b'~').contains(byte);
@@ -233,7 +234,7 @@ fn why_ill(line: &[u8], index: usize, byte: u8) -> Why {
 
 /// The spot of a line of text in which a space stands where none may, or that is empty.
 fn spaces_spot<'a>(number: u32, line: &'a [u8]) -> Spot<'a>
-    ensures { (result.begins ≤ result.ends) × (result.ends ≤ length result.line.now) }
+    ensures { IsInLine number line.now result }
 {
     let mut is_part_empty = true;
     for (index, byte) in line.iter().enumerate() {
@@ -271,7 +272,7 @@ fn spaces_spot<'a>(number: u32, line: &'a [u8]) -> Spot<'a>
 
 /// The spot of a line whose form is wrong where a root's is due, of which there are so many.
 fn root_form_spot<'a>(number: u32, line: &'a [u8], roots: u32) -> Spot<'a>
-    ensures { (result.begins ≤ result.ends) × (result.ends ≤ length result.line.now) }
+    ensures { IsInLine number line.now result }
 {
     if count_parts(line, 3) == 2 && is_text(part_at(line, 1), b"nil") {
         return at_part(number, line, 1, Told::NilRoot);
@@ -286,7 +287,7 @@ fn is_raw(line: &[u8], has_raw: bool) -> bool {
 
 /// The spot of a line whose form is wrong where an object's is due.
 fn object_form_spot<'a>(number: u32, line: &'a [u8], before: &Before) -> Spot<'a>
-    ensures { (result.begins ≤ result.ends) × (result.ends ≤ length result.line.now) }
+    ensures { IsInLine number line.now result }
 {
     let head = if is_raw(line, before.has_raw) { 3 } else { 2 };
     let has_at = matches!(part_at(line, 0), [b'@', ..]);
@@ -303,7 +304,7 @@ fn object_form_spot<'a>(number: u32, line: &'a [u8], before: &Before) -> Spot<'a
 
 /// The spot of a line in which a part fails by its number, its order or its count.
 fn part_spot<'a>(number: u32, line: &'a [u8], before: &Before, kind: DumpKind) -> Spot<'a>
-    ensures { (result.begins ≤ result.ends) × (result.ends ≤ length result.line.now) }
+    ensures { IsInLine number line.now result }
 {
     match before.due {
         Due::Roots => at_part(number, line, 1, Told::NumberUpTo(MAX_ROOTS)),
@@ -341,7 +342,7 @@ fn is_later(last: Option<RootId>, root: RootId) -> bool {
 
 /// The spot of a root's line in which a part fails.
 fn root_spot<'a>(number: u32, line: &'a [u8], before: &Before, kind: DumpKind) -> Spot<'a>
-    ensures { (result.begins ≤ result.ends) × (result.ends ≤ length result.line.now) }
+    ensures { IsInLine number line.now result }
 {
     let part = part_at(line, 0);
     let Some(root) = root_of(part) else {
@@ -362,7 +363,7 @@ fn root_spot<'a>(number: u32, line: &'a [u8], before: &Before, kind: DumpKind) -
 
 /// The spot of an object's line in which a part fails.
 fn object_spot<'a>(number: u32, line: &'a [u8], before: &Before) -> Spot<'a>
-    ensures { (result.begins ≤ result.ends) × (result.ends ≤ length result.line.now) }
+    ensures { IsInLine number line.now result }
 {
     let object = object_of(part_at(line, 0)).unwrap_or(u32::MAX);
     if object > LAST_OBJECT {
@@ -418,7 +419,7 @@ fn value_told(part: &[u8], raw: bool, count: u32, met: u32) -> Option<Told> {
 
 /// The spot of an object's line in which a value fails.
 fn values_spot<'a>(number: u32, line: &'a [u8], before: &Before, raw: bool) -> Spot<'a>
-    ensures { (result.begins ≤ result.ends) × (result.ends ≤ length result.line.now) }
+    ensures { IsInLine number line.now result }
 {
     let head = if raw { 3 } else { 2 };
     let mut met = before.met;

@@ -1,6 +1,8 @@
 //! Where a history fails.
 
 ghost use Rattle.std.specs.Prelude.{◌≤◌, ◌+◌, length};
+ghost use Rattle.rh_explained.specs.Line.{line_at};
+ghost use Rattle.rh_explained.specs.Spot.{IsInLine};
 
 use crate::lines::{count_parts, nth_line, number_at, part_at};
 use crate::spot::{Spot, at_found, at_line, at_part};
@@ -13,7 +15,7 @@ use rh_text::{is_formed, is_text, next_part};
 
 /// The spot of a history's fault that reading told.
 pub fn history_spot<'a>(text: &'a [u8], fault: HistoryFault) -> Spot<'a>
-    ensures { (result.begins ≤ result.ends) × (result.ends ≤ length result.line.now) }
+    ensures { IsInLine fault.line (line_at fault.line text.now).bytes result }
 {
     let number = fault.line;
     let (line, ended) = nth_line(text, number);
@@ -30,7 +32,7 @@ pub fn history_spot<'a>(text: &'a [u8], fault: HistoryFault) -> Spot<'a>
 
 /// The spot of a fault that a line of a trace has too.
 fn line_spot<'a>(number: u32, line: &'a [u8], ended: bool, kind: Kind) -> Spot<'a>
-    ensures { (result.begins ≤ result.ends) × (result.ends ≤ length result.line.now) }
+    ensures { IsInLine number line.now result }
 {
     let is_by_bytes = matches!(kind, Kind::Long | Kind::Cut) || !is_formed(line);
     if is_by_bytes {
@@ -40,7 +42,7 @@ fn line_spot<'a>(number: u32, line: &'a [u8], ended: bool, kind: Kind) -> Spot<'
         };
     }
     if number == 1 {
-        return header_spot(line, kind);
+        return header_spot(number, line, kind);
     }
     if is_text(part_at(line, 0), b"end") {
         return end_spot(number, line);
@@ -49,32 +51,32 @@ fn line_spot<'a>(number: u32, line: &'a [u8], ended: bool, kind: Kind) -> Spot<'
 }
 
 /// The spot of a first line whose parts are well formed.
-fn header_spot<'a>(line: &'a [u8], kind: Kind) -> Spot<'a>
-    ensures { (result.begins ≤ result.ends) × (result.ends ≤ length result.line.now) }
+fn header_spot<'a>(number: u32, line: &'a [u8], kind: Kind) -> Spot<'a>
+    ensures { IsInLine number line.now result }
 {
     if let Kind::Number = kind {
         let owners = number_at(line, 1);
         if 1 <= owners && owners <= MAX_OWNERS {
-            return at_part(1, line, 2, Told::Slots);
+            return at_part(number, line, 2, Told::Slots);
         }
-        return at_part(1, line, 1, Told::Owners);
+        return at_part(number, line, 1, Told::Owners);
     }
     let word = part_at(line, 0);
     if is_text(word, b"history") {
-        return at_part(1, line, 3, Told::HistoryHeader);
+        return at_part(number, line, 3, Told::HistoryHeader);
     }
     if is_text(word, b"heap") {
-        return at_part(1, line, 0, Told::Trace);
+        return at_part(number, line, 0, Told::Trace);
     }
     if is_text(word, b"rheap") {
-        return at_part(1, line, 0, Told::Line(Why::Dump));
+        return at_part(number, line, 0, Told::Line(Why::Dump));
     }
-    at_part(1, line, 0, Told::HistoryHeader)
+    at_part(number, line, 0, Told::HistoryHeader)
 }
 
 /// The spot of a line `end` without one number.
 fn end_spot<'a>(number: u32, line: &'a [u8]) -> Spot<'a>
-    ensures { (result.begins ≤ result.ends) × (result.ends ≤ length result.line.now) }
+    ensures { IsInLine number line.now result }
 {
     let index = if count_parts(line, 3) == 3 { 2 } else { 1 };
     at_part(number, line, index, Told::EndForm(number.saturating_sub(2)))
@@ -130,7 +132,7 @@ fn command_part(command: &[u8]) -> (Part, bool)
 
 /// The spot of a call whose command fails.
 fn command_spot<'a>(number: u32, line: &'a [u8]) -> Spot<'a>
-    ensures { (result.begins ≤ result.ends) × (result.ends ≤ length result.line.now) }
+    ensures { IsInLine number line.now result }
 {
     let equals = equals_index(line);
     if equals == 0 {
@@ -150,7 +152,7 @@ fn command_spot<'a>(number: u32, line: &'a [u8]) -> Spot<'a>
 
 /// The spot of a call without an answer that a history may have.
 fn answer_spot<'a>(number: u32, line: &'a [u8]) -> Spot<'a>
-    ensures { (result.begins ≤ result.ends) × (result.ends ≤ length result.line.now) }
+    ensures { IsInLine number line.now result }
 {
     let equals = equals_index(line);
     let (begins, ends) = rh_explain::columns_of(line, equals);

@@ -1,6 +1,7 @@
 //! The place of a fault, and the block that shows it.
 
 ghost use Rattle.std.specs.Prelude.{◌≡◌, ◌≤◌, length};
+ghost use Rattle.rh_explained.specs.Spot.{IsInLine};
 
 use crate::lines::columns;
 use crate::told::Told;
@@ -24,7 +25,7 @@ pub struct Spot<'a> {
 
 /// The spot at a part of a line, by its number from 0, or at the line's end where there is none.
 pub fn at_part<'a>(number: u32, line: &'a [u8], index: usize, told: Told) -> Spot<'a>
-    ensures { (result.begins ≤ result.ends) × (result.ends ≤ length result.line.now) }
+    ensures { IsInLine number line.now result }
 {
     let (begins, ends) = columns(line, index);
     Spot {
@@ -38,7 +39,7 @@ pub fn at_part<'a>(number: u32, line: &'a [u8], index: usize, told: Told) -> Spo
 
 /// The spot of a whole line.
 pub fn at_line<'a>(number: u32, line: &'a [u8], told: Told) -> Spot<'a>
-    ensures { (result.begins ≤ result.ends) × (result.ends ≤ length result.line.now) }
+    ensures { IsInLine number line.now result }
 {
     Spot {
         number,
@@ -52,7 +53,9 @@ pub fn at_line<'a>(number: u32, line: &'a [u8], told: Told) -> Spot<'a>
 /// The spot of a part that was found in a line, of which these are its columns.
 pub fn at_found<'a>(number: u32, line: &'a [u8], part: Part, told: Told) -> Spot<'a>
     requires { (part.begins ≤ part.ends) × (part.ends ≤ length line.now) }
-    ensures { (result.begins ≤ result.ends) × (result.ends ≤ length result.line.now) }
+    ensures line { IsInLine number line.now result }
+    ensures part { (result.begins ≡ part.begins) × (result.ends ≡ part.ends)
+        × (result.told ≡ told) }
 {
     Spot {
         number,

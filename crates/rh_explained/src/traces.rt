@@ -1,6 +1,10 @@
 //! Where a trace fails.
 
-ghost use Rattle.std.specs.Prelude.{◌≤◌, length};
+ghost use Rattle.std.specs.Prelude.{◌≡◌, ◌≢◌, Some};
+ghost use Rattle.rh_explain.specs.Explain.{fault_of};
+ghost use Rattle.rh_explained.specs.Line.{line_at};
+ghost use Rattle.rh_explained.specs.Spot.{IsInLine, ShowsFault};
+ghost use Rattle.rh_syntax.specs.declared.fault.Kind.{Kind as KindOf};
 
 use crate::lines::{nth_line, number_at};
 use crate::spot::{Spot, at_found, at_line, at_part};
@@ -21,7 +25,11 @@ pub enum Way {
 
 /// The spot of a trace's fault that reading or checking told.
 pub fn trace_spot<'a>(text: &'a [u8], fault: TraceFault, way: Way) -> Spot<'a>
-    ensures { (result.begins ≤ result.ends) × (result.ends ≤ length result.line.now) }
+    ensures line { IsInLine fault.line (line_at fault.line text.now).bytes result }
+    // Where the line isn't read, it is the part at which reading fails.
+    ensures part { fault.kind ≢ Kind.Empty → (kind : KindOf)
+        → fault_of fault.line (line_at fault.line text.now) ≡ Some kind
+        → ShowsFault fault.line (line_at fault.line text.now) kind result }
 {
     let number = fault.line;
     let (line, ended) = nth_line(text, number);
@@ -36,7 +44,7 @@ pub fn trace_spot<'a>(text: &'a [u8], fault: TraceFault, way: Way) -> Spot<'a>
 
 /// The spot of a line that a run with the lines of cycles takes, and this run doesn't.
 fn way_spot<'a>(text: &'a [u8], number: u32, line: &'a [u8], kind: Kind, way: Way) -> Spot<'a>
-    ensures { (result.begins ≤ result.ends) × (result.ends ≤ length result.line.now) }
+    ensures { IsInLine number line.now result }
 {
     if let Kind::Root = kind {
         let (first, _) = nth_line(text, 1);
