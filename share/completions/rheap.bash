@@ -13,7 +13,7 @@ _rheap() {
     dump) options='--explain --dot --json -h --help' valued='' ;;
     draw) options='--explain --line -h --help' valued='--line' ;;
     shell) options='-h --help' valued='' ;;
-    lisp) options='--heap --grow --steps --cycles -h --help' valued='--heap --grow --steps' ;;
+    lisp) options='--heap --grow --steps --cycles --explain -h --help' valued='--heap --grow --steps' ;;
     completions) options='-h --help' valued='' ;;
     help)
         mapfile -t COMPREPLY < <(compgen -W 'run threads replay dump draw shell lisp completions' -- "$word")

@@ -41,6 +41,7 @@ complete -c rheap -n '__fish_seen_subcommand_from lisp' -l heap -x -d 'Each of i
 complete -c rheap -n '__fish_seen_subcommand_from lisp' -l grow -x -d 'Each of its spaces grows to at most so many words; 16777216 if it isn\'t said'
 complete -c rheap -n '__fish_seen_subcommand_from lisp' -l steps -x -d 'The instructions that may be done, 0 to 4294967295; 2^64 - 1 without it'
 complete -c rheap -n '__fish_seen_subcommand_from lisp' -l cycles -r -d 'Writes a line for each cycle of its heap to the file OUT; - is standard output'
+complete -c rheap -n '__fish_seen_subcommand_from lisp' -l explain -d 'Shows the part of a line that is wrong, and says what may stand there'
 complete -c rheap -n '__fish_seen_subcommand_from lisp' -s h -l help -d 'Print help'
 complete -c rheap -n '__fish_seen_subcommand_from completions' -s h -l help -d 'Print help'
 complete -c rheap -n '__fish_seen_subcommand_from completions' -f -a 'bash zsh fish'

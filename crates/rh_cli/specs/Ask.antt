@@ -21,7 +21,7 @@ use Rattle.rh_cli.specs.declared.fault.LineFault.TheVariants as faults
 abbrev pub file_rule : Rule
 file_rule = record (new_rule (codes "FILE")) { required = true }
 
--- whether a fault is explained, a flag of each command
+-- whether a fault is explained, a flag of each command that takes a file
 abbrev pub explain_rule : Rule
 explain_rule =
     record (new_rule (codes "explain")) { long = Some (codes "explain"); action = Some SetTrue }
@@ -120,9 +120,9 @@ sized_app = with_rule (with_rule (new_app (codes "lisp")) program_rule) heap_rul
 abbrev pub bounded_app : App
 bounded_app = with_rule (with_rule sized_app grow_rule) steps_rule
 
--- the command `lisp`: that, and the file of its cycles
+-- the command `lisp`: that, the file of its cycles, and the flag
 abbrev pub lisp_app : App
-lisp_app = with_rule bounded_app cycles_rule
+lisp_app = with_rule (with_rule bounded_app cycles_rule) explain_rule
 
 -- the command `shell`: no file
 abbrev pub shell_app : App

@@ -2,8 +2,8 @@
 
 ghost use Rattle.std.specs.Prelude.{◌≡◌, map, false, IfOk, codes};
 ghost use Rattle.clap.specs.declared.builder.command.Command.TheViews.{out-Command as fields_of};
-ghost use Rattle.clap.specs.Words.{app_of, new_app};
-ghost use Rattle.rh_cli.specs.Ask.{grown_app, replay_app, told_app, completions_app, draw_app, dump_app, file_app, marked_app, run_app, rheap_app_for, command_for, has_options, names_command, first_word, threads_app, shell_app};
+ghost use Rattle.clap.specs.Words.{app_of, new_app, with_rule};
+ghost use Rattle.rh_cli.specs.Ask.{grown_app, replay_app, told_app, completions_app, draw_app, dump_app, explain_rule, file_app, marked_app, run_app, rheap_app_for, command_for, has_options, names_command, first_word, threads_app, shell_app};
 
 use crate::help;
 use crate::lisp_arguments::lisp_command;
@@ -276,13 +276,26 @@ fn file_command<'a>(
     let file = Arg::new(alloc, "FILE")
         .required(true)
         .help("The file to read; - is standard input");
+    let command = Command::new(alloc, name)
+        .about(about)
+        .after_help(after_help)
+        .arg(file)?;
+    explained_command(alloc, command)
+}
+
+/// A command with the flag that asks for explanations, as clap knows it.
+pub(crate) fn explained_command<'a>(
+    alloc: Global,
+    command: Command<'a>,
+) -> Result<Command<'a>, AllocError>
+    ensures app { IfOk result (λ explained.
+        app_of explained ≡ with_rule (app_of command.entry) explain_rule) }
+    ensures local { (fields_of command.entry).has_globals ≡ false
+        → IfOk result (λ explained. (fields_of explained).has_globals ≡ false) }
+{
     let explain = Arg::new(alloc, "explain")
         .long("explain")
         .action(ArgAction::SetTrue)
         .help("Shows the part of a line that is wrong, and says what may stand there");
-    Command::new(alloc, name)
-        .about(about)
-        .after_help(after_help)
-        .arg(file)?
-        .arg(explain)
+    command.arg(explain)
 }

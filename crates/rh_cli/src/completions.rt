@@ -17,7 +17,7 @@ _rheap() {
     dump) options='--explain --dot --json -h --help' valued='' ;;
     draw) options='--explain --line -h --help' valued='--line' ;;
     shell) options='-h --help' valued='' ;;
-    lisp) options='--heap --grow --steps --cycles -h --help' valued='--heap --grow --steps' ;;
+    lisp) options='--heap --grow --steps --cycles --explain -h --help' valued='--heap --grow --steps' ;;
     completions) options='-h --help' valued='' ;;
     help)
         mapfile -t COMPREPLY < <(compgen -W 'run threads replay dump draw shell lisp completions' -- \"$word\")
@@ -128,6 +128,7 @@ argument)
             '--grow=[Each of its spaces grows to at most so many words; 16777216 if it isn'\\''t said]:WORDS: ' \\
             '--steps=[The instructions that may be done, 0 to 4294967295; 2^64 - 1 without it]:N: ' \\
             '--cycles=[Writes a line for each cycle of its heap to the file OUT; - is standard output]:OUT:_files' \\
+            '--explain[Shows the part of a line that is wrong, and says what may stand there]' \\
             '(- *)'{-h,--help}'[Print help]' \\
             '1:FILE:_files'
         ;;
@@ -187,6 +188,7 @@ complete -c rheap -n '__fish_seen_subcommand_from lisp' -l heap -x -d 'Each of i
 complete -c rheap -n '__fish_seen_subcommand_from lisp' -l grow -x -d 'Each of its spaces grows to at most so many words; 16777216 if it isn\\'t said'
 complete -c rheap -n '__fish_seen_subcommand_from lisp' -l steps -x -d 'The instructions that may be done, 0 to 4294967295; 2^64 - 1 without it'
 complete -c rheap -n '__fish_seen_subcommand_from lisp' -l cycles -r -d 'Writes a line for each cycle of its heap to the file OUT; - is standard output'
+complete -c rheap -n '__fish_seen_subcommand_from lisp' -l explain -d 'Shows the part of a line that is wrong, and says what may stand there'
 complete -c rheap -n '__fish_seen_subcommand_from lisp' -s h -l help -d 'Print help'
 complete -c rheap -n '__fish_seen_subcommand_from completions' -s h -l help -d 'Print help'
 complete -c rheap -n '__fish_seen_subcommand_from completions' -f -a 'bash zsh fish'

@@ -37,6 +37,8 @@ pub(crate) struct Prompter<'a, R, E> {
     pub err: &'a mut E,
     /// Whether a prompt is shown.
     pub prompts: bool,
+    /// Whether it is shown where an entry stopped.
+    pub explains: bool,
 }
 
 impl<R: Files, E: Write> Prompter<'_, R, E> {

@@ -327,7 +327,7 @@ without it.
 
 Without FILE a session is held: what is typed is played entry by entry, and the value of each form
 is written, unless it is unspecified. An entry ends with the line at whose end all lists, strings
-and comments that it begins have ended. One that stops is told in a line, and what it defined before
+and comments that it begins have ended. One that stops is told as below, and what it defined before
 stays. A prompt stands on standard error where standard input is a terminal. The end of the input
 (Ctrl-D) ends the session.
 
@@ -354,7 +354,8 @@ Statuses:
 A program that stops has printed what it printed before, and standard error has one line, as
 `FILE:3:15: car: not a pair`, with the line and the column of the form that was done. Where that is
 in a procedure of the language, the place is that of the program's last call, but for calls of
-functions that one definition gives. So are told
+functions that one definition gives. With --explain, and always on a terminal, the line of the
+program comes after it, carets under the form, and what may stand there. So are told
 
   unbound variable, not a pair, not a number, not a procedure, not a vector, not a string,
   not a character, wrong number of arguments, too many arguments, out of range, division by zero,

@@ -21,6 +21,7 @@ pub mod laws;
 mod lisp;
 mod lisp_arguments;
 mod lisp_cycles;
+mod lisp_explaining;
 mod lisp_session;
 mod output_file;
 mod outputs;

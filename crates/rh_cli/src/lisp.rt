@@ -8,44 +8,46 @@ ghost use Rattle.rh_cli.specs.Lisp.{ConcludesLisp, IsLispStatus, lisp_status, li
 use crate::driving::tell;
 use crate::ending::Ending;
 use crate::fault::LineFault;
-use crate::program::{gathering, is_standard_input, opened};
-use rh_lisp_run::{Ended, Fault, Limits, LispFault, Outcome, Source, run_lisp};
+use crate::keeping::KeptReader;
+use crate::lisp_explaining::show_kept;
+use crate::program::{gathering, is_standard_input, kept_if, opened};
+use rh_lisp_run::{Cause, Ended, Fault, Limits, LispFault, Outcome, Source, Stop, run_lisp};
 use std::alloc::Allocator;
 use std::io::{self, Read, Write};
 use std::rt::Files;
 
 /// Runs the program that the reader gives, and writes what it prints to `out`. Where the program
-/// has a fault or stops, the line that says where goes to `err`, with `file` as the text's name.
-/// Answers the status that the program ends with: 0 where it finished, 3 where memory was refused,
-/// and else 1.
+/// has a fault or stops, the line that says where goes to `err`, with `file` as the text's name. If
+/// the reader keeps the text, its form there comes after it, and a sentence that says what may
+/// stand there. Answers the status that the program ends with: 0 where it finished, 3 where memory
+/// was refused, and else 1.
 pub fn drive_lisp<A: Allocator + Copy, R: Read, O: Write, E: Write>(
     alloc: A,
     file: &str,
     limits: Limits,
-    reader: &mut R,
+    reader: &mut KeptReader<R, A>,
     out: &mut O,
     err: &mut E,
 ) -> u8
-    ensures told { IfSome (R.remaining reader.old) (λ input. ConcludesLisp limits.steps input result
-        (O.contents out.old) (O.contents out.new)) }
+    ensures told { IfSome (R.remaining reader.old.reader) (λ input.
+        ConcludesLisp limits.steps input result (O.contents out.old) (O.contents out.new)) }
     ensures read { (input : List ℕ)
-        × Consumes (R.remaining reader.old) (R.remaining reader.new) input
+        × Consumes (R.remaining reader.old.reader) (R.remaining reader.new.reader) input
         × ConcludesLisp limits.steps input result (O.contents out.old) (O.contents out.new) }
     // Where the program finished, nothing is told of a fault.
     ensures quiet { result ≡ 0 → Keeps (E.contents err.old) (E.contents err.new) }
     ensures late { IsLateStatus result }
 {
-    tell_run(
-        file,
-        run_lisp(alloc, file.as_bytes(), limits, reader, out),
-        err,
-    )
+    let ran = run_lisp(alloc, file.as_bytes(), limits, reader, out);
+    tell_run(file, ran, reader.kept(), err)
 }
 
-/// Tells how a run ended, unless its program finished, and answers the status.
+/// Tells how a run ended, unless its program finished, and answers the status. Where it stopped is
+/// shown in the text, if that was kept.
 pub(crate) fn tell_run<A: Allocator, E: Write>(
     file: &str,
     ran: Result<Ended<A>, LispFault>,
+    text: Option<&[u8]>,
     err: &mut E,
 ) -> u8
     ensures status { IsLispStatus (outcome_in (λ e. e.outcome) ran) result }
@@ -53,38 +55,48 @@ pub(crate) fn tell_run<A: Allocator, E: Write>(
     ensures late { IsLateStatus result }
 {
     match ran {
-        Ok(ended) => tell_end(&ended, err),
-        Err(fault) => tell_fault(file, fault, err),
+        Ok(ended) => tell_end(&ended, text, err),
+        Err(fault) => tell_fault(file, fault, text, err),
     }
 }
 
 /// Tells where a program stopped, and answers its status. Nothing is told of one that finished.
-fn tell_end<A: Allocator, E: Write>(ended: &Ended<A>, err: &mut E) -> u8
+fn tell_end<A: Allocator, E: Write>(ended: &Ended<A>, text: Option<&[u8]>, err: &mut E) -> u8
     ensures status { IsLispStatus (Ok ended.now.outcome) result }
     ensures quiet { result ≡ 0 → Keeps (E.contents err.old) (E.contents err.new) }
 {
     match ended.outcome {
         Outcome::Finished => 0,
-        Outcome::Stopped { .. } => {
+        Outcome::Stopped {
+            problem,
+            source,
+            position,
+        } => {
             // What can't be told is left out, as a fault's line is.
             let _ = err.write_all(&ended.line);
+            let stop = Stop {
+                source,
+                position,
+                cause: Cause::Problem(problem),
+            };
+            show_kept(text, stop, err);
             1
         }
     }
 }
 
 /// Tells why a program wasn't run, or what it printed isn't written, and answers the status.
-fn tell_fault<E: Write>(file: &str, fault: LispFault, err: &mut E) -> u8
+fn tell_fault<E: Write>(file: &str, fault: LispFault, text: Option<&[u8]>, err: &mut E) -> u8
     ensures { result ≡ lisp_status fault }
 {
     match fault {
-        LispFault::Text(fault) => tell_place(file, fault, err),
+        LispFault::Text(fault) => tell_place(file, fault, text, err),
         _ => tell(&fault_of_lisp(fault), err),
     }
 }
 
 /// Tells where a text is no program, and answers the status.
-fn tell_place<E: Write>(file: &str, fault: Fault, err: &mut E) -> u8
+fn tell_place<E: Write>(file: &str, fault: Fault, text: Option<&[u8]>, err: &mut E) -> u8
     ensures { result ≡ 1 }
 {
     let name = match fault.source {
@@ -98,6 +110,12 @@ fn tell_place<E: Write>(file: &str, fault: Fault, err: &mut E) -> u8
         "{name}:{}:{}: {}",
         place.line, place.column, fault.kind
     );
+    let stop = Stop {
+        source: fault.source,
+        position: place,
+        cause: Cause::Fault(fault.kind),
+    };
+    show_kept(text, stop, err);
     1
 }
 
@@ -134,12 +152,13 @@ fn ending_of(outcome: Outcome) -> Result<Ending, LineFault>
     }
 }
 
-/// Runs the program of a file.
+/// Runs the program of a file. It is shown where it stopped, if that is asked.
 pub(crate) fn play_lisp<R, E>(
     rt: &R,
     file: &str,
     limits: Limits,
     err: &mut E,
+    explains: bool,
 ) -> Result<u8, LineFault>
 where
     R: Files + Input + Print + AllocGlobal,
@@ -151,10 +170,10 @@ where
 {
     let mut out = gathering(rt.alloc(), io::writer(rt))?;
     if is_standard_input(file) {
-        let mut reader = rt.reader();
+        let mut reader = kept_if(rt.alloc(), rt.reader(), explains);
         return Ok(drive_lisp(rt.alloc(), file, limits, &mut reader, &mut out, err));
     }
-    let mut reader = opened(rt, file)?;
+    let mut reader = kept_if(rt.alloc(), opened(rt, file)?, explains);
     Ok(drive_lisp(rt.alloc(), file, limits, &mut reader, &mut out, err))
 }
 

@@ -7,7 +7,7 @@ ghost use Rattle.rh_cli.specs.Ask.{bounded_app, command_for, heap_words, lisp_ap
 ghost use Rattle.rh_cli.specs.Fault.{IsArgumentsFault};
 
 use crate::ask::Subcommand;
-use crate::commands::{has_options, named_command};
+use crate::commands::{explained_command, has_options, named_command};
 use crate::fault::LineFault;
 use crate::help;
 use clap::{Arg, Command};
@@ -34,7 +34,7 @@ pub(crate) fn lisp_command<'a>(alloc: Global, word: &str) -> Result<Command<'a>,
         .long("cycles")
         .value_name("OUT")
         .help(CYCLES_HELP);
-    bounded_command(alloc, about)?.arg(cycles)
+    explained_command(alloc, bounded_command(alloc, about)?.arg(cycles)?)
 }
 
 /// The command `lisp` with its file and what a program may take, as clap knows it.

@@ -8,9 +8,10 @@ ghost use Rattle.rh_cli.specs.Lisp.{ConcludesLispCycles};
 use crate::ask::Ask;
 use crate::driving::tell;
 use crate::fault::LineFault;
+use crate::keeping::KeptReader;
 use crate::lisp::tell_run;
 use crate::outputs::outputs_of;
-use crate::program::{gathering, is_standard_input, opened};
+use crate::program::{gathering, is_standard_input, kept_if, opened};
 use rh_lisp_run::{Limits, run_lisp_with_cycles};
 use std::alloc::Allocator;
 use std::io::{Read, Write};
@@ -24,7 +25,7 @@ pub fn drive_lisp_with_cycles<A, R, O, C, E>(
     alloc: A,
     file: &str,
     limits: Limits,
-    reader: &mut R,
+    reader: &mut KeptReader<R, A>,
     out: &mut O,
     cycles: C,
     err: &mut E,
@@ -36,11 +37,12 @@ where
     C: Write + Drop,
     E: Write,
     // For a reader that tells its bytes: by what is due for the bytes that it had.
-    ensures told { IfSome (R.remaining reader.old) (λ input. ConcludesLispCycles limits input result.1
-        (O.contents out.old) (O.contents out.new) (C.contents cycles) (C.contents result.0)) }
+    ensures told { IfSome (R.remaining reader.old.reader) (λ input.
+        ConcludesLispCycles limits input result.1 (O.contents out.old) (O.contents out.new)
+        (C.contents cycles) (C.contents result.0)) }
     // Of the bytes that were taken.
     ensures read { (input : List ℕ)
-        × Consumes (R.remaining reader.old) (R.remaining reader.new) input
+        × Consumes (R.remaining reader.old.reader) (R.remaining reader.new.reader) input
         × ConcludesLispCycles limits input result.1 (O.contents out.old) (O.contents out.new)
         (C.contents cycles) (C.contents result.0) }
     // As of `drive_lisp`.
@@ -48,15 +50,17 @@ where
     ensures late { IsLateStatus result.1 }
 {
     let (cycles, ran) = run_lisp_with_cycles(alloc, file.as_bytes(), limits, reader, out, cycles);
-    (cycles, tell_run(file, ran, err))
+    (cycles, tell_run(file, ran, reader.kept(), err))
 }
 
-/// Runs the program of a file, and writes its cycles.
+/// Runs the program of a file, and writes its cycles. It is shown where it stopped, if that is
+/// asked.
 pub(crate) fn play_lisp_with_cycles<R, E>(
     rt: &R,
     ask: &Ask<'_>,
     limits: Limits,
     err: &mut E,
+    explains: bool,
 ) -> Result<u8, LineFault>
 where
     R: Files + Input + Print + AllocGlobal,
@@ -68,10 +72,10 @@ where
         → fault ≡ LineFault.OutOfMemory) }
 {
     if is_standard_input(ask.file) {
-        return play_with_outputs(rt, ask, limits, rt.reader(), err);
+        return play_with_outputs(rt, ask, limits, rt.reader(), err, explains);
     }
     let file = opened(rt, ask.file)?;
-    play_with_outputs(rt, ask, limits, file, err)
+    play_with_outputs(rt, ask, limits, file, err, explains)
 }
 
 /// Runs the program that the reader gives. Nothing is read where the file of its cycles can't be
@@ -82,6 +86,7 @@ fn play_with_outputs<R, I, E>(
     limits: Limits,
     reader: I,
     err: &mut E,
+    explains: bool,
 ) -> Result<u8, LineFault>
 where
     R: Files + Print + AllocGlobal,
@@ -94,7 +99,7 @@ where
         Ok(outputs) => outputs,
         Err(fault) => return Ok(tell(&fault, err)),
     };
-    let mut reader = reader;
+    let mut reader = kept_if(rt.alloc(), reader, explains);
     let mut out = gathering(rt.alloc(), out)?;
     let (_, status) = drive_lisp_with_cycles(
         rt.alloc(),

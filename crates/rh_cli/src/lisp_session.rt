@@ -10,8 +10,9 @@ use crate::driving::tell;
 use crate::ending::Ending;
 use crate::fault::LineFault;
 use crate::lisp::fault_of_lisp;
+use crate::lisp_explaining::show_stop;
 use crate::program::gathering;
-use rh_lisp_run::{Console, Limits, run_session};
+use rh_lisp_run::{Console, Limits, Stop, run_session};
 use std::alloc::Allocator;
 use std::io::{self, Read, Write};
 use std::rt::Files;
@@ -21,7 +22,7 @@ impl Console for Alone {
 
     fn end(&mut self) {}
 
-    fn tell(&mut self, _line: &[u8]) {}
+    fn tell(&mut self, _line: &[u8], _text: &[u8], _stop: Stop) {}
 }
 
 impl<R: Files, E: Write> Console for Prompter<'_, R, E> {
@@ -33,9 +34,12 @@ impl<R: Files, E: Write> Console for Prompter<'_, R, E> {
         self.show(b"\n");
     }
 
-    fn tell(&mut self, line: &[u8]) {
+    fn tell(&mut self, line: &[u8], text: &[u8], stop: Stop) {
         // What can't be told is left out, as a fault's line is.
         let _ = self.err.write_all(line);
+        if self.explains {
+            show_stop(text, stop, self.err);
+        }
         let _ = self.err.flush();
     }
 }
@@ -75,12 +79,14 @@ fn ending_of(begun: bool) -> Result<Ending, LineFault>
     Err(LineFault::Stopped)
 }
 
-/// Plays the entries that are typed, and shows a prompt where that is asked.
+/// Plays the entries that are typed. A prompt is shown, and where an entry stopped, if that is
+/// asked.
 pub(crate) fn hold_entries<R, E>(
     rt: &R,
     limits: Limits,
     err: &mut E,
     prompts: bool,
+    explains: bool,
 ) -> Result<u8, LineFault>
 where
     R: Files + Input + Print + AllocGlobal,
@@ -90,7 +96,12 @@ where
 {
     let mut out = gathering(rt.alloc(), io::writer(rt))?;
     let mut reader = rt.reader();
-    let mut console = Prompter { rt, err, prompts };
+    let mut console = Prompter {
+        rt,
+        err,
+        prompts,
+        explains,
+    };
     match play_entries(rt.alloc(), &mut reader, &mut out, limits, &mut console) {
         Ok(ending) => Ok(ending.status()),
         Err(fault) => Ok(tell(&fault, console.err)),

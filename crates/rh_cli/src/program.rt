@@ -176,13 +176,13 @@ where
     if let Subcommand::Session = ask.subcommand {
         return hold_session(rt, err, terminals.input);
     }
+    let explains = terminals.error || ask.explain;
     if let Subcommand::Lisp { limits } = ask.subcommand {
-        return play_program(rt, ask, limits, err);
+        return play_program(rt, ask, limits, err, explains);
     }
     if let Subcommand::LispSession { limits } = ask.subcommand {
-        return hold_entries(rt, limits, err, terminals.input);
+        return hold_entries(rt, limits, err, terminals.input, explains);
     }
-    let explains = terminals.error || ask.explain;
     if !ask.views.is_plain() {
         return Ok(view(rt, threads, ask, err, explains));
     }
@@ -195,7 +195,13 @@ where
 }
 
 /// Runs the program of a file, and writes its cycles where that is asked.
-fn play_program<R, E>(rt: &R, ask: &Ask<'_>, limits: Limits, err: &mut E) -> Result<u8, LineFault>
+fn play_program<R, E>(
+    rt: &R,
+    ask: &Ask<'_>,
+    limits: Limits,
+    err: &mut E,
+    explains: bool,
+) -> Result<u8, LineFault>
 where
     R: Files + Input + Print + AllocGlobal,
     E: Write,
@@ -206,9 +212,9 @@ where
         → fault ≡ LineFault.OutOfMemory) }
 {
     if ask.views.cycles.is_some() {
-        return play_lisp_with_cycles(rt, ask, limits, err);
+        return play_lisp_with_cycles(rt, ask, limits, err, explains);
     }
-    play_lisp(rt, ask.file, limits, err)
+    play_lisp(rt, ask.file, limits, err, explains)
 }
 
 /// Carries out a request with what the reader gives, and explains a fault where that is asked.
@@ -267,7 +273,12 @@ where
 {
     let mut out = gathering(rt.alloc(), io::writer(rt))?;
     let mut reader = rt.reader();
-    let mut host = Prompter { rt, err, prompts };
+    let mut host = Prompter {
+        rt,
+        err,
+        prompts,
+        explains: false,
+    };
     match converse(rt.alloc(), &mut reader, &mut out, &mut host) {
         Ok(ending) => Ok(ending.status()),
         Err(fault) => Ok(tell(&fault, host.err)),
@@ -348,7 +359,11 @@ where
 }
 
 /// A reader of what this one gives, which keeps it where a fault is to be explained.
-fn kept_if<I: Read + Drop>(alloc: Global, reader: I, explains: bool) -> KeptReader<I, Global> {
+pub(crate) fn kept_if<I: Read + Drop>(
+    alloc: Global,
+    reader: I,
+    explains: bool,
+) -> KeptReader<I, Global> {
     if explains {
         return KeptReader::new(alloc, reader);
     }

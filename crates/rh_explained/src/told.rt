@@ -116,12 +116,15 @@ pub enum Told {
     Unmet,
     /// A reference to an object that isn't there.
     NoObject(u32),
+    /// What is wrong with a program, in a sentence.
+    Program(&'static str),
 }
 
 impl fmt::Display for Told {
     fn fmt<W: fmt::Write>(&self, f: &mut fmt::Formatter<W>) -> fmt::Result {
         match *self {
             Told::Line(why) => write!(f, "{why}"),
+            Told::Program(sentence) => f.write_str(sentence),
             Told::CommandShort(part, row) => write!(f, "{part} is missing: {row} = ANSWER"),
             Told::Missing(due) => write!(f, "the text ends too early: the line {due} is missing"),
             Told::Form(due) => write!(f, "another line is due here: {due}"),

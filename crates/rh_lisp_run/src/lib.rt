@@ -13,6 +13,7 @@ mod reading;
 mod running;
 mod session;
 mod stage;
+mod stop;
 mod with_cycles;
 
 pub use console::Console;
@@ -21,4 +22,5 @@ pub use limits::{HeapWords, Limits, MAX_OUTPUT, MAX_TEXT_BYTES, MOST_STEPS};
 pub use rh_lisp::{Fault, FaultKind, Outcome, Program, Source};
 pub use running::{Ended, program_of, run_lisp, run_lisp_logged, run_program};
 pub use session::run_session;
+pub use stop::{Cause, Stop};
 pub use with_cycles::{run_lisp_with_cycles, run_program_with_cycles};

@@ -678,9 +678,9 @@ const PROGRAMS: &[Call<'static>] = &[
     ),
     (
         &[b"rheap", b"lisp", b"-", b"--explain"],
-        2,
+        1,
         b"",
-        b"error: unexpected",
+        b"-:1:1: heap: unbound variable\n1 | heap\n    ^^^^\nthe name has no value yet: (define NAME VALUE) gives it one\n",
     ),
     (
         &[b"rheap", b"lisp"],

@@ -4,7 +4,7 @@ use crate::expectations::{Row, expect_bytes, expect_equal, expect_prefix};
 use crate::program::command_line::played;
 use crate::program::driving::status_of;
 use refusing::RefusingAllocator;
-use rh_cli::{Ask, HeapWords, Limits, PLAIN, Subcommand, Terminals, drive_lisp};
+use rh_cli::{Ask, HeapWords, KeptReader, Limits, PLAIN, Subcommand, Terminals, drive_lisp};
 use samples::devices::{Broken, SlowReader, SlowWriter, Unflushed};
 use std::alloc::Allocator;
 use std::io::{Read, Write};
@@ -136,7 +136,8 @@ fn expect_told<R: AllocGlobal + Abort, I: Read, W: Write>(
     (status, told): (u8, &[u8]),
 ) {
     let mut err = Vec::new(rt.alloc());
-    let ended = drive_lisp(rt.alloc(), "p", limits, reader, out, &mut err);
+    let mut passing = KeptReader::passing(rt.alloc(), reader);
+    let ended = drive_lisp(rt.alloc(), "p", limits, &mut passing, out, &mut err);
     expect_equal(rt, ended, status);
     expect_bytes(rt, &err, told);
 }
@@ -159,6 +160,31 @@ fn expect_printed<R: AllocGlobal + Abort>(
 fn programs_print_and_end_as_their_rows_say(rt: HostRuntime) {
     for (row, &(limits, text, status, printed, told)) in PROGRAMS.iter().enumerate() {
         expect_printed(&Row { rt: &rt, row }, limits, text, printed, (status, told));
+    }
+}
+
+/// Programs that stop, or are none, and what is told where it is shown.
+const EXPLAINED: &[(&[u8], &[u8])] = &[
+    (
+        b"(display 1)\n(display (+ 1 (car 5))) ; no pair\n",
+        b"p:2:15: car: not a pair\n2 | (display (+ 1 (car 5))) ; no pair\n                  ^^^^^^^\na pair is due here: cons makes one, and () is none\n",
+    ),
+    (
+        b"(display \"a)\")\n (if)",
+        b"p:2:2: bad form\n2 |  (if)\n     ^^^^\nthe form has another number of parts, or a part is no list: rheap lisp --help has it\n",
+    ),
+];
+
+#[test]
+fn the_form_at_which_a_program_stops_is_shown(rt: HostRuntime) {
+    for (row, &(text, told)) in EXPLAINED.iter().enumerate() {
+        let rt = Row { rt: &rt, row };
+        let mut reader = KeptReader::new(rt.alloc(), text);
+        let mut out: Vec<u8> = Vec::new(rt.alloc());
+        let mut err = Vec::new(rt.alloc());
+        let ended = drive_lisp(rt.alloc(), "p", AMPLE, &mut reader, &mut out, &mut err);
+        expect_equal(&rt, ended, 1);
+        expect_bytes(&rt, &err, told);
     }
 }
 
@@ -231,7 +257,7 @@ fn a_failed_write_of_a_program_is_told(rt: HostRuntime) {
 
 #[test]
 fn a_program_ends_where_nothing_can_be_told(rt: HostRuntime) {
-    let mut reader = PRINTS;
+    let mut reader = KeptReader::new(rt.alloc(), PRINTS);
     let ended = drive_lisp(
         rt.alloc(),
         "p",
@@ -249,7 +275,8 @@ fn is_refused<A: Allocator + Copy>(rt: &(impl AllocGlobal + Abort), alloc: A, nt
     let memory = RefusingAllocator::new(alloc, nth);
     let mut out = Vec::new(rt.alloc());
     let mut err = Vec::new(rt.alloc());
-    let ended = drive_lisp(&memory, "p", SMALL, &mut { STOPS }, &mut out, &mut err);
+    let mut reader = KeptReader::passing(&memory, STOPS);
+    let ended = drive_lisp(&memory, "p", SMALL, &mut reader, &mut out, &mut err);
     let is_refused = memory.has_refused();
     expect_stopped(rt, is_refused, ended, &out, &err);
     is_refused

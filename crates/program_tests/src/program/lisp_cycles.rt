@@ -3,7 +3,7 @@
 use crate::expectations::{Row, ample, expect_bytes, expect_equal, expect_prefix};
 use crate::texts::ended_lines;
 use refusing::RefusingAllocator;
-use rh_cli::{HeapWords, Limits, drive_lisp_with_cycles};
+use rh_cli::{HeapWords, KeptReader, Limits, drive_lisp_with_cycles};
 use samples::devices::{Broken, SlowWriter, Unflushed};
 use samples::texts::COLUMNS;
 use std::alloc::Allocator;
@@ -40,7 +40,7 @@ where
     };
     let mut out = Vec::new(rt.alloc());
     let mut err = Vec::new(rt.alloc());
-    let mut reader = text;
+    let mut reader = KeptReader::passing(memory, text);
     let (_, ended) = drive_lisp_with_cycles(
         memory,
         "p",

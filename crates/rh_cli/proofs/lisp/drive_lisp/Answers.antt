@@ -5,10 +5,10 @@ use Rattle.rh_cli.proofs.lisp.drive_lisp.Goals as goal
 
 pub returns-clause-told : goal.returns-clause-told
 returns-clause-told g c =
-    known_so _ _ (g.R.Read.remaining c.args.reader.now)
-    (lisp_concludes (λ (e : Ended g.row.A.Denot). e.outcome) c.args.limits.steps c.run_lisp.result c.tell_run.result (g.O.Write.contents c.args.out.now) (g.O.Write.contents c.run_lisp.new.writer) c.tell_run.ensures.status) c.run_lisp.ensures.told
+    known_so _ _ (g.R.Read.remaining c.args.reader.now.reader)
+    (lisp_concludes (λ (e : Ended g.row.A.Denot). e.outcome) c.args.limits.steps c.run_lisp-ran.result c.tell_run.result (g.O.Write.contents c.args.out.now) (g.O.Write.contents c.run_lisp-ran.new.writer) c.tell_run.ensures.status) c.run_lisp-ran.ensures.told
 
 pub returns-clause-read : goal.returns-clause-read
 returns-clause-read g c =
-    let given = c.run_lisp.ensures.read in
-    (given.0, given.1, lisp_concludes (λ (e : Ended g.row.A.Denot). e.outcome) c.args.limits.steps c.run_lisp.result c.tell_run.result (g.O.Write.contents c.args.out.now) (g.O.Write.contents c.run_lisp.new.writer) c.tell_run.ensures.status given.0 given.2)
+    let given = c.run_lisp-ran.ensures.read in
+    (given.0, given.1, lisp_concludes (λ (e : Ended g.row.A.Denot). e.outcome) c.args.limits.steps c.run_lisp-ran.result c.tell_run.result (g.O.Write.contents c.args.out.now) (g.O.Write.contents c.run_lisp-ran.new.writer) c.tell_run.ensures.status given.0 given.2)
