@@ -1,7 +1,8 @@
 //! Commands, items, sizes and replicas, written short.
 
-use rh_core::Config;
-use rh_layout::{Command, Item, Operand, RootId, Value};
+use crate::expectations::{Row, expect_equal};
+use rh_core::{Config, Heap};
+use rh_layout::{Command, Item, Operand, Refusal, Reply, RootId, Value};
 use rh_partial::{PartialReplica, Piece};
 use std::alloc::Allocator;
 use std::process::Abort;
@@ -40,6 +41,29 @@ pub fn store(obj: RootId, field: u32, operand: Operand) -> Command {
 
 pub fn drop_root(root: RootId) -> Command {
     Command::Drop { root }
+}
+
+/// A command of owner 1, and its answer.
+pub type Asked = (Command, Result<Reply, Refusal>);
+
+/// Checks the answers to commands of owner 1 in turn.
+pub fn expect_answers<A: Allocator + Copy>(rt: &impl Abort, heap: &mut Heap<A>, asked: &[Asked]) {
+    for (row, &(command, answer)) in asked.iter().enumerate() {
+        let rt = &Row { rt, row };
+        expect_equal(rt, heap.command(1, &command), answer);
+    }
+}
+
+/// Checks that commands of owner 1 are accepted in turn.
+pub fn expect_accepted<A: Allocator + Copy>(
+    rt: &impl Abort,
+    heap: &mut Heap<A>,
+    commands: &[Command],
+) {
+    for (row, command) in commands.iter().enumerate() {
+        let rt = &Row { rt, row };
+        assert!(rt; heap.command(1, command).is_ok());
+    }
 }
 
 /// The item of a store.

@@ -1,5 +1,5 @@
-//! What a test expects. These stand in the place of `assert_eq!`, which would make the proof of a
-//! test three times as long.
+//! What a test expects. What ends a test here stands in the place of `assert_eq!`, which would make
+//! the proof of a test three times as long.
 
 use std::alloc::Global;
 use std::fmt::{Debug, Display};
@@ -47,6 +47,11 @@ pub fn expect_refusals(rt: &impl Abort, refused: Result<u64, u64>, least: u64) {
         refused.is_ok_and(|n| n >= least),
         "{refused:?}, wanted {least} or more"
     );
+}
+
+/// Whether nothing was made. What was made is dropped.
+pub fn is_refused<T: Drop, E: Drop>(made: Result<T, E>) -> bool {
+    made.is_err()
 }
 
 /// Ends the test unless the value is shown as this text.

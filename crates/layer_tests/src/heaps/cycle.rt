@@ -3,7 +3,7 @@
 ghost use Rattle.std.specs.Prelude.{◌≡◌, true, Err};
 ghost use Rattle.rh_core.specs.declared.errors.BeginError.TheVariants.{CycleOn};
 
-use crate::commands::{SIZES, alloc, item, replica_of, root, store};
+use crate::commands::{SIZES, alloc, expect_accepted, item, replica_of, store};
 use crate::expectations::{Row, expect_equal};
 use rh_core::laws::a_command_leaves_the_cycle;
 use rh_core::laws::cycles::a_cycle_begins_with_nothing_placed;
@@ -33,6 +33,14 @@ fn the_last_epoch(rt: HostRuntime) {
     }
 }
 
+/// In the last epoch, 2, neither a flip nor a recall is accepted, and the cycle is abandoned.
+fn expect_last_epoch(rt: &impl Abort, heap: &mut Heap) {
+    expect_equal(rt, heap.flip().err(), Some(FlipError::EpochsSpent));
+    expect_equal(rt, heap.recall(), Err(RecallError::EpochsSpent));
+    expect_equal(rt, heap.abandon(), Ok(0));
+    expect_equal(rt, (heap.epoch(), heap.is_in_cycle()), (2, false));
+}
+
 /// A recall may reach the last epoch: then neither a flip nor another recall is accepted, and an
 /// abandoned cycle leaves the epoch.
 #[test]
@@ -46,25 +54,27 @@ fn the_last_epoch_by_a_recall(rt: HostRuntime) {
     expect_equal(&rt, heap.abandon(), Err(NoCycle));
     expect_equal(&rt, heap.begin(), Ok(1));
     expect_equal(&rt, heap.recall(), Ok(2));
-    expect_equal(&rt, heap.flip().err(), Some(FlipError::EpochsSpent));
-    expect_equal(&rt, heap.recall(), Err(RecallError::EpochsSpent));
-    expect_equal(&rt, heap.abandon(), Ok(0));
-    expect_equal(&rt, (heap.epoch(), heap.is_in_cycle()), (2, false));
+    expect_last_epoch(&rt, &mut heap);
+}
+
+/// Adds as many idle words to a cycle as there may be. More are refused.
+fn spend_idle(rt: &impl Abort, heap: &mut Heap) {
+    let most = 2_305_843_009_213_693_952;
+    expect_equal(rt, heap.idle(most), Ok(most));
+    for (row, &words) in [1, u64::MAX].iter().enumerate() {
+        let rt = Row { rt, row };
+        expect_equal(&rt, heap.idle(words), Err(IdleError::IdleSpent));
+    }
+    expect_equal(rt, (heap.stat().idle, heap.stat().granted), (most, 0));
 }
 
 /// A cycle has at most 2^61 idle words, and a new one none.
 #[test]
 fn idle_words(rt: HostRuntime) {
-    let most = 2_305_843_009_213_693_952;
     let mut heap = Heap::new(rt.alloc(), SIZES).expect(&rt, "a heap");
     expect_equal(&rt, heap.idle(0), Err(IdleError::NoCycle));
     expect_equal(&rt, heap.begin(), Ok(1));
-    expect_equal(&rt, heap.idle(most), Ok(most));
-    for (row, &words) in [1, u64::MAX].iter().enumerate() {
-        let rt = Row { rt: &rt, row };
-        expect_equal(&rt, heap.idle(words), Err(IdleError::IdleSpent));
-    }
-    expect_equal(&rt, (heap.stat().idle, heap.stat().granted), (most, 0));
+    spend_idle(&rt, &mut heap);
     assert!(rt; heap.flip().is_ok());
     expect_equal(&rt, heap.begin(), Ok(2));
     expect_equal(&rt, heap.stat().idle, 0);
@@ -90,17 +100,13 @@ const SECOND: RootId = RootId { owner: 1, slot: 1 };
 
 /// A cycle in which a second object of one field is made, and the first one, of so many fields, is
 /// placed after these stores.
-fn first_placed(rt: &impl Abort, mut heap: Heap, fields: u32, stores: &[Command]) -> Heap {
+fn place_first(rt: &impl Abort, heap: &mut Heap, fields: u32, stores: &[Command]) {
     assert!(rt; heap.command(1, &alloc(FIRST, fields)).is_ok());
     expect_equal(rt, heap.begin(), Ok(1));
-    let answer = begins_after(&mut heap, 1, &alloc(SECOND, 1));
+    let answer = begins_after(heap, 1, &alloc(SECOND, 1));
     expect_equal(rt, answer, Err(BeginError::CycleOn));
-    for (row, command) in stores.iter().enumerate() {
-        let rt = &Row { rt, row };
-        assert!(rt; heap.command(1, command).is_ok());
-    }
+    expect_accepted(rt, heap, stores);
     expect_equal(rt, heap.shade(FIRST), Ok(Shaded::Placed));
-    heap
 }
 
 /// Deals of a kind, and checks how many entries are passed over, and the items.
@@ -118,8 +124,8 @@ fn entries_of_deals(rt: HostRuntime) {
         store(FIRST, 0, Operand::Int(5)),
         store(SECOND, 0, Operand::Int(6)),
     ];
-    let heap = Heap::new(rt.alloc(), SIZES).expect(&rt, "a heap");
-    let mut heap = first_placed(&rt, heap, 1, &stores);
+    let mut heap = Heap::new(rt.alloc(), SIZES).expect(&rt, "a heap");
+    place_first(&rt, &mut heap, 1, &stores);
     let items = [item(0, 0, 1, Value::Int(5))];
     deals(&rt, &mut heap, Kind::Entries, 1, &items);
     expect_equal(&rt, (heap.stat().spent, heap.stat().granted), (5, 24));
@@ -133,6 +139,21 @@ fn replica_pair(rt: &impl Abort, heap: &Heap, a: u32, f: u32) -> (u64, Value) {
     replica.field(a, f)
 }
 
+/// Checks that the pairs of these items stand in to-space before a flip and in from-space after it.
+fn expect_kept_by_flip(rt: &impl Abort, heap: &mut Heap, items: &[Item]) {
+    for (row, item) in items.iter().enumerate() {
+        let rt = Row { rt, row };
+        let pair = replica_pair(&rt, heap, item.object, item.field);
+        expect_equal(&rt, pair, (item.number, item.value));
+    }
+    assert!(rt; heap.flip().is_ok());
+    for (row, item) in items.iter().enumerate() {
+        let rt = Row { rt, row };
+        let pair = heap.field(item.object, item.field);
+        expect_equal(&rt, pair, Some((item.number, item.value)));
+    }
+}
+
 /// Copies come in order of placing, then of field. Once they are given, their pairs stand in
 /// to-space before the flip and in from-space after it.
 #[test]
@@ -142,9 +163,9 @@ fn copies_of_deals(rt: HostRuntime) {
         log_limit: 4,
         ..SIZES
     };
-    let heap = Heap::new(rt.alloc(), sizes).expect(&rt, "a heap");
+    let mut heap = Heap::new(rt.alloc(), sizes).expect(&rt, "a heap");
     let stores = [store(FIRST, 0, Operand::Root(SECOND))];
-    let mut heap = first_placed(&rt, heap, 2, &stores);
+    place_first(&rt, &mut heap, 2, &stores);
     expect_equal(&rt, heap.shade(SECOND), Ok(Shaded::Placed));
     let items = [
         item(0, 0, 1, Value::Ref(4)),
@@ -153,15 +174,5 @@ fn copies_of_deals(rt: HostRuntime) {
     ];
     let copies = deals(&rt, &mut heap, Kind::Copies, 0, &items);
     assert!(rt; heap.give(&replica_of(&rt, rt.alloc(), &copies)).is_ok());
-    for (row, item) in items.iter().enumerate() {
-        let rt = Row { rt: &rt, row };
-        let pair = replica_pair(&rt, &heap, item.object, item.field);
-        expect_equal(&rt, pair, (item.number, item.value));
-    }
-    assert!(rt; heap.flip().is_ok());
-    for (row, item) in items.iter().enumerate() {
-        let rt = Row { rt: &rt, row };
-        let pair = heap.field(item.object, item.field);
-        expect_equal(&rt, pair, Some((item.number, item.value)));
-    }
+    expect_kept_by_flip(&rt, &mut heap, &items);
 }

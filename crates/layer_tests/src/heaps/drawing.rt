@@ -1,11 +1,11 @@
 //! Pictures of heaps: that they are well-formed, and show what the heap's readers tell.
 
-use crate::commands::{SIZES, root, store};
+use crate::commands::{SIZES, expect_accepted, store};
 use crate::expectations::{Row, expect_equal, expect_refusals};
 use refusing::refused_in_turn;
 use rh_core::{Config, Heap, Kind, Shaded};
 use rh_draw::{DrawError, draw};
-use rh_layout::{Operand, RootId, Value};
+use rh_layout::{Command, Operand, RootId, Value};
 use rh_space::NOT_HELD;
 use std::process::Abort;
 
@@ -174,25 +174,42 @@ fn expect_shown<R: AllocGlobal + Abort>(rt: &R, heap: &Heap) {
     expect_counted(rt, shown, &shown_of(heap));
 }
 
-/// A heap with an object and a raw one, of two fields each, after three stores.
+/// An object and a raw one, of two fields each, and three stores.
+const TWO_OBJECTS: &[Command] = &[
+    Command::Alloc {
+        dst: FIRST,
+        fields: 2,
+    },
+    Command::Raw {
+        dst: RAW,
+        fields: 2,
+    },
+    Command::Store {
+        obj: FIRST,
+        field: 0,
+        operand: Operand::Root(FIRST),
+    },
+    Command::Store {
+        obj: FIRST,
+        field: 1,
+        operand: Operand::Root(RAW),
+    },
+    Command::Store {
+        obj: RAW,
+        field: 0,
+        operand: Operand::Int(-2_305_843_009_213_693_952),
+    },
+];
+
+/// A heap with these objects, after these stores.
 fn with_two_objects<R: AllocGlobal + Abort>(rt: &R) -> Heap {
     let mut heap = Heap::new(rt.alloc(), SIZES).expect(rt, "a heap");
-    assert!(rt; heap.alloc(1, FIRST, 2).is_ok() && heap.alloc_raw(1, RAW, 2).is_ok());
-    let stores = [
-        store(FIRST, 0, Operand::Root(FIRST)),
-        store(FIRST, 1, Operand::Root(RAW)),
-        store(RAW, 0, Operand::Int(-2_305_843_009_213_693_952)),
-    ];
-    for command in &stores {
-        assert!(rt; heap.command(1, command).is_ok());
-    }
+    expect_accepted(rt, &mut heap, TWO_OBJECTS);
     heap
 }
 
-/// In a cycle of a heap with two objects: one field is held as it stands, another was stored to
-/// since.
-fn in_a_cycle<R: AllocGlobal + Abort>(rt: &R) -> Heap {
-    let mut heap = with_two_objects(rt);
+/// Begins a cycle in which one field is held as it stands, and another is stored to since.
+fn begin_and_hold_two(rt: &impl Abort, heap: &mut Heap) {
     expect_equal(rt, heap.begin(), Ok(1));
     assert!(rt; heap.idle(1000).is_ok());
     expect_equal(rt, heap.shade(FIRST), Ok(Shaded::Placed));
@@ -200,6 +217,12 @@ fn in_a_cycle<R: AllocGlobal + Abort>(rt: &R) -> Heap {
         expect_equal(rt, heap.hold_next(), Ok(Kind::Copies));
     }
     assert!(rt; heap.command(1, &store(FIRST, 0, Operand::Int(5))).is_ok());
+}
+
+/// A heap with two objects, in that cycle.
+fn in_a_cycle<R: AllocGlobal + Abort>(rt: &R) -> Heap {
+    let mut heap = with_two_objects(rt);
+    begin_and_hold_two(rt, &mut heap);
     heap
 }
 
@@ -214,19 +237,29 @@ fn hold_all(rt: &impl Abort, heap: &mut Heap) {
 }
 
 #[test]
-fn a_picture_shows_what_the_heap_tells(rt: HostRuntime) {
+fn a_picture_outside_a_cycle(rt: HostRuntime) {
     let new = Heap::new(rt.alloc(), SIZES).expect(&rt, "a heap");
     expect_shown(&rt, &new);
     expect_shown(&rt, &with_two_objects(&rt));
+}
+
+/// Stores once more, holds all and ends the cycle. The picture is checked after the store and after
+/// the holding.
+fn expect_shown_to_the_flip<R: AllocGlobal + Abort>(rt: &R, heap: &mut Heap) {
+    assert!(rt; heap.deal(Kind::Entries, 1).is_ok());
+    assert!(rt; heap.command(1, &store(FIRST, 0, Operand::Nil)).is_ok());
+    expect_shown(rt, heap);
+    hold_all(rt, heap);
+    expect_shown(rt, heap);
+    assert!(rt; heap.flip().is_ok());
+}
+
+#[test]
+fn a_picture_shows_what_the_heap_tells(rt: HostRuntime) {
     let mut heap = in_a_cycle(&rt);
     expect_equal(&rt, (heap.missing(), held_in(&heap).missing), (3, 2));
     expect_shown(&rt, &heap);
-    assert!(rt; heap.deal(Kind::Entries, 1).is_ok());
-    assert!(rt; heap.command(1, &store(FIRST, 0, Operand::Nil)).is_ok());
-    expect_shown(&rt, &heap);
-    hold_all(&rt, &mut heap);
-    expect_shown(&rt, &heap);
-    assert!(rt; heap.flip().is_ok());
+    expect_shown_to_the_flip(&rt, &mut heap);
     expect_shown(&rt, &heap);
 }
 
@@ -266,17 +299,22 @@ fn equal_heaps_have_equal_pictures(rt: HostRuntime) {
     assert!(rt; one == other);
 }
 
+/// Draws a heap, whose whole picture this is, to where there is room for some bytes alone.
+fn expect_failing_writes<R: AllocGlobal + Abort>(rt: &R, heap: &Heap, whole: &[u8]) {
+    for taken in [0, 1, 1_000] {
+        let mut room = [0; 1_000];
+        let mut writer = &mut room[..taken];
+        let drawn = draw(rt.alloc(), heap, "a < b & c", &mut writer);
+        expect_equal(rt, drawn, Err(DrawError::Write));
+        assert!(rt; whole.starts_with(&room[..taken]));
+    }
+}
+
 #[test]
 fn each_failing_write_is_told(rt: HostRuntime) {
     let heap = in_a_cycle(&rt);
     let whole = picture(&rt, &heap);
-    for taken in [0, 1, 1_000] {
-        let mut room = [0; 1_000];
-        let mut writer = &mut room[..taken];
-        let drawn = draw(rt.alloc(), &heap, "a < b & c", &mut writer);
-        expect_equal(&rt, drawn, Err(DrawError::Write));
-        assert!(rt; whole.starts_with(&room[..taken]));
-    }
+    expect_failing_writes(&rt, &heap, &whole);
 }
 
 #[test]

@@ -55,6 +55,17 @@ fn expect_same<R: AllocGlobal + Abort>(rt: &R, one: &PartialReplica, other: &Par
     }
 }
 
+/// The call on a new heap.
+fn called_on_new_heap<R: AllocGlobal + Abort>(
+    rt: &R,
+    replicas: (&PartialReplica, &PartialReplica),
+    pieces: &[Piece],
+    others: &[Piece],
+) -> Result<Replicas<Global>, Reason> {
+    let mut heap = Heap::new(rt.alloc(), SIZES).expect(rt, "a heap");
+    called(rt, &mut heap, replicas, pieces, others)
+}
+
 /// What two replicas are that took some pieces, the second the others. The first had taken the old
 /// store.
 fn hold<R: AllocGlobal + Abort>(
@@ -64,8 +75,7 @@ fn hold<R: AllocGlobal + Abort>(
 ) -> Result<Replicas<Global>, Reason> {
     let first = with_old(rt);
     let second = PartialReplica::empty(rt.alloc(), 1);
-    let mut heap = Heap::new(rt.alloc(), SIZES).expect(rt, "a heap");
-    called(rt, &mut heap, (&first, &second), pieces, others)
+    called_on_new_heap(rt, (&first, &second), pieces, others)
 }
 
 /// Checks that both replicas hold the newest of the items, and that their joins have as many.

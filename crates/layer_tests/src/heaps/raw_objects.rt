@@ -32,18 +32,28 @@ fn give<A: Allocator + Copy>(
     heap.give(&replica_of(rt, memory, &piece(rt, 1, &[entry])))
 }
 
+/// A cycle in which the raw object, which was stored to, is placed, and one that isn't raw is made.
+fn place_raw<A: Allocator + Copy>(rt: &impl Abort, heap: &mut Heap<A>) {
+    expect_equal(rt, heap.alloc_raw(1, RAW, 2), Ok(Reply::Raw(2)));
+    let five = store(RAW, 0, Operand::Int(5));
+    expect_equal(rt, heap.command(1, &five), Ok(Reply::Done));
+    expect_equal(rt, heap.begin(), Ok(1));
+    expect_equal(rt, heap.alloc(1, root(1, 1), 6), Ok(Reply::Object(6)));
+    expect_raw(rt, heap);
+    expect_equal(rt, heap.shade(RAW), Ok(Shaded::Placed));
+}
+
+/// Checks which addresses have a raw object, another one or none.
+fn expect_raw<A: Allocator + Copy>(rt: &impl Abort, heap: &Heap<A>) {
+    expect_equal(rt, (heap.raw(0), heap.raw(4)), (Some(true), Some(false)));
+    expect_equal(rt, (heap.raw(1), heap.raw(12)), (None, None));
+}
+
 #[test]
 fn no_give_puts_a_reference_into_a_raw_object(rt: HostRuntime) {
     let memory = rt.alloc();
     let mut heap = Heap::new(memory, SIZES).expect(&rt, "a heap");
-    expect_equal(&rt, heap.alloc_raw(1, RAW, 2), Ok(Reply::Raw(2)));
-    let five = store(RAW, 0, Operand::Int(5));
-    expect_equal(&rt, heap.command(1, &five), Ok(Reply::Done));
-    expect_equal(&rt, heap.begin(), Ok(1));
-    expect_equal(&rt, heap.alloc(1, root(1, 1), 6), Ok(Reply::Object(6)));
-    expect_equal(&rt, (heap.raw(0), heap.raw(4)), (Some(true), Some(false)));
-    expect_equal(&rt, (heap.raw(1), heap.raw(12)), (None, None));
-    expect_equal(&rt, heap.shade(RAW), Ok(Shaded::Placed));
+    place_raw(&rt, &mut heap);
     let invented = [
         (item(0, 0, 1, Value::Ref(4)), forged(0)),
         (item(0, 1, 0, Value::Ref(4)), forged(1)),

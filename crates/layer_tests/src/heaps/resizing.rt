@@ -1,10 +1,10 @@
 //! Heaps that are resized, and give memory back.
 
-use crate::commands::{SIZES, alloc, root, store};
+use crate::commands::{Asked, SIZES, expect_answers};
 use crate::expectations::{Row, expect_equal, expect_refusals, expect_texts};
 use refusing::refused_in_turn;
 use rh_core::{Config, Heap, ReleaseError, ResizeError};
-use rh_layout::{Operand, Refusal, Reply};
+use rh_layout::{Command, Operand, Refusal, Reply, RootId};
 use std::alloc::Allocator;
 use std::process::Abort;
 
@@ -32,6 +32,46 @@ const TWO_LOGGED: &[((u32, u32), Result<(), ResizeError>)] = &[
     ((40, 2), Ok(())),
 ];
 
+/// The root of an object of two fields.
+const OBJECT: RootId = RootId { owner: 1, slot: 0 };
+
+/// The object of two fields is made.
+const FIRST_OBJECT: Asked = (
+    Command::Alloc {
+        dst: OBJECT,
+        fields: 2,
+    },
+    Ok(Reply::Object(2)),
+);
+
+/// Objects of two fields and of three are made.
+const TWO_OBJECTS: &[Asked] = &[
+    FIRST_OBJECT,
+    (
+        Command::Alloc {
+            dst: RootId { owner: 1, slot: 1 },
+            fields: 3,
+        },
+        Ok(Reply::Object(3)),
+    ),
+];
+
+/// A third object, without fields.
+const THIRD_OBJECT: Command = Command::Alloc {
+    dst: RootId { owner: 0, slot: 0 },
+    fields: 0,
+};
+
+/// A store of nil to the first field of the first object.
+const STORE: Command = Command::Store {
+    obj: OBJECT,
+    field: 0,
+    operand: Operand::Nil,
+};
+
+/// That store twice.
+const TWO_STORES: &[Asked] = &[(STORE, Ok(Reply::Done)), (STORE, Ok(Reply::Done))];
+
 /// Resizes a heap in turn, as a table has it.
 fn resize_each<A: Allocator + Copy>(
     rt: &impl Abort,
@@ -48,33 +88,38 @@ fn resize_each<A: Allocator + Copy>(
 #[test]
 fn a_heap_is_resized(rt: HostRuntime) {
     let mut heap = Heap::new(rt.alloc(), SMALL).expect(&rt, "a heap");
-    let (two, three) = (alloc(root(1, 0), 2), alloc(root(1, 1), 3));
-    expect_equal(&rt, heap.command(1, &two), Ok(Reply::Object(2)));
-    expect_equal(&rt, heap.command(1, &three), Ok(Reply::Object(3)));
-    resize_each(&rt, &mut heap, NINE_USED);
-    let full = Err(Refusal::SpaceFull { need: 2, free: 0 });
-    let made = alloc(root(0, 0), 0);
-    expect_equal(&rt, heap.command(1, &made), full);
-    expect_equal(&rt, heap.resize(11, 2), Ok(()));
-    expect_equal(&rt, heap.command(1, &made), Ok(Reply::Object(0)));
+    resize_outside_a_cycle(&rt, &mut heap);
     assert!(rt; heap.begin().is_ok());
-    for row in 0..2 {
-        let rt = Row { rt: &rt, row };
-        let answer = heap.command(1, &store(root(1, 0), 0, Operand::Nil));
-        expect_equal(&rt, answer, Ok(Reply::Done));
-    }
+    expect_answers(&rt, &mut heap, TWO_STORES);
     resize_each(&rt, &mut heap, TWO_LOGGED);
+    release_after_abandoning(&rt, &mut heap);
+}
+
+/// Before a cycle a third object is refused at the size that two objects use. It fits once the heap
+/// is resized past that.
+fn resize_outside_a_cycle<A: Allocator + Copy>(rt: &impl Abort, heap: &mut Heap<A>) {
+    expect_answers(rt, heap, TWO_OBJECTS);
+    resize_each(rt, heap, NINE_USED);
+    let full = Err(Refusal::SpaceFull { need: 2, free: 0 });
+    expect_answers(rt, heap, &[(THIRD_OBJECT, full)]);
+    expect_equal(rt, heap.resize(11, 2), Ok(()));
+    expect_answers(rt, heap, &[(THIRD_OBJECT, Ok(Reply::Object(0)))]);
+}
+
+/// A resized heap gives memory back once its cycle is abandoned.
+fn release_after_abandoning<A: Allocator + Copy>(rt: &impl Abort, heap: &mut Heap<A>) {
     let stat = heap.stat();
-    expect_equal(&rt, (stat.used, stat.free, stat.log), (11, 29, 2));
-    expect_equal(&rt, heap.release(), Err(ReleaseError::CycleOn));
+    expect_equal(rt, (stat.used, stat.free, stat.log), (11, 29, 2));
+    expect_equal(rt, heap.release(), Err(ReleaseError::CycleOn));
     assert!(rt; heap.abandon().is_ok());
-    expect_equal(&rt, heap.release(), Ok(()));
+    expect_equal(rt, heap.release(), Ok(()));
 }
 
 /// Makes a heap and grows it. Answers whether memory was refused.
 fn is_refused_a_growth<A: Allocator + Copy>(rt: &impl Abort, memory: A) -> bool {
-    match Heap::new(memory, SMALL) {
-        Ok(mut heap) => is_refused_to_grow(rt, &mut heap),
+    let mut made = Heap::new(memory, SMALL);
+    match &mut made {
+        Ok(heap) => is_refused_to_grow(rt, heap),
         Err(_) => true,
     }
 }
@@ -82,11 +127,7 @@ fn is_refused_a_growth<A: Allocator + Copy>(rt: &impl Abort, memory: A) -> bool 
 /// Grows a heap, and checks that a growth that is refused changes nothing and that a smaller size
 /// isn't refused then. Answers whether memory was refused.
 fn is_refused_to_grow<A: Allocator + Copy>(rt: &impl Abort, heap: &mut Heap<A>) -> bool {
-    expect_equal(
-        rt,
-        heap.command(1, &alloc(root(1, 0), 2)),
-        Ok(Reply::Object(2)),
-    );
+    expect_answers(rt, heap, &[FIRST_OBJECT]);
     let before = heap.stat();
     if let Err(why) = heap.resize(64, 8) {
         expect_equal(rt, why, ResizeError::OutOfMemory);

@@ -53,12 +53,17 @@ fn expect_done(rt: &impl Abort, answers: &[Answer], count: usize) {
     expect_equal(rt, told(last), Some(("done", 0, 0)));
 }
 
+/// Runs these 100,000 events, each of which drops a root.
+fn run_drops<R: AllocGlobal + Abort>(rt: &R, heap: &mut Heap, events: &[Event<Global>]) {
+    let mut answers = Vec::new(rt.alloc());
+    expect_equal(rt, heap.run(events, &mut answers), Ok(()));
+    expect_done(rt, &answers, 100_000);
+}
+
 #[test]
 fn a_run_of_100000_events(rt: HostRuntime) {
     let mut heap = Heap::new(rt.alloc(), SMALL).expect(&rt, "a heap");
-    let mut answers = Vec::new(rt.alloc());
-    expect_equal(&rt, heap.run(&drops(&rt, 100_000), &mut answers), Ok(()));
-    expect_done(&rt, &answers, 100_000);
+    run_drops(&rt, &mut heap, &drops(&rt, 100_000));
 }
 
 /// A deal of so many at most.
@@ -105,17 +110,28 @@ fn add_joins<A: Allocator + Copy>(
     add_give(events, joined(other, one)?)
 }
 
-/// Adds these gives of two replicas, where memory wasn't refused. One has the first field as it was
-/// made; the other the first as it was stored to, and the second.
+/// Adds the gives of `add_joins` of this replica and another, where memory wasn't refused. The other
+/// has the first field as it was stored to, and the second.
+fn add_gives_with_another<A: Allocator + Copy>(
+    rt: &impl Abort,
+    memory: A,
+    events: &mut Vec<Event<A>, A>,
+    one: &PartialReplica<A>,
+) -> Option<()> {
+    let items = [item(0, 1, 0, Value::Nil), item(0, 0, 1, Value::Int(9))];
+    let other = taken(rt, memory, &items)?;
+    add_joins(events, one, &other)
+}
+
+/// Adds the gives of `add_gives_with_another`, where memory wasn't refused. This replica has the first
+/// field as it was made.
 fn add_gives<A: Allocator + Copy>(
     rt: &impl Abort,
     memory: A,
     events: &mut Vec<Event<A>, A>,
 ) -> Option<()> {
-    let items = [item(0, 1, 0, Value::Nil), item(0, 0, 1, Value::Int(9))];
     let one = taken(rt, memory, &[item(0, 0, 0, Value::Nil)])?;
-    let other = taken(rt, memory, &items)?;
-    add_joins(events, &one, &other)
+    add_gives_with_another(rt, memory, events, &one)
 }
 
 /// What a cycle is told, in which replicas of both fields of an object are given three times.
@@ -189,10 +205,20 @@ fn is_refused_a_cycle<A: Allocator + Copy>(rt: &impl Abort, memory: A) -> bool {
     if add_cycle(rt, memory, &mut events).is_none() {
         return true;
     }
-    match Heap::new(memory, SMALL) {
-        Ok(mut heap) => is_refused_a_run(rt, &mut heap, &events, &mut Vec::new(memory)),
+    is_refused_a_run_on_a_new_heap(rt, memory, &events)
+}
+
+/// Makes a heap, and runs events on it. Answers whether memory was refused.
+fn is_refused_a_run_on_a_new_heap<A: Allocator + Copy>(
+    rt: &impl Abort,
+    memory: A,
+    events: &[Event<A>],
+) -> bool {
+    let mut made = Heap::new(memory, SMALL);
+    match &mut made {
+        Ok(heap) => is_refused_a_run(rt, heap, events, &mut Vec::new(memory)),
         Err(error) => {
-            expect_equal(rt, error, HeapError::OutOfMemory);
+            expect_equal(rt, *error, HeapError::OutOfMemory);
             true
         }
     }

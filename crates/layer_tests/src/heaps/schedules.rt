@@ -12,6 +12,7 @@ use rh_core::laws::schedules::all_that_was_dealt_is_current;
 use rh_core::{Answer, Event, Heap};
 use rh_layout::OutOfMemory;
 use std::alloc::Allocator;
+use std::process::Abort;
 
 /// Runs events. Where the dealing of the present epoch began in them, nothing is undealt, and each
 /// item that was dealt since was given, nothing is missing.
@@ -33,13 +34,18 @@ fn run_whole<A: Allocator + Copy>(
     Ok(())
 }
 
-#[test]
-fn an_object_without_fields_lacks_nothing(rt: HostRuntime) {
-    let mut heap = Heap::new(rt.alloc(), SIZES).expect(&rt, "a heap");
+/// Makes and shades an object without fields in a cycle.
+fn place_without_fields<R: AllocGlobal + Abort>(rt: &R, heap: &mut Heap) {
     let command = alloc(root(1, 0), 0);
     let shade = Event::Shade(root(1, 0));
     let events = [Event::Begin, Event::Command { owner: 1, command }, shade];
     let mut answers = Vec::new(rt.alloc());
-    expect_equal(&rt, run_whole(&mut heap, &events, &mut answers), Ok(()));
+    expect_equal(rt, run_whole(heap, &events, &mut answers), Ok(()));
+}
+
+#[test]
+fn an_object_without_fields_lacks_nothing(rt: HostRuntime) {
+    let mut heap = Heap::new(rt.alloc(), SIZES).expect(&rt, "a heap");
+    place_without_fields(&rt, &mut heap);
     expect_equal(&rt, (heap.stat().placed, heap.stat().missing), (1, 0));
 }

@@ -1,6 +1,6 @@
 //! Objects that are watched, and told once they are gone.
 
-use crate::commands::{SIZES, alloc, drop_root, root, store};
+use crate::commands::{SIZES, alloc, drop_root, expect_accepted, store};
 use crate::expectations::{Row, expect_equal, expect_refusals, expect_texts};
 use refusing::refused_in_turn;
 use rh_core::{Config, Heap, RoomError, WatchError};
@@ -45,14 +45,6 @@ const WATCHED: &[((u32, RootId), Result<u32, WatchError>)] = &[
     ((1, OBJECT), Err(WatchError::Full)),
 ];
 
-/// Commands of owner 1, which are accepted.
-fn do_all<A: Allocator + Copy>(rt: &impl Abort, heap: &mut Heap<A>, commands: &[Command]) {
-    for (row, command) in commands.iter().enumerate() {
-        let rt = Row { rt, row };
-        assert!(&rt; heap.command(1, command).is_ok());
-    }
-}
-
 /// A whole cycle, with ample idle work.
 fn collect<A: Allocator + Copy>(rt: &impl Abort, heap: &mut Heap<A>) {
     assert!(rt; heap.begin().is_ok());
@@ -76,7 +68,39 @@ fn expect_told<A: Allocator + Copy>(rt: &impl Abort, heap: &mut Heap<A>, told: &
 /// A heap with the two objects.
 fn with_objects<A: Allocator + Copy>(rt: &impl Abort, heap: &mut Heap<A>) {
     let stored = store(OBJECT, 0, Operand::Root(OTHER));
-    do_all(rt, heap, &[alloc(OBJECT, 1), alloc(OTHER, 0), stored]);
+    expect_accepted(rt, heap, &[alloc(OBJECT, 1), alloc(OTHER, 0), stored]);
+}
+
+/// Nothing is watched before there is room. Then rooms and watches are asked for in turn.
+fn watch_each<A: Allocator + Copy>(rt: &impl Abort, heap: &mut Heap<A>) {
+    expect_equal(rt, heap.watch(1, OBJECT), Err(WatchError::Full));
+    for (row, &(tickets, answer)) in ROOMS.iter().enumerate() {
+        let rt = Row { rt, row };
+        expect_equal(&rt, heap.watch_room(tickets), answer);
+    }
+    for (row, &((owner, root), answer)) in WATCHED.iter().enumerate() {
+        let rt = Row { rt, row };
+        expect_equal(&rt, heap.watch(owner, root), answer);
+    }
+}
+
+/// A command, and a whole cycle that tells this.
+fn collect_after<A: Allocator + Copy>(
+    rt: &impl Abort,
+    heap: &mut Heap<A>,
+    command: Command,
+    told: &[u32],
+) {
+    expect_accepted(rt, heap, &[command]);
+    collect(rt, heap);
+    expect_told(rt, heap, told);
+}
+
+/// A cycle that is abandoned tells nothing.
+fn begin_and_abandon<A: Allocator + Copy>(rt: &impl Abort, heap: &mut Heap<A>) {
+    assert!(rt; heap.begin().is_ok());
+    assert!(rt; heap.abandon().is_ok());
+    expect_told(rt, heap, &[]);
 }
 
 /// An object that a field still refers to isn't told. It is once that is nil. An abandoned cycle
@@ -85,55 +109,59 @@ fn with_objects<A: Allocator + Copy>(rt: &impl Abort, heap: &mut Heap<A>) {
 fn a_ticket_is_told_once_its_object_is_gone(rt: HostRuntime) {
     let mut heap = Heap::new(rt.alloc(), THREE_SLOTS).expect(&rt, "a heap");
     with_objects(&rt, &mut heap);
-    expect_equal(&rt, heap.watch(1, OBJECT), Err(WatchError::Full));
-    for (row, &(tickets, answer)) in ROOMS.iter().enumerate() {
-        let rt = Row { rt: &rt, row };
-        expect_equal(&rt, heap.watch_room(tickets), answer);
-    }
-    for (row, &((owner, root), answer)) in WATCHED.iter().enumerate() {
-        let rt = Row { rt: &rt, row };
-        expect_equal(&rt, heap.watch(owner, root), answer);
-    }
-    do_all(&rt, &mut heap, &[drop_root(OTHER)]);
-    collect(&rt, &mut heap);
-    expect_told(&rt, &mut heap, &[]);
-    do_all(&rt, &mut heap, &[store(OBJECT, 0, Operand::Nil)]);
-    collect(&rt, &mut heap);
-    expect_told(&rt, &mut heap, &[0]);
-    expect_equal(&rt, heap.watch(1, OBJECT), Ok(0));
-    do_all(&rt, &mut heap, &[drop_root(OBJECT)]);
-    assert!(rt; heap.begin().is_ok());
-    assert!(rt; heap.abandon().is_ok());
-    expect_told(&rt, &mut heap, &[]);
-    collect(&rt, &mut heap);
-    expect_told(&rt, &mut heap, &[0, 1]);
+    watch_each(&rt, &mut heap);
+    collect_after(&rt, &mut heap, drop_root(OTHER), &[]);
+    collect_after(&rt, &mut heap, store(OBJECT, 0, Operand::Nil), &[0]);
+    expect_both_told(&rt, &mut heap);
 }
 
-/// A ticket that is freed isn't told, and is the first to watch again. One that is to be told isn't
-/// freed.
+/// A ticket that was told is the first to watch again. An abandoned cycle tells neither ticket, and a
+/// whole one both.
+fn expect_both_told<A: Allocator + Copy>(rt: &impl Abort, heap: &mut Heap<A>) {
+    expect_equal(rt, heap.watch(1, OBJECT), Ok(0));
+    expect_accepted(rt, heap, &[drop_root(OBJECT)]);
+    begin_and_abandon(rt, heap);
+    collect(rt, heap);
+    expect_told(rt, heap, &[0, 1]);
+}
+
+/// Makes room for three tickets, watches the second object twice and the first once, and frees the
+/// first ticket. It isn't freed twice, nor is one that isn't there.
+fn watch_and_free<A: Allocator + Copy>(rt: &impl Abort, heap: &mut Heap<A>) {
+    expect_equal(rt, heap.watch_room(3), Ok(()));
+    for (row, &(root, ticket)) in [(OTHER, 0), (OTHER, 1), (OBJECT, 2)].iter().enumerate() {
+        let rt = Row { rt, row };
+        expect_equal(&rt, heap.watch(1, root), Ok(ticket));
+    }
+    for (row, &(ticket, freed)) in [(0, true), (0, false), (3, false)].iter().enumerate() {
+        let rt = Row { rt, row };
+        expect_equal(&rt, heap.unwatch(ticket), freed);
+    }
+}
+
+/// A ticket that is freed isn't told. One that is to be told isn't freed.
 #[test]
 fn a_freed_ticket_is_not_told(rt: HostRuntime) {
     let mut heap = Heap::new(rt.alloc(), THREE_SLOTS).expect(&rt, "a heap");
     with_objects(&rt, &mut heap);
-    expect_equal(&rt, heap.watch_room(3), Ok(()));
-    for ticket in 0..2 {
-        expect_equal(&rt, heap.watch(1, OTHER), Ok(ticket));
-    }
-    expect_equal(&rt, heap.watch(1, OBJECT), Ok(2));
-    for (ticket, freed) in [(0, true), (0, false), (3, false)] {
-        expect_equal(&rt, heap.unwatch(ticket), freed);
-    }
-    do_all(&rt, &mut heap, &[drop_root(OTHER), drop_root(OBJECT)]);
-    collect(&rt, &mut heap);
-    expect_equal(&rt, heap.unwatch(1), false);
-    expect_equal(&rt, heap.watches().room(), 3);
-    expect_told(&rt, &mut heap, &[1, 2]);
+    watch_and_free(&rt, &mut heap);
+    expect_the_others_told(&rt, &mut heap);
+}
+
+/// The other two tickets are told once both objects are gone.
+fn expect_the_others_told<A: Allocator + Copy>(rt: &impl Abort, heap: &mut Heap<A>) {
+    expect_accepted(rt, heap, &[drop_root(OTHER), drop_root(OBJECT)]);
+    collect(rt, heap);
+    expect_equal(rt, heap.unwatch(1), false);
+    expect_equal(rt, heap.watches().room(), 3);
+    expect_told(rt, heap, &[1, 2]);
 }
 
 /// Makes a heap and room for tickets. Answers whether memory was refused.
 fn is_refused_room<A: Allocator + Copy>(rt: &impl Abort, memory: A) -> bool {
-    match Heap::new(memory, THREE_SLOTS) {
-        Ok(mut heap) => is_refused_room_in(rt, &mut heap),
+    let mut made = Heap::new(memory, THREE_SLOTS);
+    match &mut made {
+        Ok(heap) => is_refused_room_in(rt, heap),
         Err(_) => true,
     }
 }

@@ -1,7 +1,7 @@
 //! Memory that is refused to what makes a layer or a heap.
 
 use crate::commands::SIZES;
-use crate::expectations::expect_equal;
+use crate::expectations::{expect_equal, is_refused};
 use refusing::refused_in_turn;
 use rh_log::Log;
 use rh_pace::{Pace, PacedHeap};
@@ -18,11 +18,11 @@ const PACE: Pace = Pace {
 #[test]
 fn refused_memory(rt: HostRuntime) {
     let refused = refused_in_turn(rt.alloc(), |memory| {
-        Roots::new(memory, 2, 2).is_err()
-            || Space::new(memory, 8).is_err()
-            || Log::new(memory, 3, 9).is_err()
-            || Joint::new(memory, 8).is_err()
-            || PacedHeap::new(memory, SIZES, PACE).is_err()
+        is_refused(Roots::new(memory, 2, 2))
+            || is_refused(Space::new(memory, 8))
+            || is_refused(Log::new(memory, 3, 9))
+            || is_refused(Joint::new(memory, 8))
+            || is_refused(PacedHeap::new(memory, SIZES, PACE))
     });
     // One of each layer, and one of each of the four of a heap.
     expect_equal(&rt, refused, Ok(8));

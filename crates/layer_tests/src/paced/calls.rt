@@ -159,20 +159,25 @@ pub fn play<M: Allocator + Copy>(rt: &impl Abort, heap: &mut PacedHeap<M>, steps
     }
 }
 
+/// What a heap has and has seen once those steps were played.
+fn expect_played<M: Allocator + Copy>(rt: &impl Abort, heap: &PacedHeap<M>) {
+    let stat = heap.stat();
+    expect_equal(rt, (stat.used, stat.free, stat.flips), (30, 2, 1));
+    expect_equal(rt, heap.heap().epoch(), 2);
+    let seen = Seen {
+        biggest: 13,
+        reached: 17,
+    };
+    expect_equal(rt, heap.seen(), seen);
+}
+
 #[test]
 fn each_call_and_what_it_did(rt: HostRuntime) {
     let mut heap = small_heap(&rt, rt.alloc(), SIZES);
     expect_equal(&rt, (heap.last_did(), heap.pace()), (Did::NOTHING, PACE));
     play(&rt, &mut heap, STEPS);
     expect_equal(&rt, heap.increment(), Did::NOTHING);
-    let stat = heap.stat();
-    expect_equal(&rt, (stat.used, stat.free, stat.flips), (30, 2, 1));
-    expect_equal(&rt, heap.heap().epoch(), 2);
-    let seen = Seen {
-        biggest: 13,
-        reached: 17,
-    };
-    expect_equal(&rt, heap.seen(), seen);
+    expect_played(&rt, &heap);
 }
 
 /// The words of the object that the root names, by each reader.
@@ -196,25 +201,42 @@ fn expect_object<M: Allocator + Copy>(
     expect_equal(rt, heap.field(address, fields), None);
 }
 
+/// An object is made, stored to and read, and a second root names it.
+fn make_and_share<M: Allocator + Copy>(rt: &impl Abort, heap: &mut PacedHeap<M>) {
+    expect_equal(rt, heap.alloc(1, A, 2), Ok(Reply::Object(2)));
+    expect_equal(rt, heap.store(1, A, 1, Operand::Int(-3)), Ok(Reply::Done));
+    expect_equal(rt, heap.load(1, B, A, 1), Ok(Reply::Int(-3)));
+    expect_equal(rt, heap.copy(1, C, A), Ok(Reply::Object(2)));
+    expect_equal(rt, heap.same(1, A, C), Ok(Reply::Same(true)));
+}
+
+/// Drops the first root, and insists on a store to the object.
+fn drop_and_store<M: Allocator + Copy>(rt: &impl Abort, heap: &mut PacedHeap<M>) {
+    expect_equal(rt, heap.drop(1, A), Ok(Reply::Done));
+    let nil = store(C, 0, Operand::Nil);
+    expect_equal(rt, heap.insist(1, &nil), Ok(Reply::Done));
+}
+
+/// What is read of roots and addresses where no object is.
+fn expect_nothing<M: Allocator + Copy>(rt: &impl Abort, heap: &PacedHeap<M>) {
+    expect_equal(rt, heap.root(A), Some(Value::Nil));
+    expect_equal(rt, heap.root(root(2, 0)), None);
+    expect_equal(rt, heap.fields(1), None);
+    expect_equal(rt, heap.raw(1), None);
+}
+
 #[test]
 fn calls_one_by_one(rt: HostRuntime) {
     let mut heap = small_heap(&rt, rt.alloc(), SIZES);
-    expect_equal(&rt, heap.alloc(1, A, 2), Ok(Reply::Object(2)));
-    expect_equal(&rt, heap.store(1, A, 1, Operand::Int(-3)), Ok(Reply::Done));
-    expect_equal(&rt, heap.load(1, B, A, 1), Ok(Reply::Int(-3)));
-    expect_equal(&rt, heap.copy(1, C, A), Ok(Reply::Object(2)));
-    expect_equal(&rt, heap.same(1, A, C), Ok(Reply::Same(true)));
-    expect_equal(&rt, heap.drop(1, A), Ok(Reply::Done));
-    expect_equal(
-        &rt,
-        heap.insist(1, &store(C, 0, Operand::Nil)),
-        Ok(Reply::Done),
-    );
+    make_and_share(&rt, &mut heap);
+    drop_and_store(&rt, &mut heap);
     expect_object(&rt, &heap, C, 2, Value::Int(-3));
-    expect_equal(&rt, heap.root(A), Some(Value::Nil));
-    expect_equal(&rt, heap.root(root(2, 0)), None);
-    expect_equal(&rt, heap.fields(1), None);
-    expect_equal(&rt, heap.raw(1), None);
-    expect_equal(&rt, heap.command(2, &drop_root(C)), Err(Refusal::NoRoot));
-    expect_equal(&rt, heap.alloc_raw(1, B, 1), Ok(Reply::Raw(1)));
+    expect_nothing(&rt, &heap);
+    refuse_and_make_raw(&rt, &mut heap);
+}
+
+/// A root of an owner that isn't there is refused, and a raw object is made.
+fn refuse_and_make_raw<M: Allocator + Copy>(rt: &impl Abort, heap: &mut PacedHeap<M>) {
+    expect_equal(rt, heap.command(2, &drop_root(C)), Err(Refusal::NoRoot));
+    expect_equal(rt, heap.alloc_raw(1, B, 1), Ok(Reply::Raw(1)));
 }

@@ -265,16 +265,19 @@ fn play_on<M: Allocator + Copy>(
     assert!(rt; false, "fewer than fifty cycles");
 }
 
-/// Runs a program over fifty cycles and more, at a ratio and exactly the words that the rule asks
-/// for.
+/// Runs a program on a paced heap, over fifty cycles and more, and beside it on a plain one.
+fn run_beside<R: AllocGlobal + Abort>(rt: &R, paced: &mut PacedHeap, program: &Program) {
+    let mut plain = Plain::new(rt.alloc(), 2, 4).ok().expect(rt, "a plain heap");
+    play_first(rt, paced, &mut plain, program);
+    play_on(rt, paced, &mut plain, program);
+}
+
+/// Runs a program at a ratio and exactly the words that the rule asks for.
 fn run<R: AllocGlobal + Abort>(rt: &R, program: &Program, ratio: u32) {
     let words = least_words(program, ratio);
     let pace = Pace::of(words, program.live, program.biggest, ratio).expect(rt, "a pace");
     let made = PacedHeap::new(rt.alloc(), pace.config(words, ratio, 2, 4), pace);
-    let mut paced = made.ok().expect(rt, "a heap");
-    let mut plain = Plain::new(rt.alloc(), 2, 4).ok().expect(rt, "a plain heap");
-    play_first(rt, &mut paced, &mut plain, program);
-    play_on(rt, &mut paced, &mut plain, program);
+    run_beside(rt, &mut made.ok().expect(rt, "a heap"), program);
 }
 
 #[test]

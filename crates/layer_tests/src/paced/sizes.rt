@@ -1,7 +1,7 @@
 //! Heaps that are made of their sizes, the errors of a runtime, and what is read of a field without
 //! a root for it.
 
-use crate::expectations::{Row, expect_equal, expect_texts};
+use crate::expectations::{Row, expect_equal, expect_texts, is_refused};
 use refusing::refused_in_turn;
 use rh_heap::{
     ConfigFault, EpochsSpent, Error, GrowingError, HeapError, Operand, OutOfMemory, PaceError,
@@ -86,7 +86,7 @@ fn heaps_of_sizes(rt: HostRuntime) {
 #[test]
 fn refused_memory(rt: HostRuntime) {
     let refused = refused_in_turn(rt.alloc(), |memory| {
-        PacedHeap::sized(memory, SMALL).is_err()
+        is_refused(PacedHeap::sized(memory, SMALL))
     });
     // The roots, two spaces and the log.
     expect_equal(&rt, refused, Ok(4));

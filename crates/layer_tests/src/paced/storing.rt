@@ -55,29 +55,41 @@ fn numbers_are_stored_for_all_fields_or_for_none(rt: HostRuntime) {
     }
 }
 
+/// An object and the field from which two numbers are read, what is answered, and what was read by
+/// then.
+type Loaded = (RootId, u32, Result<u32, Refusal>, [i64; 2]);
+
+/// What is refused reads nothing.
+const LOADED: &[Loaded] = &[
+    (A, 1, Ok(2), [-6, 7]),
+    (A, 2, Err(Refusal::NoField), [-6, 7]),
+    (B, 0, Err(Refusal::NotObject), [-6, 7]),
+];
+
+/// Reads two numbers in turn.
+fn load_each<M: Allocator + Copy>(
+    rt: &impl Abort,
+    heap: &PacedHeap<M>,
+    read: &mut [i64; 2],
+    rows: &[Loaded],
+) {
+    for (row, &(object, from, answer, numbers)) in rows.iter().enumerate() {
+        let rt = &Row { rt, row };
+        expect_equal(rt, heap.load_all(1, object, from, read), answer);
+        expect_equal(rt, *read, numbers);
+    }
+}
+
 #[test]
 fn numbers_are_read_up_to_the_first_other_value(rt: HostRuntime) {
     let mut heap = small_heap(&rt, rt.alloc(), SIZES);
     expect_equal(&rt, heap.alloc(1, A, 3), Ok(Reply::Object(3)));
     expect_equal(&rt, heap.store_all(1, A, 0, &[5, -6, 7]), Ok(()));
     let mut read = [1; 2];
-    expect_equal(&rt, heap.load_all(1, A, 1, &mut read), Ok(2));
-    expect_equal(&rt, read, [-6, 7]);
-    expect_equal(
-        &rt,
-        heap.load_all(1, A, 2, &mut read),
-        Err(Refusal::NoField),
-    );
-    expect_equal(
-        &rt,
-        heap.load_all(1, B, 0, &mut read),
-        Err(Refusal::NotObject),
-    );
+    load_each(&rt, &heap, &mut read, LOADED);
     expect_equal(&rt, heap.load_all(9, B, 0, &mut []), Ok(0));
-    expect_equal(&rt, read, [-6, 7]);
     expect_equal(&rt, heap.store(1, A, 1, Operand::Nil), Ok(Reply::Done));
-    expect_equal(&rt, heap.load_all(1, A, 0, &mut read), Ok(1));
-    expect_equal(&rt, read, [5, 7]);
+    load_each(&rt, &heap, &mut read, &[(A, 0, Ok(1), [5, 7])]);
 }
 
 /// The sizes of a heap that has five numbers.
@@ -142,27 +154,54 @@ fn numbers_stop_at_the_limits(rt: HostRuntime) {
     stop_at_the_last_entry(&rt, &mut small_heap(&rt, rt.alloc(), FEW));
 }
 
+/// A text of nine bytes.
+const TEXT: [u8; 9] = [1, 2, 3, 4, 5, 6, 255, 8, 9];
+
+/// What the three fields hold once the text was put from the second on: nine bytes take two fields,
+/// of which the second has two.
+const FIELDS: &[(u32, Reply)] = &[
+    (0, Reply::Nil),
+    (1, Reply::Int(0xff_0605_0403_0201)),
+    (2, Reply::Int(0x0908)),
+];
+
+/// Puts the text into a new object of three fields.
+fn put_text<M: Allocator + Copy>(rt: &impl Abort, heap: &mut PacedHeap<M>) {
+    expect_equal(rt, heap.alloc(1, A, 3), Ok(Reply::Object(3)));
+    expect_equal(rt, heap.put_text(1, A, 1, &TEXT), Ok(()));
+    for (row, &(field, reply)) in FIELDS.iter().enumerate() {
+        let rt = &Row { rt, row };
+        expect_equal(rt, heap.peek(1, A, field), Ok(reply));
+    }
+}
+
+/// A byte more than two fields take is refused, and changes nothing.
+fn refuse_text<M: Allocator + Copy>(rt: &impl Abort, heap: &mut PacedHeap<M>) {
+    let long = heap.put_text(1, A, 1, &[0; 15]);
+    expect_equal(rt, long, Err(Refusal::NoField));
+    expect_equal(rt, heap.text(1, A, 1, &mut [0; 15]), Err(Refusal::NoField));
+}
+
+/// Of a number its lowest 56 bits are read, up to the first field that holds none.
+fn store_and_read_number<M: Allocator + Copy>(
+    rt: &impl Abort,
+    heap: &mut PacedHeap<M>,
+    read: &mut [u8; 9],
+) {
+    expect_equal(rt, heap.store_all(1, A, 1, &[-2]), Ok(()));
+    expect_equal(rt, heap.store(1, A, 2, Operand::Nil), Ok(Reply::Done));
+    expect_equal(rt, heap.text(1, A, 1, read), Ok(7));
+    expect_equal(rt, *read, [254, 255, 255, 255, 255, 255, 255, 8, 9]);
+    expect_equal(rt, heap.text(1, A, 0, read), Ok(0));
+}
+
 #[test]
 fn texts_are_read_as_they_were_put(rt: HostRuntime) {
     let mut heap = small_heap(&rt, rt.alloc(), SIZES);
-    expect_equal(&rt, heap.alloc(1, A, 3), Ok(Reply::Object(3)));
-    // Nine bytes take two fields, of which the second has two.
-    let text = [1, 2, 3, 4, 5, 6, 255, 8, 9];
-    expect_equal(&rt, heap.put_text(1, A, 1, &text), Ok(()));
-    expect_equal(&rt, heap.peek(1, A, 0), Ok(Reply::Nil));
-    expect_equal(&rt, heap.peek(1, A, 1), Ok(Reply::Int(0xff_0605_0403_0201)));
-    expect_equal(&rt, heap.peek(1, A, 2), Ok(Reply::Int(0x0908)));
+    put_text(&rt, &mut heap);
     let mut read = [7; 9];
     expect_equal(&rt, heap.text(1, A, 1, &mut read), Ok(9));
-    expect_equal(&rt, read, text);
-    // A byte more than two fields take is refused, and changes nothing.
-    let long = heap.put_text(1, A, 1, &[0; 15]);
-    expect_equal(&rt, long, Err(Refusal::NoField));
-    expect_equal(&rt, heap.text(1, A, 1, &mut [0; 15]), Err(Refusal::NoField));
-    // Of a number its lowest 56 bits are read, up to the first field that holds none.
-    expect_equal(&rt, heap.store_all(1, A, 1, &[-2]), Ok(()));
-    expect_equal(&rt, heap.store(1, A, 2, Operand::Nil), Ok(Reply::Done));
-    expect_equal(&rt, heap.text(1, A, 1, &mut read), Ok(7));
-    expect_equal(&rt, read, [254, 255, 255, 255, 255, 255, 255, 8, 9]);
-    expect_equal(&rt, heap.text(1, A, 0, &mut read), Ok(0));
+    expect_equal(&rt, read, TEXT);
+    refuse_text(&rt, &mut heap);
+    store_and_read_number(&rt, &mut heap, &mut read);
 }
