@@ -4,6 +4,24 @@ use crate::page::{CELL_HEIGHT, Page, ROW_LEFT, Strip};
 use rh_layout::OutOfMemory;
 use std::alloc::Allocator;
 
+/// Puts a curve of this class from one point to another. It leaves the first towards the height
+/// `out`, and comes to the second from the height `back`.
+fn put_curve<B: Allocator>(
+    svg: &mut String<B>,
+    class: &str,
+    from: (u64, u64),
+    out: u64,
+    back: u64,
+    to: (u64, u64),
+) -> Result<(), OutOfMemory> {
+    let ((x, y), (to_x, to_y)) = (from, to);
+    write!(
+        svg,
+        "<path class='{class}' d='M{x} {y}C{x} {out} {to_x} {back} {to_x} {to_y}'/>\n"
+    )?;
+    Ok(())
+}
+
 /// Puts an arrow from a field's word to an object's header in the same space. Arrows of a row with
 /// other lanes stand apart.
 pub fn put_reference<B: Allocator>(
@@ -25,11 +43,7 @@ pub fn put_reference<B: Allocator>(
         let end = to_y + CELL_HEIGHT;
         (y, y - 34, end + 34, end)
     };
-    write!(
-        svg,
-        "<path class='reference' d='M{x} {start}C{x} {out} {to_x} {back} {to_x} {end}'/>\n"
-    )?;
-    Ok(())
+    put_curve(svg, "reference", (x, start), out, back, (to_x, end))
 }
 
 /// Puts an arrow from the root `i`, counted from 0 of those that are drawn, to an object's header.
@@ -64,9 +78,5 @@ pub fn put_placed<B: Allocator>(
     );
     let (to_x, to_y) = (page.to.left(replica) + 12, page.to.upper(replica));
     let (out, back) = (y + 40, to_y - 40);
-    write!(
-        svg,
-        "<path class='placed' d='M{x} {y}C{x} {out} {to_x} {back} {to_x} {to_y}'/>\n"
-    )?;
-    Ok(())
+    put_curve(svg, "placed", (x, y), out, back, (to_x, to_y))
 }

@@ -4,7 +4,7 @@ ghost use Rattle.std.specs.Prelude.{OnOk};
 ghost use Rattle.std.specs.String.{string_bytes};
 ghost use Rattle.rh_draw.specs.Picture.{IsWhole};
 
-use crate::head::{put_head, put_stat};
+use crate::head::put_head;
 use crate::sketch::Excess;
 use rh_core::Heap;
 use rh_layout::OutOfMemory;
@@ -13,9 +13,14 @@ use std::alloc::Allocator;
 /// The width of the bar of all words.
 const FULL: u64 = 600;
 
-/// What the picture shows, in words.
+/// The description of a picture.
 const DESCRIPTION: &str = "A managed heap that has more than is drawn one by one. Bars show how \
 many words objects use, how many are free, and how many are placed.";
+
+/// What the picture shows, in words.
+fn description<'a>() -> &'a str {
+    DESCRIPTION
+}
 
 /// Puts a bar of so many words of a space's.
 fn put_bar<B: Allocator>(
@@ -46,8 +51,7 @@ pub fn put_bars<A: Allocator + Copy, B: Allocator>(
 ) -> Result<(), OutOfMemory>
     ensures { OnOk result (IsWhole (string_bytes svg.new)) }
 {
-    put_head(svg, title, DESCRIPTION, 218)?;
-    put_stat(svg, &heap.stat())?;
+    put_head(svg, title, description(), 218, &heap.stat())?;
     let words = heap.config().words;
     put_bar(svg, "used", 88, "words used", heap.used(), words)?;
     put_bar(svg, "cell", 118, "words free", heap.free_words(), words)?;

@@ -172,8 +172,12 @@ pub fn put_box<B: Allocator>(
     strip: Strip,
     object: Object,
 ) -> Result<(), OutOfMemory> {
-    let kind = if object.raw { "box raw" } else { "box" };
-    write!(svg, "<g class='{kind}'>\n")?;
+    let start = if object.raw {
+        "<g class='box raw'>\n"
+    } else {
+        "<g class='box'>\n"
+    };
+    svg.push_str(start)?;
     put_outline(svg, strip, object)?;
     svg.push_str("</g>\n")?;
     put_header(svg, strip, object)

@@ -1,13 +1,13 @@
 //! The picture of a heap, put together and written.
 
-ghost use Rattle.std.specs.Prelude.{◌≡◌, false, IfOk, IsErrOf, OnOk};
+ghost use Rattle.std.specs.Prelude.{◌≡◌, false, IsErrOf, OnOk};
 ghost use Rattle.std.specs.String.{string_bytes};
 ghost use Rattle.rh_text.specs.IoLog.{AreSpent};
-ghost use Rattle.rh_draw.specs.Picture.{Draws, IsWhole};
+ghost use Rattle.rh_draw.specs.Picture.{Draws, IsWhole, WritesText};
 
 use crate::bars::put_bars;
 use crate::error::DrawError;
-use crate::head::{put_head, put_stat};
+use crate::head::put_head;
 use crate::legend::put_legend;
 use crate::log::put_log;
 use crate::page::{Page, page_of};
@@ -23,13 +23,18 @@ use rh_text::{IoLog, Write, send};
 use std::alloc::Allocator;
 use std::io;
 
-/// What the picture shows, in words.
+/// The description of a picture.
 const DESCRIPTION: &str = "A managed heap. Roots stand at the left, with arrows to what they refer \
 to. Each object is a box of words with its address, whether it is raw, and its fields, which have \
 the number of their last store below what they hold. In a cycle to-space stands below, where the \
 current pair of a filled field is held, that of an empty one is not, and a hatched one was stored \
 to since. Dashed arrows lead from objects to their replicas. The entries of the log stand at the \
 bottom, struck through once a deal has looked at them.";
+
+/// What the picture shows, in words.
+fn description<'a>() -> &'a str {
+    DESCRIPTION
+}
 
 /// Puts all arrows. They stand below what is put after them, so that no text is crossed.
 fn put_arrows<A: Allocator + Copy, B: Allocator>(
@@ -77,8 +82,7 @@ fn put_all<A: Allocator + Copy, B: Allocator>(
         heap.replica().used(),
         heap.is_in_cycle(),
     );
-    put_head(svg, title, DESCRIPTION, page.height)?;
-    put_stat(svg, &heap.stat())?;
+    put_head(svg, title, description(), page.height, &heap.stat())?;
     put_arrows(svg, heap, page, sketch)?;
     put_caption(svg, page.from, heap.used(), heap.config().words)?;
     put_roots(svg, page.from, &sketch.roots)?;
@@ -91,20 +95,37 @@ fn put_all<A: Allocator + Copy, B: Allocator>(
     Ok(())
 }
 
-/// The picture of a heap.
-fn picture<A: Allocator + Copy, B: Allocator + Copy>(
-    alloc: B,
+/// Puts the whole picture of a heap, up to the end of its one element. A sketch of nothing becomes
+/// the heap's.
+fn put_picture<A: Allocator + Copy, B: Allocator + Copy>(
+    svg: &mut String<B>,
+    sketch: &mut Sketch<B>,
     heap: &Heap<A>,
     title: &str,
-) -> Result<String<B>, OutOfMemory>
-    ensures { IfOk result (λ svg. IsWhole (string_bytes svg)) }
+) -> Result<(), OutOfMemory>
+    ensures { OnOk result (IsWhole (string_bytes svg.new)) }
 {
-    let mut svg = String::new(alloc);
-    match Sketch::of(alloc, heap)? {
-        Ok(sketch) => put_all(&mut svg, heap, title, &sketch)?,
-        Err(excess) => put_bars(&mut svg, heap, title, excess)?,
+    match sketch.read(heap)? {
+        None => put_all(svg, heap, title, sketch),
+        Some(excess) => put_bars(svg, heap, title, excess),
     }
-    Ok(svg)
+}
+
+/// Writes the text of a picture.
+fn send_picture<W: io::Write>(
+    writer: &mut W,
+    writes: &mut IoLog,
+    svg: &[u8],
+) -> Result<(), DrawError>
+    requires { writes.old.failed ≡ false }
+    ensures written { WritesText svg.now result (W.contents writer.old) (W.contents writer.new) }
+    ensures failed { IsErrOf result DrawError.Write → AreSpent writes.new }
+    ensures none_failed { ¬ IsErrOf result DrawError.Write → writes.new.failed ≡ false }
+{
+    match send(writer, writes, svg) {
+        Ok(()) => Ok(()),
+        Err(Write) => Err(DrawError::Write),
+    }
 }
 
 /// Writes a picture of a heap as it stands, in SVG with this title, behind what the writer has. It
@@ -156,12 +177,10 @@ pub fn draw_logged<A: Allocator + Copy, B: Allocator + Copy, W: io::Write>(
     ensures failed { IsErrOf result DrawError.Write → AreSpent writes.new }
     ensures none_failed { ¬ IsErrOf result DrawError.Write → writes.new.failed ≡ false }
 {
-    let svg = match picture(alloc, heap, title) {
-        Ok(svg) => svg,
-        Err(OutOfMemory) => return Err(DrawError::OutOfMemory),
-    };
-    match send(writer, writes, svg.as_bytes()) {
-        Ok(()) => Ok(()),
-        Err(Write) => Err(DrawError::Write),
+    let mut svg = String::new(alloc);
+    let mut sketch = Sketch::new(alloc);
+    match put_picture(&mut svg, &mut sketch, heap, title) {
+        Ok(()) => send_picture(writer, writes, svg.as_bytes()),
+        Err(OutOfMemory) => Err(DrawError::OutOfMemory),
     }
 }

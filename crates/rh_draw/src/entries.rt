@@ -31,15 +31,14 @@ pub struct Entry {
     pub current: Option<Filled>,
 }
 
-/// The entries, before their fields are found.
-fn numbers_of<A: Allocator + Copy, B: Allocator + Copy>(
-    alloc: B,
+/// Reads the entries, before their fields are found.
+fn read_numbers<A: Allocator + Copy, B: Allocator>(
+    entries: &mut Vec<Entry, B>,
     heap: &Heap<A>,
-) -> Result<Vec<Entry, B>, OutOfMemory> {
+) -> Result<(), OutOfMemory> {
     let stat = heap.stat();
     let before = stat.number.saturating_sub(stat.log);
     let past = stat.log.saturating_sub(heap.undealt(Kind::Entries));
-    let mut entries = Vec::new(alloc);
     for i in 0..stat.log {
         entries.push(Entry {
             number: before.saturating_add(i).saturating_add(1),
@@ -47,7 +46,7 @@ fn numbers_of<A: Allocator + Copy, B: Allocator + Copy>(
             current: None,
         })?;
     }
-    Ok(entries)
+    Ok(())
 }
 
 /// Gives the entry with the field's number its field, where there is one.
@@ -71,17 +70,17 @@ fn find<A: Allocator + Copy>(entries: &mut [Entry], heap: &Heap<A>, object: u32,
     }
 }
 
-/// The entries of the heap's log, in order of their numbers, with the fields of these objects.
-pub fn entries_of<A: Allocator + Copy, B: Allocator + Copy>(
-    alloc: B,
+/// Reads the entries of the heap's log, in order of their numbers, with these objects' fields.
+pub fn read_entries<A: Allocator + Copy, B: Allocator>(
+    entries: &mut Vec<Entry, B>,
     heap: &Heap<A>,
     objects: &[Object],
-) -> Result<Vec<Entry, B>, OutOfMemory> {
-    let mut entries = numbers_of(alloc, heap)?;
+) -> Result<(), OutOfMemory> {
+    read_numbers(entries, heap)?;
     for object in objects {
         for field in 0..object.fields {
-            find(&mut entries, heap, object.address, field);
+            find(entries, heap, object.address, field);
         }
     }
-    Ok(entries)
+    Ok(())
 }

@@ -1,31 +1,41 @@
 //! The head of a picture: its title, its description, its style, and what `stat` says.
 
 use crate::page::PAGE_WIDTH;
-use crate::style::STYLE;
+use crate::style::style;
 use rh_core::Stat;
 use rh_layout::OutOfMemory;
 use std::alloc::Allocator;
 
-/// Puts a text at the end, as XML spells it. Control characters, U+FFFE and U+FFFF become spaces.
+/// How XML spells a letter that it doesn't take as it is; `None` of one that it takes. Control
+/// characters, U+FFFE and U+FFFF are spelled as spaces.
+fn spelled(letter: char) -> Option<&'static str> {
+    match letter {
+        '<' => Some("&lt;"),
+        '>' => Some("&gt;"),
+        '&' => Some("&amp;"),
+        '\0'..='\u{1f}' | '\u{fffe}' | '\u{ffff}' => Some(" "),
+        _ => None,
+    }
+}
+
+/// Puts a text at the end, as XML spells it.
 fn put_spelled<B: Allocator>(svg: &mut String<B>, text: &str) -> Result<(), OutOfMemory> {
     for letter in text.chars() {
-        match letter {
-            '<' => svg.push_str("&lt;")?,
-            '>' => svg.push_str("&gt;")?,
-            '&' => svg.push_str("&amp;")?,
-            '\0'..='\u{1f}' | '\u{fffe}' | '\u{ffff}' => svg.push(' ')?,
-            _ => svg.push(letter)?,
+        match spelled(letter) {
+            Some(spelling) => svg.push_str(spelling)?,
+            None => svg.push(letter)?,
         }
     }
     Ok(())
 }
 
-/// Puts the start of a picture of this height.
+/// Puts the start of a picture of this height, and what `stat` says of its heap.
 pub fn put_head<B: Allocator>(
     svg: &mut String<B>,
     title: &str,
     description: &str,
     height: u32,
+    stat: &Stat,
 ) -> Result<(), OutOfMemory> {
     write!(
         svg,
@@ -34,16 +44,17 @@ pub fn put_head<B: Allocator>(
     )?;
     put_spelled(svg, title)?;
     write!(svg, "</title>\n<desc>{description}</desc>\n")?;
-    svg.push_str(STYLE)?;
-    svg.push_str("<rect class='page' width='100%' height='100%'/>\n")?;
-    svg.push_str("<text class='title' x='16' y='28'>")?;
+    svg.push_str(style())?;
+    svg.push_str(
+        "<rect class='page' width='100%' height='100%'/>\n<text class='title' x='16' y='28'>",
+    )?;
     put_spelled(svg, title)?;
     svg.push_str("</text>\n")?;
-    Ok(())
+    put_stat(svg, stat)
 }
 
 /// Puts what `stat` says of a heap, in two lines: there is room for the longest numbers.
-pub fn put_stat<B: Allocator>(svg: &mut String<B>, stat: &Stat) -> Result<(), OutOfMemory> {
+fn put_stat<B: Allocator>(svg: &mut String<B>, stat: &Stat) -> Result<(), OutOfMemory> {
     let cycle = if stat.cycle { "on" } else { "off" };
     write!(
         svg,

@@ -14,12 +14,17 @@ const MARKS: &str = "\
 <text class='past' x='562' y='13'>entry</text><text x='604' y='13'>looked at by a deal</text>
 ";
 
+/// The five marks of a cycle.
+fn marks<'a>() -> &'a str {
+    MARKS
+}
+
 /// Puts the legend.
 pub fn put_legend<B: Allocator>(svg: &mut String<B>, page: Page) -> Result<(), OutOfMemory> {
-    let y = page.legend;
+    let (y, marks) = (page.legend, marks());
     write!(
         svg,
-        "<g class='legend' transform='translate(16 {y})'>\n{MARKS}</g>\n"
+        "<g class='legend' transform='translate(16 {y})'>\n{marks}</g>\n"
     )?;
     Ok(())
 }

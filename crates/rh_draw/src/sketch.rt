@@ -1,6 +1,6 @@
 //! What of a heap is drawn, read once.
 
-use crate::entries::{Entry, entries_of};
+use crate::entries::{Entry, read_entries};
 use crate::limits::{MOST_ENTRIES, MOST_OBJECTS, MOST_ROOTS, MOST_WORDS};
 use rh_core::Heap;
 use rh_layout::{OutOfMemory, RootId, Value};
@@ -52,33 +52,33 @@ pub struct Sketch<B: Allocator> {
 }
 
 impl<B: Allocator + Copy> Sketch<B> {
-    /// What is drawn of the heap; or what it has more of than is drawn one by one: the first of words,
-    /// entries, objects and roots.
-    pub fn of<A: Allocator + Copy>(
-        alloc: B,
+    /// A sketch of nothing.
+    pub fn new(alloc: B) -> Sketch<B> {
+        Sketch {
+            objects: Vec::new(alloc),
+            replicas: Vec::new(alloc),
+            roots: Vec::new(alloc),
+            entries: Vec::new(alloc),
+        }
+    }
+
+    /// Reads what is drawn of the heap into a sketch of nothing. What the heap has more of than is
+    /// drawn one by one is answered: the first of words, entries, objects and roots.
+    pub fn read<A: Allocator + Copy>(
+        &mut self,
         heap: &Heap<A>,
-    ) -> Result<Result<Sketch<B>, Excess>, OutOfMemory> {
+    ) -> Result<Option<Excess>, OutOfMemory> {
         if let Some(excess) = excess_of(heap) {
-            return Ok(Err(excess));
+            return Ok(Some(excess));
         }
-        let objects = objects_of(alloc, heap)?;
-        let roots = roots_of(alloc, heap)?;
-        if let Some(excess) = over(objects.len() as u64, MOST_OBJECTS as u64, "objects") {
-            return Ok(Err(excess));
+        read_objects(&mut self.objects, heap)?;
+        read_roots(&mut self.roots, heap)?;
+        if let Some(excess) = excess_in(&self.objects, &self.roots) {
+            return Ok(Some(excess));
         }
-        if let Some(excess) = over(
-            roots.len() as u64,
-            MOST_ROOTS as u64,
-            "roots that aren't nil",
-        ) {
-            return Ok(Err(excess));
-        }
-        Ok(Ok(Sketch {
-            replicas: replicas_of(alloc, heap.replica())?,
-            entries: entries_of(alloc, heap, &objects)?,
-            objects,
-            roots,
-        }))
+        read_replicas(&mut self.replicas, heap.replica())?;
+        read_entries(&mut self.entries, heap, &self.objects)?;
+        Ok(None)
     }
 }
 
@@ -98,12 +98,23 @@ fn excess_of<A: Allocator + Copy>(heap: &Heap<A>) -> Option<Excess> {
     over(heap.stat().log, MOST_ENTRIES, "entries of the log")
 }
 
-/// The objects of from-space, of at most as many words as are drawn.
-fn objects_of<A: Allocator + Copy, B: Allocator + Copy>(
-    alloc: B,
+/// What there is more of than is drawn, of objects and roots.
+fn excess_in(objects: &[Object], roots: &[(RootId, Value)]) -> Option<Excess> {
+    if let Some(excess) = over(objects.len() as u64, MOST_OBJECTS as u64, "objects") {
+        return Some(excess);
+    }
+    over(
+        roots.len() as u64,
+        MOST_ROOTS as u64,
+        "roots that aren't nil",
+    )
+}
+
+/// Reads the objects of from-space, of at most as many words as are drawn.
+fn read_objects<A: Allocator + Copy, B: Allocator>(
+    objects: &mut Vec<Object, B>,
     heap: &Heap<A>,
-) -> Result<Vec<Object, B>, OutOfMemory> {
-    let mut objects = Vec::new(alloc);
+) -> Result<(), OutOfMemory> {
     let mut address = 0;
     for _ in 0..MOST_WORDS {
         let Some(fields) = heap.fields(address) else {
@@ -118,7 +129,7 @@ fn objects_of<A: Allocator + Copy, B: Allocator + Copy>(
         objects.push(object)?;
         address = object.end();
     }
-    Ok(objects)
+    Ok(())
 }
 
 /// The replica at an address of to-space; `None` where there is none.
@@ -134,12 +145,11 @@ fn replica_at<A: Allocator + Copy>(space: &Space<A>, address: u32) -> Option<Obj
     })
 }
 
-/// The objects of to-space, at most as many as are drawn.
-fn replicas_of<A: Allocator + Copy, B: Allocator + Copy>(
-    alloc: B,
+/// Reads the objects of to-space, at most as many as are drawn.
+fn read_replicas<A: Allocator + Copy, B: Allocator>(
+    replicas: &mut Vec<Object, B>,
     space: &Space<A>,
-) -> Result<Vec<Object, B>, OutOfMemory> {
-    let mut replicas = Vec::new(alloc);
+) -> Result<(), OutOfMemory> {
     let mut address = 0;
     for _ in 0..MOST_OBJECTS {
         let Some(replica) = replica_at(space, address) else {
@@ -148,16 +158,15 @@ fn replicas_of<A: Allocator + Copy, B: Allocator + Copy>(
         replicas.push(replica)?;
         address = replica.end();
     }
-    Ok(replicas)
+    Ok(())
 }
 
-/// The roots that aren't nil.
-fn roots_of<A: Allocator + Copy, B: Allocator + Copy>(
-    alloc: B,
+/// Reads the roots that aren't nil.
+fn read_roots<A: Allocator + Copy, B: Allocator>(
+    roots: &mut Vec<(RootId, Value), B>,
     heap: &Heap<A>,
-) -> Result<Vec<(RootId, Value), B>, OutOfMemory> {
+) -> Result<(), OutOfMemory> {
     let sizes = heap.config();
-    let mut roots = Vec::new(alloc);
     for owner in 0..sizes.owners {
         for slot in 0..sizes.slots {
             let id = RootId { owner, slot };
@@ -167,5 +176,5 @@ fn roots_of<A: Allocator + Copy, B: Allocator + Copy>(
             }
         }
     }
-    Ok(roots)
+    Ok(())
 }

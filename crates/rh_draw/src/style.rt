@@ -1,7 +1,7 @@
 //! How the parts of a picture look, on light and on dark pages.
 
 /// The style of a picture. No mark differs from another by its colour alone.
-pub const STYLE: &str = "<style>
+const STYLE: &str = "<style>
 svg{max-width:100%;height:auto}
 text{font-family:sans-serif;font-size:13px;fill:#1f2328}
 .page{fill:#ffffff}
@@ -56,3 +56,8 @@ markerUnits='userSpaceOnUse' orient='auto'><path class='placed-tip' d='M0 0L8 4L
 patternTransform='rotate(45)'><path class='hatch' d='M0 0V7'/></pattern>
 </defs>
 ";
+
+/// The style of a picture, with the tips of arrows and the hatch.
+pub fn style<'a>() -> &'a str {
+    STYLE
+}
