@@ -1,10 +1,31 @@
-//! Code of the register machine, compiled by hand.
+//! Code of the register machine, compiled by hand. Functions lend it, so that no proof of a test
+//! writes it out.
 
 use rh_machine::{Index, Instruction, Number, Operation, Register, Relation, Source, When};
 
 /// The function `tak` of 14, 9 and 5. A frame has its three numbers and two results, a
 /// continuation that before it, its frame and where the code goes on. The last call is a jump.
-pub const TAK: &[Instruction] = &[
+pub fn tak<'a>() -> &'a [Instruction] {
+    TAK
+}
+
+/// Counts to 20,000, with a new frame for each turn.
+pub fn count<'a>() -> &'a [Instruction] {
+    COUNT
+}
+
+/// Makes a list that has no end.
+pub fn list<'a>() -> &'a [Instruction] {
+    LIST
+}
+
+/// Turns the digits of 9,041 round, by the instructions that name a number, and adds what the
+/// number in a field, 27, is above 20.
+pub fn digits<'a>() -> &'a [Instruction] {
+    DIGITS
+}
+
+const TAK: &[Instruction] = &[
     Instruction::Number {
         dst: Number::N1,
         value: 14,
@@ -409,8 +430,7 @@ pub const TAK: &[Instruction] = &[
     },
 ];
 
-/// Counts to 20,000, with a new frame for each turn.
-pub const COUNT: &[Instruction] = &[
+const COUNT: &[Instruction] = &[
     Instruction::Number {
         dst: Number::N2,
         value: 20_000,
@@ -469,8 +489,7 @@ pub const COUNT: &[Instruction] = &[
     Instruction::Halt,
 ];
 
-/// Makes a list that has no end.
-pub const LIST: &[Instruction] = &[
+const LIST: &[Instruction] = &[
     Instruction::Number {
         dst: Number::N4,
         value: 1,
@@ -505,9 +524,7 @@ pub const LIST: &[Instruction] = &[
     },
 ];
 
-/// Turns the digits of 9,041 round, by the instructions that name a number, and adds what the number
-/// in a field, 27, is above 20.
-pub const DIGITS: &[Instruction] = &[
+const DIGITS: &[Instruction] = &[
     Instruction::Number {
         dst: Number::N0,
         value: 9_041,

@@ -1,6 +1,6 @@
 //! Runs of one code on each kind of heap.
 
-use crate::codes::{COUNT, DIGITS, LIST, TAK};
+use crate::codes::{count, digits, list, tak};
 use rh_core::{Config, Heap};
 use rh_growing::{GrowingHeap, Growth, Short};
 use rh_layout::Refusal;
@@ -157,9 +157,9 @@ fn tak_comes_to_the_same_on_each_heap(rt: HostRuntime) {
         output: Some(9),
         steps: STEPS - 69_528,
     });
-    assert!(rt; expect_on_paced(&rt, TAK, came) > 10);
-    assert!(rt; expect_on_growing(&rt, TAK, came).0 > 10);
-    expect_on_heap(&rt, TAK, came);
+    assert!(rt; expect_on_paced(&rt, tak(), came) > 10);
+    assert!(rt; expect_on_growing(&rt, tak(), came).0 > 10);
+    expect_on_heap(&rt, tak(), came);
 }
 
 #[test]
@@ -170,9 +170,9 @@ fn a_loop_counts_on_each_heap(rt: HostRuntime) {
         output: Some(20_000),
         steps: STEPS - 160_009,
     });
-    assert!(rt; expect_on_paced(&rt, COUNT, came) > 10);
-    assert!(rt; expect_on_growing(&rt, COUNT, came).0 > 10);
-    expect_on_heap(&rt, COUNT, came);
+    assert!(rt; expect_on_paced(&rt, count(), came) > 10);
+    assert!(rt; expect_on_growing(&rt, count(), came).0 > 10);
+    expect_on_heap(&rt, count(), came);
 }
 
 #[test]
@@ -183,17 +183,21 @@ fn instructions_name_their_numbers(rt: HostRuntime) {
         output: Some(1_416),
         steps: STEPS - 28,
     });
-    assert!(rt; expect_on_paced(&rt, DIGITS, came) == 0);
+    assert!(rt; expect_on_paced(&rt, digits(), came) == 0);
 }
 
 #[test]
 fn an_exhausted_heap_is_told_with_its_place(rt: HostRuntime) {
-    assert!(rt; expect_on_paced(&rt, LIST, None) > 0);
-    assert!(rt; expect_on_growing(&rt, LIST, None).1 == Some(Short::AtMost));
-    expect_on_heap(&rt, LIST, None);
+    assert!(rt; expect_on_paced(&rt, list(), None) > 0);
+    assert!(rt; expect_on_growing(&rt, list(), None).1 == Some(Short::AtMost));
+    expect_on_heap(&rt, list(), None);
 }
 
 /// Code of a few instructions, how it ends, and at which line.
+fn ends<'a>() -> &'a [(&'a [Instruction], Ending, u32)] {
+    ENDS
+}
+
 const ENDS: &[(&[Instruction], Ending, u32)] = &[
     (&[Instruction::Halt], Ending::Halted, 1),
     (&[Instruction::Fail { why: 5 }], Ending::Failed(5), 1),
@@ -276,7 +280,7 @@ fn expect_ends<R: AllocGlobal + Abort>(
 
 #[test]
 fn machines_end_as_their_code_says(rt: HostRuntime) {
-    expect_ends(&rt, SIZES, ENDS);
+    expect_ends(&rt, SIZES, ends());
 }
 
 /// Makes an object that the last register but one names.
