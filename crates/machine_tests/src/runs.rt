@@ -62,11 +62,21 @@ struct Came {
 fn code_of<A: Allocator + Copy>(alloc: A, table: &[Instruction]) -> Option<Code<A>> {
     let mut instructions = Vec::new(alloc);
     let mut positions = Vec::new(alloc);
+    put_lines(&mut instructions, &mut positions, table)?;
+    Code::new(instructions, positions).ok()
+}
+
+/// Puts these instructions after others, one in a line. Nothing where memory was refused.
+fn put_lines<A: Allocator>(
+    instructions: &mut Vec<Instruction, A>,
+    positions: &mut Vec<Position, A>,
+    table: &[Instruction],
+) -> Option<()> {
     for (line, instruction) in (1..1_000u32).zip(table) {
         instructions.push(*instruction).ok()?;
         positions.push(Position { line, column: 1 }).ok()?;
     }
-    Code::new(instructions, positions).ok()
+    Some(())
 }
 
 /// Runs the code on a heap.
