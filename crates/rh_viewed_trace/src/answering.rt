@@ -116,6 +116,19 @@ fn put_numbers<A: Allocator + Copy>(
     Ok(())
 }
 
+/// Puts the line of tickets whose objects are gone.
+fn put_gone_line<A: Allocator + Copy>(
+    alloc: A,
+    tickets: &[u32],
+    told: &mut Vec<u8, A>,
+) -> Result<(), OutOfMemory>
+    ensures { OnOk result (told.new.items
+        ≡ told.old.items ++ with_line_end (gone_text tickets.now)) }
+{
+    let line = gone_line(alloc, tickets)?;
+    put(told, &line)
+}
+
 /// Tells the tickets whose objects are gone, and puts their line.
 fn put_gone<A: Allocator + Copy>(
     alloc: A,
@@ -127,9 +140,7 @@ fn put_gone<A: Allocator + Copy>(
         ≡ told.old.items ++ with_line_end (gone_text (gone_line_step engine.old).1)) }
 {
     let tickets = engine.gone(alloc)?;
-    let line = gone_line(alloc, &tickets)?;
-    put(told, &line)?;
-    Ok(())
+    put_gone_line(alloc, &tickets, told)
 }
 
 /// The entries of a deal that was answered so.

@@ -84,8 +84,11 @@ fn run_lines<A: Allocator + Copy, R, P: Player<A, R>, W: io::Write, H: io::Write
     ensures failed { IsErrOf result Stop.Write → AreSpent writes.new }
     ensures none_failed { ¬ IsErrOf result Stop.Write → writes.new.failed ≡ false }
 {
+    let mut told = Vec::new(alloc);
+    let mut text = Vec::new(alloc);
     match play(
-        alloc, player, reader, requests, telling, recorder, out, cycles, writes,
+        alloc, player, reader, requests, telling, recorder, &mut told, &mut text, out, cycles,
+        writes,
     ) {
         Ok(counted) => {
             let summary = player.total(counted);

@@ -151,7 +151,8 @@ fn send_cycle<A: Allocator + Copy, C: io::Write>(
 }
 
 /// Plays all requests, tells each line, notes the commands that no limit refused, and writes a line
-/// for each cycle as it ends. What was counted is answered.
+/// for each cycle as it ends. What is told of a line is put together in `told`, and what is written
+/// in `text`. What was counted is answered.
 pub(crate) fn play<A: Allocator + Copy, R, P: Player<A, R>, W: io::Write, C: io::Write>(
     alloc: A,
     player: &mut P,
@@ -159,6 +160,8 @@ pub(crate) fn play<A: Allocator + Copy, R, P: Player<A, R>, W: io::Write, C: io:
     requests: &[Request],
     telling: Telling,
     recorder: &mut Recorder<A>,
+    told: &mut Vec<u8, A>,
+    text: &mut Vec<u8, A>,
     out: &mut W,
     cycles: &mut C,
     writes: &mut IoLog,
@@ -183,8 +186,6 @@ pub(crate) fn play<A: Allocator + Copy, R, P: Player<A, R>, W: io::Write, C: io:
     ensures none_failed { ¬ IsErrOf result Stop.Write → writes.new.failed ≡ false }
 {
     let structured = is_structured(telling);
-    let mut told = Vec::new(alloc);
-    let mut text = Vec::new(alloc);
     let mut counted = NOTHING;
     let mut line = 2u64;
     send(cycles, writes, HEADER)?;
@@ -197,13 +198,13 @@ pub(crate) fn play<A: Allocator + Copy, R, P: Player<A, R>, W: io::Write, C: io:
             structured,
             &mut counted,
             recorder,
-            &mut told,
+            told,
         )?;
         text.clear();
-        put_view(&mut text, telling, line, request, &told)?;
-        send(out, writes, &text)?;
+        put_view(text, telling, line, request, told)?;
+        send(out, writes, text)?;
         let ended = player.ended(reader, line, entries);
-        send_cycle(&mut text, ended, cycles, writes)?;
+        send_cycle(text, ended, cycles, writes)?;
         line += 1;
     }
     Ok(counted)

@@ -80,6 +80,23 @@ fn put_place<A: Allocator>(
     }
 }
 
+/// Puts the object of a fault, with its line end.
+fn put_fault<A: Allocator>(
+    text: &mut Vec<u8, A>,
+    fault: &str,
+    at: Option<(u32, &str)>,
+) -> Result<(), OutOfMemory>
+    ensures { OnOk result (text.new.items ≡ text.old.items
+        ++ json_fault fault.now (option_map (λ x. (x.0, x.1.now)) at.entry)) }
+{
+    put(text, b"{\"fault\":\"")?;
+    put_json_string(text, fault)?;
+    put(text, b"\"")?;
+    put_place(text, at)?;
+    put(text, b"}\n")?;
+    Ok(())
+}
+
 /// The object of a fault, with its line end: what it is, and where it has a place its line and the
 /// name of its kind.
 ///
@@ -95,11 +112,7 @@ pub fn fault_json<A: Allocator + Copy>(
         ≡ json_fault fault.now (option_map (λ x. (x.0, x.1.now)) at.entry)) }
 {
     let mut text = Vec::new(alloc);
-    put(&mut text, b"{\"fault\":\"")?;
-    put_json_string(&mut text, fault)?;
-    put(&mut text, b"\"")?;
-    put_place(&mut text, at)?;
-    put(&mut text, b"}\n")?;
+    put_fault(&mut text, fault, at)?;
     Ok(text)
 }
 

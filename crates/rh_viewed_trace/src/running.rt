@@ -3,6 +3,8 @@
 ghost use Rattle.std.specs.Prelude.{◌≡◌, ◌≤◌, List, ℕ, None, length, false, IfOk, IfSome, IsErrOf};
 ghost use Rattle.std.specs.Io.KnownBytes.{Appends, Consumes};
 ghost use Rattle.rh_core.specs.Config.{fault_of};
+ghost use Rattle.rh_core.specs.Stat.{stat_of};
+ghost use Rattle.rh_cycles.specs.Cycles.{new_reader};
 ghost use Rattle.rh_text.specs.IoLog.{AreSpent, CountsDown};
 ghost use Rattle.rh_syntax.specs.Spelling.{Script};
 ghost use Rattle.rh_replay.specs.Legal.{IsLegal};
@@ -30,6 +32,13 @@ use rh_trace::{RunFault, Stop, Summary, config_of};
 use std::alloc::Allocator;
 use std::io;
 
+/// What reads the cycles of a new engine, once it read line 1, which made the heap.
+fn first_read<A: Allocator + Copy>(engine: &Engine<A>) -> CycleReader
+    ensures { result ≡ new_reader (stat_of engine.now.heap) }
+{
+    CycleReader::new(&engine.heap().stat())
+}
+
 /// Runs the lines of a trace on its new engine.
 fn run_engine<A: Allocator + Copy, W: io::Write, H: io::Write, C: io::Write>(
     alloc: A,
@@ -56,7 +65,7 @@ fn run_engine<A: Allocator + Copy, W: io::Write, H: io::Write, C: io::Write>(
     ensures failed { IsErrOf result RunFault.Write → AreSpent writes.new }
     ensures none_failed { ¬ IsErrOf result RunFault.Write → writes.new.failed ≡ false }
 {
-    let mut reader = CycleReader::new(&engine.heap().stat());
+    let mut reader = first_read(engine);
     match run_trace(
         alloc,
         engine,
