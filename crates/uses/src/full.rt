@@ -19,9 +19,14 @@ const SIZES: Sizes = Sizes {
 /// and collects. Answers the words that live then.
 pub fn run<A: Allocator + Copy>(alloc: A) -> Result<u32, Problem> {
     let mut heap = PacedHeap::sized(alloc, SIZES)?;
-    fill(&mut heap)?;
-    make_one_more(&mut heap)?;
-    collect(&mut heap)
+    run_in(&mut heap)
+}
+
+/// The same in this heap.
+fn run_in<A: Allocator + Copy>(heap: &mut PacedHeap<A>) -> Result<u32, Problem> {
+    fill(heap)?;
+    make_one_more(heap)?;
+    collect(heap)
 }
 
 /// The slots hold objects that fill the space.

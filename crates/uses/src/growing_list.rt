@@ -27,7 +27,12 @@ const CELL: RootId = RootId { owner: 1, slot: 1 };
 /// Pushes cells until one is refused. Answers why the heap had no room for it.
 pub fn run<A: Allocator + Copy>(alloc: A) -> Result<Short, Problem> {
     let mut heap = GrowingHeap::new(alloc, AT_MOST)?;
-    match push_all(&mut heap, AT_MOST) {
+    run_in(&mut heap)
+}
+
+/// Pushes them in this heap.
+fn run_in<A: Allocator + Copy>(heap: &mut GrowingHeap<A>) -> Result<Short, Problem> {
+    match push_all(heap, AT_MOST) {
         Err(Refusal::SpaceFull { .. } | Refusal::LogFull) => heap.short().ok_or(Problem::Answer),
         _ => Err(Problem::Answer),
     }

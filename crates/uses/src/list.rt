@@ -25,8 +25,13 @@ const CELL: RootId = RootId { owner: 1, slot: 1 };
 /// there were.
 pub fn run<A: Allocator + Copy>(alloc: A) -> Result<(i64, u64), Problem> {
     let mut heap = PacedHeap::sized(alloc, SIZES)?;
-    push_all(&mut heap)?;
-    let sum = sum(&mut heap)?;
+    run_in(&mut heap)
+}
+
+/// Pushes them in this heap.
+fn run_in<A: Allocator + Copy>(heap: &mut PacedHeap<A>) -> Result<(i64, u64), Problem> {
+    push_all(heap)?;
+    let sum = sum(heap)?;
     Ok((sum, heap.stat().flips))
 }
 

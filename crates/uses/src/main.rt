@@ -25,6 +25,14 @@ use std::thread::Threads;
 
 /// Each program, and what it came to.
 fn run(rt: &(impl Print + AllocGlobal + Threads + Wait + Sync)) -> Result<(), Problem> {
+    run_shared(rt)?;
+    run_paced(rt)?;
+    run_growing(rt)?;
+    run_written(rt)
+}
+
+/// The programs over a paced heap whose cells or objects are shared.
+fn run_shared(rt: &(impl Print + AllocGlobal + Threads + Wait + Sync)) -> Result<(), Problem> {
     let alloc = rt.alloc();
     let (sum, flips) = list::run(alloc)?;
     println!(rt; "list sum {sum} flips {flips}")?;
@@ -32,6 +40,12 @@ fn run(rt: &(impl Print + AllocGlobal + Threads + Wait + Sync)) -> Result<(), Pr
     println!(rt; "owners shared {shared}")?;
     let (sum, flips) = threads::run(rt)?;
     println!(rt; "threads sum {sum} flips over 300 {}", flips > 300)?;
+    Ok(())
+}
+
+/// The programs over a paced heap that meet its limits, or never do.
+fn run_paced(rt: &(impl Print + AllocGlobal)) -> Result<(), Problem> {
+    let alloc = rt.alloc();
     let live = full::run(alloc)?;
     println!(rt; "full live {live}")?;
     let cycles = queue::run(alloc, 10_000)?;
@@ -40,6 +54,12 @@ fn run(rt: &(impl Print + AllocGlobal + Threads + Wait + Sync)) -> Result<(), Pr
     println!(rt; "renewal cycles over 400 {}", cycles > 400)?;
     let read = rows::run(alloc)?;
     println!(rt; "row read {read}")?;
+    Ok(())
+}
+
+/// The programs over a heap that grows.
+fn run_growing(rt: &(impl Print + AllocGlobal)) -> Result<(), Problem> {
+    let alloc = rt.alloc();
     let short = growing_list::run(alloc)?;
     println!(rt; "growing list short {short:?}")?;
     let (pushed, short) = stack::run(alloc)?;
@@ -48,10 +68,15 @@ fn run(rt: &(impl Print + AllocGlobal + Threads + Wait + Sync)) -> Result<(), Pr
     println!(rt; "files closed {closed}")?;
     let (freed, bytes) = texts::run(alloc)?;
     println!(rt; "texts freed {freed} bytes of the rest {bytes}")?;
+    Ok(())
+}
+
+/// The programs that write what came of a heap.
+fn run_written(rt: &(impl Print + AllocGlobal)) -> Result<(), Problem> {
+    let alloc = rt.alloc();
     let (calls, objects) = recorded::run(alloc, &mut io::writer(rt))?;
     println!(rt; "recorded calls {calls} objects {objects}")?;
-    cycles::run(alloc, &mut io::writer(rt))?;
-    Ok(())
+    cycles::run(alloc, &mut io::writer(rt))
 }
 
 fn main(rt: HostRuntime) -> ExitCode {

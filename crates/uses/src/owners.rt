@@ -23,9 +23,14 @@ const YOURS: RootId = RootId { owner: 2, slot: 0 };
 /// Owner 2 stores a number in the object that owner 1 made, and owner 1 reads it. Answers it.
 pub fn run<A: Allocator + Copy>(alloc: A) -> Result<i64, Problem> {
     let mut heap = PacedHeap::sized(alloc, SIZES)?;
-    share(&mut heap)?;
-    hand_on(&mut heap)?;
-    read(&heap)
+    run_in(&mut heap)
+}
+
+/// The same in this heap.
+fn run_in<A: Allocator + Copy>(heap: &mut PacedHeap<A>) -> Result<i64, Problem> {
+    share(heap)?;
+    hand_on(heap)?;
+    read(heap)
 }
 
 /// Owner 1 makes an object, and puts it where all may take it.

@@ -28,11 +28,15 @@ const OBJECT: RootId = RootId { owner: 0, slot: 0 };
 /// Stores four numbers in an object, and reads them. Answers how many were read.
 pub fn run<A: Allocator + Copy>(alloc: A) -> Result<u32, Problem> {
     let mut heap = PacedHeap::sized(alloc, SIZES)?;
+    Ok(run_in(&mut heap)?)
+}
+
+/// Stores and reads them in this heap.
+fn run_in<A: Allocator + Copy>(heap: &mut PacedHeap<A>) -> Result<u32, Refusal> {
     heap.alloc(0, OBJECT, 4)?;
-    keep_row(&mut heap, OBJECT, &[1, 2, 3, 5])?;
+    keep_row(heap, OBJECT, &[1, 2, 3, 5])?;
     let mut numbers = [0; 4];
-    let read = heap.load_all(0, OBJECT, 0, &mut numbers)?;
-    Ok(read)
+    heap.load_all(0, OBJECT, 0, &mut numbers)
 }
 
 /// Stores the numbers from field 0 on. In time the log is never too full for them, where it keeps as

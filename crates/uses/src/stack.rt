@@ -216,16 +216,21 @@ fn number_of(reply: Reply) -> Option<i64>
 pub fn run<A: Allocator + Copy>(alloc: A) -> Result<(u32, Short), Problem> {
     let mut stack = Stack::new(alloc)?;
     let pushed = push_all(&mut stack);
-    let short = stack.short().ok_or(Problem::Answer)?;
+    let short = stack.short();
+    if !are_popped(&mut stack, pushed) {
+        return Err(Problem::Answer);
+    }
+    Ok((pushed, short.ok_or(Problem::Answer)?))
+}
+
+/// Pops so many numbers. Whether they were those that were pushed, and all.
+fn are_popped<A: Allocator + Copy>(stack: &mut Stack<A>, pushed: u32) -> bool {
     for number in (0..pushed).rev() {
         if stack.pop() != Some(i64::from(number)) {
-            return Err(Problem::Answer);
+            return false;
         }
     }
-    match stack.pop() {
-        Some(_) => Err(Problem::Answer),
-        None => Ok((pushed, short)),
-    }
+    stack.pop().is_none()
 }
 
 /// Pushes numbers until one is refused. Answers how many there were.

@@ -277,20 +277,34 @@ fn use_next<A: Allocator + Copy>(texts: &mut Texts<A>) -> Result<Option<usize>, 
 /// Answers how many were freed, and how many bytes the others have.
 pub fn run<A: Allocator + Copy>(alloc: A) -> Result<(usize, usize), Problem> {
     let mut texts = Texts::new(alloc, AT_MOST, TEXTS)?;
+    run_in(alloc, &mut texts)
+}
+
+/// Puts and uses them in this table.
+fn run_in<A: Allocator + Copy>(alloc: A, texts: &mut Texts<A>) -> Result<(usize, usize), Problem> {
     for n in 0..TEXTS {
-        let Ok(text) = format!(in alloc; "text {n}: too long for the fields of an object") else {
-            return Err(Problem::OutOfMemory(OutOfMemory));
-        };
-        put_next(&mut texts, text.as_str(), n % 10 == 0)?;
+        put_numbered(alloc, texts, n)?;
     }
     let _ = texts.collect();
     let freed = texts.free_gone();
     let mut bytes = 0usize;
     for _ in 0..TEXTS {
-        let Some(more) = use_next(&mut texts)? else {
+        let Some(more) = use_next(texts)? else {
             break;
         };
         bytes = bytes.saturating_add(more);
     }
     Ok((freed, bytes))
+}
+
+/// Puts a text with this number, and keeps its object where that is a tenth one.
+fn put_numbered<A: Allocator + Copy>(
+    alloc: A,
+    texts: &mut Texts<A>,
+    n: u32,
+) -> Result<(), Problem> {
+    let Ok(text) = format!(in alloc; "text {n}: too long for the fields of an object") else {
+        return Err(Problem::OutOfMemory(OutOfMemory));
+    };
+    put_next(texts, text.as_str(), n % 10 == 0)
 }

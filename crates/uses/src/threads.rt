@@ -35,7 +35,8 @@ pub fn run<R: Threads + Wait + Sync + AllocGlobal>(rt: &R) -> Result<(i64, u64),
     let heap = PacedHeap::sized(rt.alloc(), SIZES)?;
     let shared = Mutex::new(heap);
     let (one, two) = thread::join(rt, || work(rt, &shared, 1), || work(rt, &shared, 2));
-    Ok((one?.wrapping_add(two?), shared.into_inner().stat().flips))
+    let flips = shared.into_inner().stat().flips;
+    Ok((one?.wrapping_add(two?), flips))
 }
 
 /// A thread pushes ten numbers and pops ten, over and over. Answers the sum of what it popped, each
