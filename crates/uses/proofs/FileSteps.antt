@@ -1,29 +1,37 @@
--- What a heap makes of its tickets where one comes to watch, and where one is told.
+-- What a heap makes of its tickets where one comes to watch, where one is told, and where a command or
+-- a collection is done.
 use Rattle.std.proofs.Common.{◌≡◌, ◌≢◌, ◌↔◌, Bool, true, false, ℕ, zero, suc, ◌+◌, ◌<◌, inl, inr, if◌then◌else◌, List, [], ◌∷◌, length, get_or, set, replicate, get_or-set_same, get_or-set_other, Option, Some, None, Result, Ok, Err, refl, sym, ap, subst, ◌∙◌, arith}
-use Rattle.std.specs.Prelude.{◌&&◌, nat_lt, slice_get, is_ok, IfSome, IfNone, OnErr}
+use Rattle.std.specs.Prelude.{◌&&◌, nat_lt, slice_get, is_ok, IfSome, IfNone, IsOk, OnErr}
 use Rattle.std.proofs.lemmas.Bool.{cases_lt}
 use Rattle.std.proofs.lemmas.List.{get_or_past}
 use Rattle.std.proofs.lemmas.Option.{get_or_from_slice_get, none-some, same_Some, slice_get_within}
 use Rattle.rh_layout.specs.declared.value.Value.{Value}
 use Rattle.rh_layout.specs.declared.value.Value.TheVariants.{Nil, Int, Ref}
+use Rattle.rh_layout.specs.declared.command.Command.{Command}
+use Rattle.rh_layout.specs.declared.command.Reply.{Reply}
 use Rattle.rh_layout.specs.declared.command.RootId.{RootId}
+use Rattle.rh_layout.specs.declared.refusal.Refusal.{Refusal}
 use Rattle.rh_layout.specs.Root.{has_root, may_use}
 use Rattle.rh_watches.specs.declared.watch.Watch.TheVariants.{Free, On, Gone}
 use Rattle.rh_watches.specs.Watches.{WatchTable, least_free, ticket_at, told_first, with_room, with_told, with_watch}
 use Rattle.rh_model.specs.Graph.{root_value}
+use Rattle.rh_model.specs.Reach.{Reached}
 use Rattle.rh_mutator.specs.Mutator.{graph_of}
 use Rattle.rh_core.specs.declared.errors.WatchError.{WatchError}
 use Rattle.rh_core.specs.declared.errors.WatchError.TheVariants as watch_errors
 use Rattle.rh_core.specs.declared.outcomes.Flipped.{Flipped}
-use Rattle.rh_core.specs.Heap.{HeapState}
+use Rattle.rh_core.specs.Commands.{heap_step}
+use Rattle.rh_core.specs.Heap.{HeapState, IsWellFormed}
 use Rattle.rh_pace.specs.declared.errors.EpochsSpent.{EpochsSpent}
 use Rattle.rh_core.specs.Watching.{next_gone_step, watch_at, watch_by, watch_step, watchable, watched_address, with_watch_room, with_watches}
 use Rattle.rh_pace.specs.Collecting.{collect_step}
-use Rattle.rh_growing.specs.Growing.{GrowingState, growing_collect, growing_heap}
+use Rattle.rh_pace.specs.Paced.{PacedState}
+use Rattle.rh_growing.specs.Calls.{IsGrowingCall}
+use Rattle.rh_growing.specs.Growing.{GrowingState, growing_collect, growing_heap, growing_step}
 use Rattle.rh_growing.specs.declared.growth.Growth.{Growth}
 use Rattle.rh_growing.specs.Watching.{with_heap}
 use Rattle.rh_growing.proofs.Insists.{collect-none}
-use Rattle.uses.specs.Files.{AreFiles, FilesState, IsClosed, IsOpened, IsSwept, file_at, files_open, files_state, ticket_of, tickets_of, once, times_open}
+use Rattle.uses.specs.Files.{AreFiles, FilesState, IsClosed, IsOpened, IsSwept, TicketsFollow, file_at, files_open, files_state, ticket_of, tickets_of, once, times_open}
 use Rattle.uses.proofs.FileTables.{AreFiles-new, AreFiles-set, IsSweeping, IsSweeping-next, file-read, file-within, filled-left, free-gone, sweeping-closed, sweeping-kept, times-joined, times-left}
 
 -- what an owner watches is what the root holds
@@ -268,3 +276,34 @@ collect-refused s new table (Ok flipped) state is = tt
 collect-refused s new table (Err why) state is =
     let same : new ≡ s = state.1 ∙ collect-none state.0 0 s (sym (ap is_ok is)) in
     ap (λ (k : GrowingState). files_state k table) same
+
+-- a refused command changes nothing
+pub refused-same : {X E : Type 0} → (s new : GrowingState) (table : List (Option ℕ)) (r : Result X E) → OnErr r (new ≡ s) → OnErr r (files_state new table ≡ files_state s table)
+refused-same s new table (Ok x) same = tt
+refused-same s new table (Err why) same = ap (λ (k : GrowingState). files_state k table) same
+
+-- The heap that a growing heap lends is well formed, so its own is.
+pub lent-well : (s : GrowingState) (p : PacedState) (h : HeapState) → p ≡ s.paced → h ≡ p.heap → IsWellFormed h → IsWellFormed s.paced.heap
+lent-well s p h paced heap well = subst (λ (k : HeapState). IsWellFormed k) (heap ∙ ap (λ (q : PacedState). q.heap) paced) well
+
+-- Tickets follow what is reached once a command is done, and as a collection begins.
+pub command-follows : (s new : GrowingState) (owner : ℕ) (command : Command) (told : Result Reply Refusal)
+    → ((given : Bool) → TicketsFollow (graph_of (heap_step s.paced.heap owner command).0.mutators) s.paced.heap.watches (growing_step given s owner command).0.paced.heap.watches)
+    → (given : Bool) × IsGrowingCall given s new owner command told
+    → TicketsFollow (graph_of (heap_step s.paced.heap owner command).0.mutators) s.paced.heap.watches new.paced.heap.watches
+command-follows s new owner command told follow call =
+    subst (λ (k : GrowingState). TicketsFollow (graph_of (heap_step s.paced.heap owner command).0.mutators) s.paced.heap.watches k.paced.heap.watches) (sym call.1.state) (follow call.0)
+
+module _ (s new : GrowingState) (r : Result Flipped EpochsSpent) (state : (given : Bool) × (new ≡ (growing_collect given 0 s).0)) (answer : r ≡ (collect_step s.paced).1) where
+  pub collect-follows : ((given : Bool) (need : ℕ) → TicketsFollow (graph_of s.paced.heap.mutators) s.paced.heap.watches (growing_collect given need s).0.paced.heap.watches)
+      → TicketsFollow (graph_of s.paced.heap.mutators) s.paced.heap.watches new.paced.heap.watches
+  collect-follows follow = subst (λ (k : GrowingState). TicketsFollow (graph_of s.paced.heap.mutators) s.paced.heap.watches k.paced.heap.watches) (sym state.1) (follow state.0 0)
+
+  -- where no cycle was on it tells each ticket whose object isn't reached
+  pub collect-told : (IsOk (collect_step s.paced).1 → (given : Bool) (need ticket a : ℕ) → ticket_at s.paced.heap.watches ticket ≡ On a
+      → (ticket_at (growing_collect given need s).0.paced.heap.watches ticket ≡ Gone) ↔ ¬ Reached (graph_of s.paced.heap.mutators) a)
+      → IsOk r → (ticket a : ℕ) → ticket_at s.paced.heap.watches ticket ≡ On a
+      → (ticket_at new.paced.heap.watches ticket ≡ Gone) ↔ ¬ Reached (graph_of s.paced.heap.mutators) a
+  collect-told gone ok ticket a on =
+      subst (λ (k : GrowingState). (ticket_at k.paced.heap.watches ticket ≡ Gone) ↔ ¬ Reached (graph_of s.paced.heap.mutators) a) (sym state.1)
+      (gone (subst (λ (o : Result Flipped EpochsSpent). IsOk o) answer ok) state.0 0 ticket a on)

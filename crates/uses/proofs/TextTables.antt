@@ -1,6 +1,7 @@
--- Texts by place: what they and the files keep where a text is put, and where one is freed.
-use Rattle.std.proofs.Common.{◌≡◌, ◌≢◌, ℕ, zero, suc, ◌+◌, ◌<◌, ◌≤◌, ◌⊎◌, inl, inr, if◌then◌else◌, List, [], ◌∷◌, length, get_or, map, set, replicate, Option, Some, None, refl, sym, ap, subst, ◌∙◌, arith, length-set, get_or-set_same, get_or-set_other}
-use Rattle.std.specs.Prelude.{IfSome, is_some, option_map, string_bytes}
+-- Texts by place: what they and the files keep where a text is put, where one is freed, and where the
+-- files alone change.
+use Rattle.std.proofs.Common.{◌≡◌, ◌≢◌, ℕ, zero, suc, ◌+◌, ◌<◌, ◌≤◌, ◌⊎◌, inl, inr, if◌then◌else◌, List, [], ◌∷◌, length, get_or, map, set, replicate, Option, Some, None, Result, Ok, Err, refl, sym, ap, subst, ◌∙◌, arith, length-set, get_or-set_same, get_or-set_other}
+use Rattle.std.specs.Prelude.{IfSome, OnErr, is_some, option_map, string_bytes}
 use Rattle.std.specs.declared.string.String.{String}
 use Rattle.std.proofs.lemmas.Bool.{cases_eq, cases_lt, eq-eqb, ne_eqb}
 use Rattle.std.proofs.lemmas.List.{get_or_past, length-map, length-replicate, map-set}
@@ -86,6 +87,18 @@ AreTexts-set s files place o are here room at others = record {
     | inr other ↦ others n other ∙ are.times n ∙ sym (ap filled (get_or-set_other s.texts place n o None other))
   ];
 }
+
+-- Files are another state of the same table: texts stay as they are.
+pub AreTexts-kept : {Z : Type 0} → (files new : FilesState) (texts : List (Option (String Z))) → new.table ≡ files.table → AreTexts (texts_state files texts) → AreTexts (texts_state new texts)
+AreTexts-kept files new texts same are = record {
+  places = are.places ∙ sym (ap length same);
+  times = λ place. ap (λ table. times_open place table) same ∙ are.times place;
+}
+
+-- a refused call changes nothing
+pub refused-same : {X E Z : Type 0} → (files new : FilesState) (texts : List (Option (String Z))) (r : Result X E) → OnErr r (new ≡ files) → OnErr r (texts_state new texts ≡ texts_state files texts)
+refused-same files new texts (Ok x) same = tt
+refused-same files new texts (Err why) same = ap (λ (s : FilesState). texts_state s texts) same
 
 -- files are as few as places
 pub files-few : (s : TextsState) → AreTexts s → files_open s.files.table ≤ length s.texts

@@ -28,7 +28,7 @@ pub fn run<A: Allocator + Copy>(alloc: A) -> Result<(i64, u64), Problem> {
     run_in(&mut heap)
 }
 
-/// Pushes them in this heap.
+/// Pushes them in this heap, and sums the last list.
 fn run_in<A: Allocator + Copy>(heap: &mut PacedHeap<A>) -> Result<(i64, u64), Problem> {
     push_all(heap)?;
     let sum = sum(heap)?;

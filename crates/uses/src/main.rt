@@ -25,14 +25,14 @@ use std::thread::Threads;
 
 /// Each program, and what it came to.
 fn run(rt: &(impl Print + AllocGlobal + Threads + Wait + Sync)) -> Result<(), Problem> {
-    run_shared(rt)?;
-    run_paced(rt)?;
+    run_owned(rt)?;
+    run_in_fixed_room(rt)?;
     run_growing(rt)?;
     run_written(rt)
 }
 
-/// The programs over a paced heap whose cells or objects are shared.
-fn run_shared(rt: &(impl Print + AllocGlobal + Threads + Wait + Sync)) -> Result<(), Problem> {
+/// The programs over a paced heap by who owns its roots: one owner, two, and two threads.
+fn run_owned(rt: &(impl Print + AllocGlobal + Threads + Wait + Sync)) -> Result<(), Problem> {
     let alloc = rt.alloc();
     let (sum, flips) = list::run(alloc)?;
     println!(rt; "list sum {sum} flips {flips}")?;
@@ -43,8 +43,8 @@ fn run_shared(rt: &(impl Print + AllocGlobal + Threads + Wait + Sync)) -> Result
     Ok(())
 }
 
-/// The programs over a paced heap that meet its limits, or never do.
-fn run_paced(rt: &(impl Print + AllocGlobal)) -> Result<(), Problem> {
+/// The programs over a paced heap of fixed sizes: one fills it, and three stay within it.
+fn run_in_fixed_room(rt: &(impl Print + AllocGlobal)) -> Result<(), Problem> {
     let alloc = rt.alloc();
     let live = full::run(alloc)?;
     println!(rt; "full live {live}")?;

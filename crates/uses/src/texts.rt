@@ -280,7 +280,7 @@ pub fn run<A: Allocator + Copy>(alloc: A) -> Result<(usize, usize), Problem> {
     run_in(alloc, &mut texts)
 }
 
-/// Puts and uses them in this table.
+/// Puts texts in this table, collects, and uses those that are left. Answers as `run`.
 fn run_in<A: Allocator + Copy>(alloc: A, texts: &mut Texts<A>) -> Result<(usize, usize), Problem> {
     for n in 0..TEXTS {
         put_numbered(alloc, texts, n)?;
