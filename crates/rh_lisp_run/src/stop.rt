@@ -1,10 +1,12 @@
 //! Where a program stops or a text is none, and what may stand there.
 
-use rh_lisp::{FaultKind, Problem, ReadKind, Source, Why};
+ghost use Rattle.std.specs.Prelude.{◌≡◌, ◌↔◌, None};
+
+use rh_lisp::{Fault, FaultKind, Outcome, Problem, ReadKind, Source, Why};
 use rh_machine::Position;
 
 /// Why a program stopped, or why a text is none.
-#[derive(Clone, Copy, Debug, PartialEq, Eq)]
+#[derive(Clone, Copy, PartialEq, Eq)]
 pub enum Cause {
     /// The program stopped before its end.
     Problem(Problem),
@@ -13,7 +15,7 @@ pub enum Cause {
 }
 
 /// Where a program stopped, or a text is none.
-#[derive(Clone, Copy, Debug, PartialEq, Eq)]
+#[derive(Clone, Copy, PartialEq, Eq)]
 pub struct Stop {
     /// The text.
     pub source: Source,
@@ -24,6 +26,33 @@ pub struct Stop {
 }
 
 impl Stop {
+    /// Where and why a program stopped that ended so. Nothing if it finished.
+    pub fn of_outcome(outcome: Outcome) -> Option<Stop>
+        ensures { (result ≡ None) ↔ (outcome ≡ Outcome.Finished) }
+    {
+        match outcome {
+            Outcome::Finished => None,
+            Outcome::Stopped {
+                problem,
+                source,
+                position,
+            } => Some(Stop {
+                source,
+                position,
+                cause: Cause::Problem(problem),
+            }),
+        }
+    }
+
+    /// Where and why a text is no program that has this fault.
+    pub fn of_fault(fault: Fault) -> Stop {
+        Stop {
+            source: fault.source,
+            position: fault.position,
+            cause: Cause::Fault(fault.kind),
+        }
+    }
+
     /// What may stand there, in a sentence.
     pub fn sentence(self) -> &'static str {
         match self.cause {
