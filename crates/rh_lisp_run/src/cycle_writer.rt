@@ -1,6 +1,6 @@
 //! A writer of lines of cycles.
 
-ghost use Rattle.std.specs.Prelude.{◌≡◌, ◌⊎◌, IfErr, OnErr, OnOk, false};
+ghost use Rattle.std.specs.Prelude.{◌≡◌, ◌⊎◌, IfErr, OnErr, OnOk, false, is_some};
 ghost use Rattle.std.specs.Io.KnownBytes.{Appends, Keeps};
 ghost use Rattle.rh_text.specs.Output.{AppendsPrefix};
 ghost use Rattle.rh_cycles.specs.Line.{cycle_line, cycles_header};
@@ -14,7 +14,7 @@ use std::io;
 use std::marker::Model;
 
 /// Why a line isn't written.
-#[derive(Clone, Copy, Debug, PartialEq, Eq)]
+#[derive(Clone, Copy)]
 enum Loss {
     /// A write failed.
     Write,
@@ -101,13 +101,22 @@ impl<A: Allocator + Copy, W: io::Write> CycleWriter<A, W> {
     {
         let CycleWriter { writer, loss, .. } = self;
         let mut writer = writer;
-        let flushed = writer.flush();
-        match loss {
-            Some(Loss::Write) => (writer, Err(LispFault::Write)),
-            Some(Loss::OutOfMemory) => (writer, Err(LispFault::OutOfMemory)),
-            None if flushed.is_err() => (writer, Err(LispFault::Write)),
-            None => (writer, Ok(())),
-        }
+        let is_flushed = writer.flush().is_ok();
+        (writer, ended(loss, is_flushed))
+    }
+}
+
+/// Whether all is written, or why it isn't.
+fn ended(loss: Option<Loss>, is_flushed: bool) -> Result<(), LispFault>
+    ensures whole { OnOk result (is_some loss ≡ false) }
+    ensures fault { IfErr result (λ fault.
+        (fault ≡ LispFault.Write) ⊎ (fault ≡ LispFault.OutOfMemory)) }
+{
+    match loss {
+        Some(Loss::Write) => Err(LispFault::Write),
+        Some(Loss::OutOfMemory) => Err(LispFault::OutOfMemory),
+        None if is_flushed => Ok(()),
+        None => Err(LispFault::Write),
     }
 }
 

@@ -51,8 +51,8 @@ pub fn an_entry_prints_what_it_prints_on_the_plain_heap<S, X>()
 ///
 /// - `heap`, `answers`: its commands make the same of the heap, and are answered the same, as where
 ///   they aren't read.
-/// - `in_turn`: the commands at which cycles are told to have ended rise. They are counted from 1, up
-///   to as many as were answered.
+/// - `in_turn`: the commands at which cycles are told to have ended rise. They are counted from 1,
+///   up to as many as were answered.
 pub fn cycles_are_read_beside_the_heap<S, X>()
     ensures heap { (paced : S → PacedState) (step : Stepping X S) (given : CommandAnswers → X)
         (n : ℕ) (machine : Control) (s : S)
