@@ -2,10 +2,10 @@
 
 use crate::expectations::{Row, expect_equal};
 use rh_text::{IoLog, send};
-use rh_trace::{RunFault, Write, parse, print_logged, run_trace_logged};
+use rh_trace::{RunFault, Trace, Write, parse, print_logged, run_trace_logged};
 use samples::devices::{InterruptedReader, SlowReader, SlowWriter};
 use samples::texts::WITHOUT_FIELDS;
-use std::test::Fail;
+use std::process::Abort;
 
 #[test]
 fn runs_tell_which_call_failed(rt: HostRuntime) {
@@ -52,18 +52,27 @@ fn reads_that_run_out_are_no_failed_read(rt: HostRuntime) {
     expect_equal(&rt, writer.writes, 0);
 }
 
+/// Prints a trace, of which so many bytes of a write are taken and the nth write fails. Expects this
+/// outcome, and the log to tell a failed write.
+fn expect_print(
+    rt: &(impl AllocGlobal + Abort),
+    trace: &Trace,
+    &(most, nth, outcome): &(usize, u32, Result<(), Write>),
+) {
+    let mut writer = SlowWriter::new(rt, most, nth);
+    let mut writes = IoLog::new();
+    expect_equal(rt, print_logged(trace, &mut writer, &mut writes), outcome);
+    expect_equal(rt, writes.has_failed(), outcome.is_err());
+}
+
 #[test]
-fn prints_tell_a_failed_write(rt: HostRuntime) -> Result<(), Fail> {
-    let trace = parse(rt.alloc(), WITHOUT_FIELDS).ok().ok_or("a trace")?;
+fn prints_tell_a_failed_write(rt: HostRuntime) {
+    let trace = parse(rt.alloc(), WITHOUT_FIELDS).ok();
+    let trace = trace.expect(&rt, "a trace");
     let table = [(1000, 0, Ok(())), (1000, 2, Err(Write)), (0, 0, Err(Write))];
-    for (row, &(most, nth, outcome)) in table.iter().enumerate() {
-        let rt = Row { rt: &rt, row };
-        let mut writer = SlowWriter::new(&rt, most, nth);
-        let mut writes = IoLog::new();
-        expect_equal(&rt, print_logged(&trace, &mut writer, &mut writes), outcome);
-        expect_equal(&rt, writes.has_failed(), outcome.is_err());
+    for (row, printed) in table.iter().enumerate() {
+        expect_print(&Row { rt: &rt, row }, &trace, printed);
     }
-    Ok(())
 }
 
 #[test]

@@ -58,15 +58,24 @@ fn what_is_read_is_written_again(rt: HostRuntime) {
     }
 }
 
+/// Whether a graph has the same text as the one that a dump is read as.
+fn has_text_of<R: AllocGlobal + Abort>(rt: &R, graph: &Graph, dump: &[u8]) -> bool {
+    let other = graph_of(rt, &mut { dump });
+    same_text(graph, &other)
+}
+
+/// Expects a text of the version before to be read as the graph of this dump.
+fn expect_read_as<R: AllocGlobal + Abort>(rt: &R, text: &[u8], dump: &[u8]) {
+    let graph = graph_of(rt, &mut { text });
+    expect_written(rt, &graph, dump);
+    assert!(rt; has_text_of(rt, &graph, dump));
+}
+
 #[test]
 fn a_text_of_the_version_before_is_read(rt: HostRuntime) {
     let texts = [(EMPTY_BEFORE, EMPTY), (EACH_KIND_BEFORE, EACH_KIND)];
     for (row, &(text, dump)) in texts.iter().enumerate() {
-        let rt = Row { rt: &rt, row };
-        let graph = graph_of(&rt, &mut { text });
-        expect_written(&rt, &graph, dump);
-        let other = graph_of(&rt, &mut { dump });
-        assert!(rt; same_text(&graph, &other));
+        expect_read_as(&Row { rt: &rt, row }, text, dump);
     }
 }
 
@@ -79,15 +88,19 @@ const APART: &[&[u8]] = &[
     b"rheap 2\nroots 1\n1.1 @0\nobjects 1\n@0 raw 0\nend\n",
 ];
 
+/// Whether two dumps are read as graphs with the same text.
+fn have_one_text<R: AllocGlobal + Abort>(rt: &R, text: &[u8], other: &[u8]) -> bool {
+    let graph = graph_of(rt, &mut { text });
+    has_text_of(rt, &graph, other)
+}
+
 #[test]
 fn graphs_have_one_text(rt: HostRuntime) {
     for (i, &text) in APART.iter().enumerate() {
         let rt = Row { rt: &rt, row: i };
         for (k, &other) in APART.iter().enumerate() {
             let rt = Row { rt: &rt, row: k };
-            let graph = graph_of(&rt, &mut { text });
-            let second = graph_of(&rt, &mut { other });
-            expect_equal(&rt, same_text(&graph, &second), i == k);
+            expect_equal(&rt, have_one_text(&rt, text, other), i == k);
         }
     }
 }
@@ -101,14 +114,19 @@ fn a_dump_in_many_reads(rt: HostRuntime) {
     expect_dump(&rt, &mut SlowReader::new(&text, 0), &text);
 }
 
+/// Adds the lines of an owner's 256 roots to a dump.
+fn add_roots<R: AllocGlobal + Abort>(rt: &R, text: &mut Vec<u8>, owner: u32) {
+    for slot in 0..256u32 {
+        let root = ample(rt, format!(in rt.alloc(); "{owner}.{slot} 7\n"));
+        ample(rt, text.extend_from_slice(root.as_bytes()));
+    }
+}
+
 #[test]
 fn the_most_roots(rt: HostRuntime) {
     let mut text = ample(&rt, repeated(&rt, b"rheap 2\nroots 4096\n", b"", 0));
     for owner in 0..16u32 {
-        for slot in 0..256u32 {
-            let root = ample(&rt, format!(in rt.alloc(); "{owner}.{slot} 7\n"));
-            ample(&rt, text.extend_from_slice(root.as_bytes()));
-        }
+        add_roots(&rt, &mut text, owner);
     }
     ample(&rt, text.extend_from_slice(b"objects 0\nend\n"));
     expect_dump(&rt, &mut { text.as_slice() }, &text);

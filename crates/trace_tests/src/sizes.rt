@@ -113,13 +113,17 @@ fn expect_same_graph(rt: &(impl AllocGlobal + Abort), heap: &Heap, plain: &Plain
     assert!(rt; same_text(&moving, &never));
 }
 
+/// Makes the chain in a new heap too, and expects the same graph.
+fn expect_same_chain(rt: &(impl AllocGlobal + Abort), plain: &mut Plain) {
+    let mut heap = Heap::new(rt.alloc(), LARGE).ok().expect(rt, "a heap");
+    link(rt, &mut heap, plain);
+    expect_same_graph(rt, &heap, plain);
+}
+
 #[test]
 fn a_chain_of_a_million_objects(rt: HostRuntime) {
-    let mut heap = Heap::new(rt.alloc(), LARGE).ok().expect(&rt, "a heap");
     let plain = Plain::new(rt.alloc(), 2, 2).ok();
-    let mut plain = plain.expect(&rt, "a plain heap");
-    link(&rt, &mut heap, &mut plain);
-    expect_same_graph(&rt, &heap, &plain);
+    expect_same_chain(&rt, &mut plain.expect(&rt, "a plain heap"));
 }
 
 /// Why there is no recorder.

@@ -5,6 +5,7 @@ use rh_core::ConfigFault;
 use rh_drawn_trace::{RunFault, draw_trace};
 use samples::devices::{Broken, SlowReader, SlowWriter};
 use samples::texts::WHOLE_CYCLE;
+use std::process::Abort;
 
 /// For so many lines of a trace of eleven the end of the picture's title, and how many boxes it has.
 const PARTWAY: [(u32, &str, usize); 7] = [
@@ -60,31 +61,42 @@ const PICTURE: &str = "\
 </svg>
 ";
 
+/// Draws a trace, which comes a byte a time, up to a line.
+fn drawn(rt: &(impl AllocGlobal + Abort), trace: &[u8], lines: u32) -> Vec<u8> {
+    let mut reader = SlowReader::new(trace, 0);
+    let mut writer = SlowWriter::new(rt, 1_000, 0);
+    let drawn = draw_trace(rt.alloc(), &mut reader, lines, &mut writer);
+    expect_equal(rt, drawn, Ok(()));
+    writer.text
+}
+
+/// Expects a picture to have this title, and so many boxes.
+fn expect_boxes(rt: &impl Abort, picture: &[u8], title: &str, boxes: usize) {
+    let text = str::from_utf8(picture).ok().expect(rt, "text");
+    let found = text.split("<g class='box").skip(1).count();
+    expect_equal(rt, (text.contains(title), found), (true, boxes));
+}
+
 #[test]
 fn a_trace_is_drawn_up_to_a_line(rt: HostRuntime) {
     for (row, &(lines, title, boxes)) in PARTWAY.iter().enumerate() {
         let rt = Row { rt: &rt, row };
-        let mut reader = SlowReader::new(WHOLE_CYCLE, 0);
-        let mut writer = SlowWriter::new(&rt, 1_000, 0);
-        let drawn = draw_trace(rt.alloc(), &mut reader, lines, &mut writer);
-        expect_equal(&rt, drawn, Ok(()));
-        let text = str::from_utf8(&writer.text).ok().expect(&rt, "text");
-        let found = text.split("<g class='box").skip(1).count();
-        expect_equal(&rt, (text.contains(title), found), (true, boxes));
+        expect_boxes(&rt, &drawn(&rt, WHOLE_CYCLE, lines), title, boxes);
     }
+}
+
+/// Expects a picture to begin as each does, and to go on so behind its style.
+fn expect_picture(rt: &impl Abort, picture: &[u8], behind: &str) {
+    let text = str::from_utf8(picture).ok().expect(rt, "text");
+    let (head, shown) = text.split_once("</defs>\n").expect(rt, "a style");
+    assert!(rt; head.starts_with("<svg xmlns='http://www.w3.org/2000/svg' width='800' height="));
+    assert!(rt; head.contains("<title>The heap after line 7</title>\n<desc>A managed heap."));
+    expect_equal(rt, shown, behind);
 }
 
 #[test]
 fn a_whole_picture_is_as_it_was_looked_at(rt: HostRuntime) {
-    let mut reader = SlowReader::new(SMALL, 0);
-    let mut writer = SlowWriter::new(&rt, 1_000, 0);
-    let drawn = draw_trace(rt.alloc(), &mut reader, 7, &mut writer);
-    expect_equal(&rt, drawn, Ok(()));
-    let text = str::from_utf8(&writer.text).ok().expect(&rt, "text");
-    let (head, shown) = text.split_once("</defs>\n").expect(&rt, "a style");
-    assert!(rt; head.starts_with("<svg xmlns='http://www.w3.org/2000/svg' width='800' height="));
-    assert!(rt; head.contains("<title>The heap after line 7</title>\n<desc>A managed heap."));
-    expect_equal(&rt, shown, PICTURE);
+    expect_picture(&rt, &drawn(&rt, SMALL, 7), PICTURE);
 }
 
 #[test]

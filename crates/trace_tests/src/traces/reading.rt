@@ -106,14 +106,22 @@ fn expect_lines(rt: &(impl AllocGlobal + Abort), trace: &Trace, texts: &[&str]) 
     lines
 }
 
+/// Expects a trace to be shown so. Answers how many lines after its first.
+fn expect_shown(
+    rt: &(impl AllocGlobal + Abort),
+    &(text, first, others): &(&[u8], &str, &[&str]),
+) -> u32 {
+    let trace = parse(rt.alloc(), text).expect(rt, "a trace");
+    expect_header(rt, &trace, first);
+    expect_lines(rt, &trace, others)
+}
+
 #[test]
 fn reads_each_keyword(rt: HostRuntime) {
     let mut lines: u32 = 0;
-    for (row, &(text, first, others)) in SHOWN.iter().enumerate() {
+    for (row, shown) in SHOWN.iter().enumerate() {
         let rt = Row { rt: &rt, row };
-        let trace = parse(rt.alloc(), text).expect(&rt, "a trace");
-        expect_header(&rt, &trace, first);
-        lines = lines.saturating_add(expect_lines(&rt, &trace, others));
+        lines = lines.saturating_add(expect_shown(&rt, shown));
     }
     expect_equal(&rt, lines, 31);
     assert!(rt; size_of::<Line>() <= 40 && size_of::<Request>() <= 40);
@@ -150,13 +158,17 @@ fn expect_cut(rt: &(impl AllocGlobal + Abort), trace: &Trace, text: &[u8]) {
     expect_bytes(rt, &writer.text, text.split_at(9.min(text.len())).0);
 }
 
+/// Expects a trace to be printed as it was read.
+fn expect_read(rt: &(impl AllocGlobal + Abort), text: &[u8]) {
+    let trace = parse(rt.alloc(), text).expect(rt, "a trace");
+    expect_printed(rt, &trace, text);
+    expect_cut(rt, &trace, text);
+}
+
 #[test]
 fn prints_what_was_parsed(rt: HostRuntime) {
     for (row, &text) in PRINTED.iter().enumerate() {
-        let rt = Row { rt: &rt, row };
-        let trace = parse(rt.alloc(), text).expect(&rt, "a trace");
-        expect_printed(&rt, &trace, text);
-        expect_cut(&rt, &trace, text);
+        expect_read(&Row { rt: &rt, row }, text);
     }
 }
 

@@ -82,50 +82,56 @@ const TWO_FLIPS_HISTORY: &[u8] = b"history 2 2\n\
                 1 alloc 1.0 2 = object 2\n1 alloc 1.0 2 = object 2\n1 alloc 1.0 2 = object 2\n\
                 1 alloc 1.0 2 = object 2\n1 alloc 1.0 2 = object 2\nend 11\n";
 
+/// A whole cycle.
+const ECHOED: View = View {
+    way: Way::Plain,
+    telling: Telling::Echo,
+    trace: WHOLE_CYCLE,
+    texts: [
+        b"2\t1 alloc 1.0 2\tobject 2\n3\tbegin\tcycle 1\n4\t1 alloc 1.1 1\tobject 1\n\
+            5\t1 store 1.0 0 1.1\tdone\n6\tshade 1.0\tplaced\n7\tshade 1.1\tplaced\n\
+            8\tdeal copies 9 t\tdealt 3 passed 0\n\
+            9\tgive t\tgiven joined 3 repeated 0 stale 0 placed 0\n\
+            10\tflip\tflipped roots 2 live 7\n\
+            11\tstat\tstat used 7 free 9 cycle off epoch 2 number 1 log 0 granted 24 spent 15 placed 0 missing 0 idle 0\n\
+            total commands 3 refused 0 flips 1 rootwords 2\n",
+        b"history 2 2\n1 alloc 1.0 2 = object 2\n1 alloc 1.1 1 = object 1\n\
+            1 store 1.0 0 1.1 = done\nend 3\n",
+        b"1\tflipped\t1\t3\t10\t4\t7\t0\t2\t24\t0\t15\t6\t1\t3\t0\t0\t0\t16\n",
+    ],
+};
+
+/// A refusal by a limit stands in no history. What was abandoned has a line too.
+const ABANDONED: View = View {
+    way: Way::Plain,
+    telling: Telling::Json,
+    trace: b"heap 16 8 4 2 2\n1 alloc 1.0 1\n1 alloc 1.1 60\n1 drop 2.0\nbegin\n\
+        idle 20\nshade 1.0\ndeal copies 1 t\ntrays\nstat\nabandon\ntrays\ndump\n",
+    texts: [
+        b"{\"line\":2,\"text\":\"1 alloc 1.0 1\",\"answer\":\"object 1\"}\n\
+            {\"line\":3,\"text\":\"1 alloc 1.1 60\",\"answer\":\"refused SpaceFull need 62 free 13\"}\n\
+            {\"line\":4,\"text\":\"1 drop 2.0\",\"answer\":\"refused NoRoot\"}\n\
+            {\"line\":5,\"text\":\"begin\",\"answer\":\"cycle 1\"}\n\
+            {\"line\":6,\"text\":\"idle 20\",\"answer\":\"idle 20\"}\n\
+            {\"line\":7,\"text\":\"shade 1.0\",\"answer\":\"placed\"}\n\
+            {\"line\":8,\"text\":\"deal copies 1 t\",\"answer\":\"dealt 1 passed 0\"}\n\
+            {\"line\":9,\"text\":\"trays\",\"trays\":[{\"name\":\"t\",\"epoch\":1,\"entries\":1}]}\n\
+            {\"line\":10,\"text\":\"stat\",\"stat\":{\"used\":3,\"free\":13,\"cycle\":true,\"epoch\":1,\"number\":0,\"log\":0,\"granted\":0,\"spent\":4,\"placed\":1,\"missing\":1,\"idle\":20}}\n\
+            {\"line\":11,\"text\":\"abandon\",\"answer\":\"abandoned 1\"}\n\
+            {\"line\":12,\"text\":\"trays\",\"trays\":[{\"name\":\"t\",\"epoch\":1,\"entries\":1}]}\n\
+            {\"line\":13,\"dump\":\"rheap 2\"}\n{\"line\":13,\"dump\":\"roots 1\"}\n\
+            {\"line\":13,\"dump\":\"1.0 @0\"}\n{\"line\":13,\"dump\":\"objects 1\"}\n\
+            {\"line\":13,\"dump\":\"@0 1 nil\"}\n{\"line\":13,\"dump\":\"end\"}\n\
+            {\"total\":{\"commands\":3,\"refused\":2,\"flips\":0,\"rootwords\":0}}\n",
+        b"history 2 2\n1 alloc 1.0 1 = object 1\n1 drop 2.0 = refused NoRoot\nend 2\n",
+        b"1\tabandoned\t1\t5\t11\t3\t3\t0\t1\t0\t20\t4\t3\t0\t0\t0\t0\t0\t16\n",
+    ],
+};
+
+/// What each way gives.
 const VIEWS: &[View] = &[
-    View {
-        way: Way::Plain,
-        telling: Telling::Echo,
-        trace: WHOLE_CYCLE,
-        texts: [
-            b"2\t1 alloc 1.0 2\tobject 2\n3\tbegin\tcycle 1\n4\t1 alloc 1.1 1\tobject 1\n\
-                5\t1 store 1.0 0 1.1\tdone\n6\tshade 1.0\tplaced\n7\tshade 1.1\tplaced\n\
-                8\tdeal copies 9 t\tdealt 3 passed 0\n\
-                9\tgive t\tgiven joined 3 repeated 0 stale 0 placed 0\n\
-                10\tflip\tflipped roots 2 live 7\n\
-                11\tstat\tstat used 7 free 9 cycle off epoch 2 number 1 log 0 granted 24 spent 15 placed 0 missing 0 idle 0\n\
-                total commands 3 refused 0 flips 1 rootwords 2\n",
-            b"history 2 2\n1 alloc 1.0 2 = object 2\n1 alloc 1.1 1 = object 1\n\
-                1 store 1.0 0 1.1 = done\nend 3\n",
-            b"1\tflipped\t1\t3\t10\t4\t7\t0\t2\t24\t0\t15\t6\t1\t3\t0\t0\t0\t16\n",
-        ],
-    },
-    // A refusal by a limit stands in no history. What was abandoned has a line too.
-    View {
-        way: Way::Plain,
-        telling: Telling::Json,
-        trace: b"heap 16 8 4 2 2\n1 alloc 1.0 1\n1 alloc 1.1 60\n1 drop 2.0\nbegin\n\
-            idle 20\nshade 1.0\ndeal copies 1 t\ntrays\nstat\nabandon\ntrays\ndump\n",
-        texts: [
-            b"{\"line\":2,\"text\":\"1 alloc 1.0 1\",\"answer\":\"object 1\"}\n\
-                {\"line\":3,\"text\":\"1 alloc 1.1 60\",\"answer\":\"refused SpaceFull need 62 free 13\"}\n\
-                {\"line\":4,\"text\":\"1 drop 2.0\",\"answer\":\"refused NoRoot\"}\n\
-                {\"line\":5,\"text\":\"begin\",\"answer\":\"cycle 1\"}\n\
-                {\"line\":6,\"text\":\"idle 20\",\"answer\":\"idle 20\"}\n\
-                {\"line\":7,\"text\":\"shade 1.0\",\"answer\":\"placed\"}\n\
-                {\"line\":8,\"text\":\"deal copies 1 t\",\"answer\":\"dealt 1 passed 0\"}\n\
-                {\"line\":9,\"text\":\"trays\",\"trays\":[{\"name\":\"t\",\"epoch\":1,\"entries\":1}]}\n\
-                {\"line\":10,\"text\":\"stat\",\"stat\":{\"used\":3,\"free\":13,\"cycle\":true,\"epoch\":1,\"number\":0,\"log\":0,\"granted\":0,\"spent\":4,\"placed\":1,\"missing\":1,\"idle\":20}}\n\
-                {\"line\":11,\"text\":\"abandon\",\"answer\":\"abandoned 1\"}\n\
-                {\"line\":12,\"text\":\"trays\",\"trays\":[{\"name\":\"t\",\"epoch\":1,\"entries\":1}]}\n\
-                {\"line\":13,\"dump\":\"rheap 2\"}\n{\"line\":13,\"dump\":\"roots 1\"}\n\
-                {\"line\":13,\"dump\":\"1.0 @0\"}\n{\"line\":13,\"dump\":\"objects 1\"}\n\
-                {\"line\":13,\"dump\":\"@0 1 nil\"}\n{\"line\":13,\"dump\":\"end\"}\n\
-                {\"total\":{\"commands\":3,\"refused\":2,\"flips\":0,\"rootwords\":0}}\n",
-            b"history 2 2\n1 alloc 1.0 1 = object 1\n1 drop 2.0 = refused NoRoot\nend 2\n",
-            b"1\tabandoned\t1\t5\t11\t3\t3\t0\t1\t0\t20\t4\t3\t0\t0\t0\t0\t0\t16\n",
-        ],
-    },
+    ECHOED,
+    ABANDONED,
     // No tray, one, and two; numbers of a heap with no cycle and in one.
     View {
         way: Way::Plain,
@@ -318,7 +324,7 @@ fn each_way_gives_its_three_texts(rt: HostRuntime) {
 
 #[test]
 fn each_write_fails_in_turn(rt: HostRuntime) {
-    let view = &VIEWS[0];
+    let view = &ECHOED;
     // Ten lines and the total; of the text of cycles two lines.
     expect_equal(&rt, failed_writes(&rt, view, Failing::Out), 11);
     assert!(rt; 0 < failed_writes(&rt, view, Failing::History));
@@ -337,7 +343,7 @@ fn is_cut(rt: &impl Abort, done: Result<(), Fault>, noted: &[u8]) -> bool {
 
 /// Whether memory was refused.
 fn is_refused<A: Allocator + Copy>(rt: &(impl AllocGlobal + Abort), memory: A) -> bool {
-    let view = &VIEWS[1];
+    let view = &ABANDONED;
     let (mut out, mut noted) = (Vec::new(rt.alloc()), Vec::new(rt.alloc()));
     let mut cycles = Vec::new(rt.alloc());
     let done = run(memory, view, &mut out, &mut noted, &mut cycles);
