@@ -52,8 +52,8 @@ fn reads_that_run_out_are_no_failed_read(rt: HostRuntime) {
     expect_equal(&rt, writer.writes, 0);
 }
 
-/// Prints a trace, of which so many bytes of a write are taken and the nth write fails. Expects this
-/// outcome, and the log to tell a failed write.
+/// Prints a trace to a writer that takes so many bytes of a write, and fails at its nth. Expects this
+/// outcome, and the log to tell a failed write exactly if it is a fault.
 fn expect_print(
     rt: &(impl AllocGlobal + Abort),
     trace: &Trace,

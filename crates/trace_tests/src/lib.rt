@@ -1,6 +1,9 @@
-//! Tests of traces, dumps and histories, by their public calls.
+//! Tests of traces, dumps, histories, sessions, and of where a line's fault is and how it is shown, by
+//! their public calls.
 #![tactic(auto)]
 
+#[cfg(test)]
+mod blocks;
 #[cfg(test)]
 mod dumps;
 #[cfg(test)]
@@ -12,9 +15,15 @@ mod faults;
 #[cfg(test)]
 mod histories;
 #[cfg(test)]
+mod hosts;
+#[cfg(test)]
 mod parts;
 #[cfg(test)]
+mod places;
+#[cfg(test)]
 mod reading_dumps;
+#[cfg(test)]
+mod sessions;
 #[cfg(test)]
 mod sizes;
 #[cfg(test)]

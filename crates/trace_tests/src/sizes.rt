@@ -113,7 +113,7 @@ fn expect_same_graph(rt: &(impl AllocGlobal + Abort), heap: &Heap, plain: &Plain
     assert!(rt; same_text(&moving, &never));
 }
 
-/// Makes the chain in a new heap too, and expects the same graph.
+/// Makes the chain in a new heap and in this plain one, and expects the same graph of both.
 fn expect_same_chain(rt: &(impl AllocGlobal + Abort), plain: &mut Plain) {
     let mut heap = Heap::new(rt.alloc(), LARGE).ok().expect(rt, "a heap");
     link(rt, &mut heap, plain);

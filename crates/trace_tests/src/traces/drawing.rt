@@ -61,12 +61,12 @@ const PICTURE: &str = "\
 </svg>
 ";
 
-/// Draws a trace, which comes a byte a time, up to a line.
+/// The picture of a trace, which comes a byte a time, up to a line.
 fn drawn(rt: &(impl AllocGlobal + Abort), trace: &[u8], lines: u32) -> Vec<u8> {
     let mut reader = SlowReader::new(trace, 0);
     let mut writer = SlowWriter::new(rt, 1_000, 0);
-    let drawn = draw_trace(rt.alloc(), &mut reader, lines, &mut writer);
-    expect_equal(rt, drawn, Ok(()));
+    let outcome = draw_trace(rt.alloc(), &mut reader, lines, &mut writer);
+    expect_equal(rt, outcome, Ok(()));
     writer.text
 }
 
@@ -85,7 +85,7 @@ fn a_trace_is_drawn_up_to_a_line(rt: HostRuntime) {
     }
 }
 
-/// Expects a picture to begin as each does, and to go on so behind its style.
+/// Expects the picture after line 7: its size and title, and this text behind its style.
 fn expect_picture(rt: &impl Abort, picture: &[u8], behind: &str) {
     let text = str::from_utf8(picture).ok().expect(rt, "text");
     let (head, shown) = text.split_once("</defs>\n").expect(rt, "a style");

@@ -106,7 +106,7 @@ fn expect_lines(rt: &(impl AllocGlobal + Abort), trace: &Trace, texts: &[&str]) 
     lines
 }
 
-/// Expects a trace to be shown so. Answers how many lines after its first.
+/// Expects a trace to be shown so. Answers how many lines come after its first.
 fn expect_shown(
     rt: &(impl AllocGlobal + Abort),
     &(text, first, others): &(&[u8], &str, &[&str]),
@@ -158,8 +158,8 @@ fn expect_cut(rt: &(impl AllocGlobal + Abort), trace: &Trace, text: &[u8]) {
     expect_bytes(rt, &writer.text, text.split_at(9.min(text.len())).0);
 }
 
-/// Expects a trace to be printed as it was read.
-fn expect_read(rt: &(impl AllocGlobal + Abort), text: &[u8]) {
+/// Expects a trace to be printed as it was read, and to be cut where a write fails.
+fn expect_printed_again(rt: &(impl AllocGlobal + Abort), text: &[u8]) {
     let trace = parse(rt.alloc(), text).expect(rt, "a trace");
     expect_printed(rt, &trace, text);
     expect_cut(rt, &trace, text);
@@ -168,7 +168,7 @@ fn expect_read(rt: &(impl AllocGlobal + Abort), text: &[u8]) {
 #[test]
 fn prints_what_was_parsed(rt: HostRuntime) {
     for (row, &text) in PRINTED.iter().enumerate() {
-        expect_read(&Row { rt: &rt, row }, text);
+        expect_printed_again(&Row { rt: &rt, row }, text);
     }
 }
 

@@ -82,7 +82,7 @@ const TWO_FLIPS_HISTORY: &[u8] = b"history 2 2\n\
                 1 alloc 1.0 2 = object 2\n1 alloc 1.0 2 = object 2\n1 alloc 1.0 2 = object 2\n\
                 1 alloc 1.0 2 = object 2\n1 alloc 1.0 2 = object 2\nend 11\n";
 
-/// A whole cycle.
+/// A whole cycle, as an echo.
 const ECHOED: View = View {
     way: Way::Plain,
     telling: Telling::Echo,

@@ -1,4 +1,4 @@
-//! A host that keeps what it is told, a reader that gives a byte a time, and a writer that fails.
+//! A host that counts what it is told, and a writer that counts its flushes among its calls.
 
 use rh_shell::Host;
 use std::io::{self, ErrorKind};
@@ -45,53 +45,7 @@ impl Host for Counts {
     }
 }
 
-/// A reader that gives one byte a time, and is interrupted before each. At the end it may break.
-#[derive(Drop)]
-pub struct SlowReader<'a> {
-    rest: &'a [u8],
-    interrupts: bool,
-    breaks: bool,
-}
-
-impl<'a> SlowReader<'a> {
-    /// A reader of these bytes.
-    pub fn new(rest: &'a [u8]) -> SlowReader<'a> {
-        SlowReader {
-            rest,
-            interrupts: false,
-            breaks: false,
-        }
-    }
-
-    /// A reader of these bytes, that fails in place of their end.
-    pub fn breaking(rest: &'a [u8]) -> SlowReader<'a> {
-        SlowReader {
-            rest,
-            interrupts: false,
-            breaks: true,
-        }
-    }
-}
-
-impl io::Read for SlowReader<'_> {
-    fn read(&mut self, buf: &mut [u8]) -> io::Result<usize> {
-        self.interrupts = !self.interrupts;
-        if self.interrupts {
-            return Err(io::Error::from(ErrorKind::Interrupted));
-        }
-        match (self.rest, buf) {
-            ([first, rest @ ..], [place, ..]) => {
-                *place = *first;
-                self.rest = rest;
-                Ok(1)
-            }
-            _ if self.breaks => Err(io::Error::from(ErrorKind::BrokenPipe)),
-            _ => Ok(0),
-        }
-    }
-}
-
-/// A writer that keeps what it takes, counts flushes, and fails at its nth write or flush.
+/// A writer that keeps what it takes, and fails at its nth call: a write or a flush.
 #[derive(Drop)]
 pub struct Full {
     /// What it took.

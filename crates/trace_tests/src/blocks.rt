@@ -1,6 +1,8 @@
 //! Blocks of text that show the faulty part of a line.
 
+use crate::expectations::{Row, ample, expect_bytes, expect_equal, expect_prefix};
 use rh_explain::{fault_part, write_block};
+use samples::texts::repeated;
 use std::process::Abort;
 
 /// A line's number and text, and the block that shows its fault.
@@ -32,32 +34,26 @@ const BLOCKS: &[(u32, &[u8], &[u8])] = &[
     ),
 ];
 
+/// The block of a line's fault.
+fn block_of(rt: &(impl AllocGlobal + Abort), number: u32, line: &[u8]) -> Vec<u8> {
+    let part = fault_part(number, line, true).expect(rt, "a fault");
+    let mut block = Vec::new(rt.alloc());
+    expect_equal(rt, write_block(&mut block, number, line, &part), Ok(()));
+    block
+}
+
 #[test]
 fn a_block_shows_the_part(rt: HostRuntime) {
     for (row, &(number, line, block)) in BLOCKS.iter().enumerate() {
-        let part = fault_part(number, line, true).expect(&rt, "a fault");
-        let mut out = Vec::new(rt.alloc());
-        assert!(rt;
-            write_block(&mut out, number, line, &part).is_ok(),
-            "row {row}"
-        );
-        assert!(rt;
-            out.as_slice() == block,
-            "row {row}: {}",
-            out.escape_ascii()
-        );
+        let rt = Row { rt: &rt, row };
+        expect_bytes(&rt, &block_of(&rt, number, line), block);
     }
 }
 
 #[test]
 fn a_long_line_is_cut_on_both_sides(rt: HostRuntime) {
-    let mut line = Vec::new(rt.alloc());
-    for _ in 0..300 {
-        line.push(b'x').expect(&rt, "memory is ample");
-    }
+    let line = ample(&rt, repeated(&rt, b"", b"x", 300));
     let part = fault_part(2, &line, true).expect(&rt, "a fault");
-    assert!(rt; part.begins == 256 && part.ends == 300);
-    let mut out = Vec::new(rt.alloc());
-    assert!(rt; write_block(&mut out, 2, &line, &part).is_ok());
-    assert!(rt; out.starts_with(b"2 | ..xxxxxxxxxxxxxxxxxx"));
+    expect_equal(&rt, (part.begins, part.ends), (256, 300));
+    expect_prefix(&rt, &block_of(&rt, 2, &line), b"2 | ..xxxxxxxxxxxxxxxxxx");
 }

@@ -1,10 +1,14 @@
 //! Sessions: what is typed, and what is answered.
 
-use crate::devices::{Counts, Full, SlowReader};
-use refusing::{RefusingAllocator, refused_in_turn};
-use rh_shell::{OutputLog, ShellFault, run_shell, run_shell_logged};
+use crate::expectations::{Row, expect_bytes, expect_equal, expect_prefix, expect_refusals};
+use crate::hosts::{Counts, Full};
+use refusing::refused_in_turn;
+use rh_shell::{OutputLog, ShellFault, Summary, run_shell, run_shell_logged};
 use rh_text::IoLog;
 use rh_trace::run_trace;
+use samples::devices::SlowReader;
+use std::alloc::Allocator;
+use std::io::Read;
 use std::process::Abort;
 
 /// A trace with a cycle.
@@ -138,58 +142,68 @@ const SESSIONS: &[(&[u8], &[u8])] = &[
     (KINDS, KINDS_ANSWERS),
 ];
 
-/// Ends the test unless a text is what was wanted, and shows both then.
-fn expect_text(rt: &impl Abort, got: &[u8], wanted: &[u8]) {
-    assert!(rt;
-        got == wanted,
-        "got {} wanted {}",
-        got.escape_ascii(),
-        wanted.escape_ascii()
-    );
+/// Holds a session. It has no clauses, since no test needs what `run_shell` promises.
+fn held<A: Allocator + Copy, R: Read>(
+    alloc: A,
+    reader: &mut R,
+    writer: &mut Full,
+    host: &mut Counts,
+) -> Result<Summary, ShellFault> {
+    run_shell(alloc, reader, writer, host)
+}
+
+/// Expects these answers to what is typed, which comes a byte a time.
+fn expect_answered(rt: &(impl AllocGlobal + Abort), typed: &[u8], answers: &[u8]) {
+    let mut reader = SlowReader::new(typed, 0);
+    let mut writer = Full::new(rt, 0);
+    let outcome = held(rt.alloc(), &mut reader, &mut writer, &mut Counts::new(true));
+    assert!(rt; outcome.is_ok());
+    expect_bytes(rt, &writer.text, answers);
 }
 
 #[test]
 fn each_line_is_answered(rt: HostRuntime) {
-    for &(typed, answers) in SESSIONS {
-        let mut writer = Full::new(&rt, 0);
-        let mut host = Counts::new(true);
-        let mut reader = SlowReader::new(typed);
-        let outcome = run_shell(rt.alloc(), &mut reader, &mut writer, &mut host);
-        assert!(rt; outcome.is_ok());
-        expect_text(&rt, &writer.text, answers);
+    for (row, &(typed, answers)) in SESSIONS.iter().enumerate() {
+        expect_answered(&Row { rt: &rt, row }, typed, answers);
     }
 }
 
 #[test]
 fn a_session_of_a_trace_is_its_run(rt: HostRuntime) {
     let mut run = Full::new(&rt, 0);
-    let mut reader = CYCLE;
-    let ran = run_trace(rt.alloc(), &mut reader, &mut run).ok();
-    let mut writer = Full::new(&rt, 0);
-    let mut reader = CYCLE;
-    let outcome = run_shell(rt.alloc(), &mut reader, &mut writer, &mut Counts::new(true));
-    assert!(rt; outcome.ok() == ran);
+    let ran = run_trace(rt.alloc(), &mut { CYCLE }, &mut run).ok();
     assert!(rt; ran.is_some());
-    expect_text(&rt, &writer.text, &run.text);
+    let mut writer = Full::new(&rt, 0);
+    let mut host = Counts::new(true);
+    let outcome = held(rt.alloc(), &mut { CYCLE }, &mut writer, &mut host);
+    assert!(rt; outcome.ok() == ran);
+    expect_bytes(&rt, &writer.text, &run.text);
+}
+
+/// Expects a host, which takes pictures or not, to be told what comes. The answers are those of a host
+/// that takes them exactly if it does.
+fn expect_told(rt: &(impl AllocGlobal + Abort), takes: bool) {
+    let mut host = Counts::new(takes);
+    let mut writer = Full::new(rt, 0);
+    let outcome = held(rt.alloc(), &mut { OWN }, &mut writer, &mut host);
+    assert!(rt; outcome.is_ok());
+    expect_equal(rt, (host.prompts, host.ends, host.pictures), (12, 1, 1));
+    expect_equal(rt, writer.text.as_slice() == OWN_ANSWERS, takes);
 }
 
 #[test]
 fn a_host_is_told_what_comes(rt: HostRuntime) {
-    for takes in [false, true] {
-        let mut host = Counts::new(takes);
-        let mut reader = OWN;
-        let mut writer = Full::new(&rt, 0);
-        let outcome = run_shell(rt.alloc(), &mut reader, &mut writer, &mut host);
-        assert!(rt; outcome.is_ok());
-        assert!(rt; (host.prompts, host.ends, host.pictures) == (12, 1, 1));
-        let is_told = writer.text.as_slice() == OWN_ANSWERS;
-        assert!(rt; is_told == takes);
-    }
+    expect_told(&rt, false);
+    expect_told(&rt, true);
 }
+
+/// What is typed, up to a read that fails in place of its end.
+const BROKEN_OFF: &[u8] = b"heap 32 8 8 1 2\n0 alloc 0.0 1\n0 drop 0.0\nsta";
 
 #[test]
 fn a_failed_read_leaves_ended_lines_answered(rt: HostRuntime) {
-    let mut reader = SlowReader::breaking(b"heap 32 8 8 1 2\n0 alloc 0.0 1\n0 drop 0.0\nsta");
+    // Each of its 44 bytes takes two reads, of which the first is interrupted.
+    let mut reader = SlowReader::new(BROKEN_OFF, 90);
     let mut reads = IoLog::new();
     let mut writer = Full::new(&rt, 0);
     let mut log = OutputLog::new();
@@ -202,39 +216,52 @@ fn a_failed_read_leaves_ended_lines_answered(rt: HostRuntime) {
         &mut Counts::new(true),
     );
     assert!(rt; outcome == Err(ShellFault::Read));
-    expect_text(&rt, &writer.text, b"object 1\ndone\n");
-    assert!(rt; reads.has_failed());
-    assert!(rt; !log.has_flush_failed());
+    expect_bytes(&rt, &writer.text, b"object 1\ndone\n");
+    expect_equal(
+        &rt,
+        (reads.has_failed(), log.has_flush_failed()),
+        (true, false),
+    );
+}
+
+/// Holds a session whose nth call of its writer fails. Answers whether it ended by that: then no call
+/// came after.
+fn fails_at(rt: &(impl AllocGlobal + Abort), nth: u32) -> bool {
+    let mut writer = Full::new(rt, nth);
+    let mut host = Counts::new(true);
+    let outcome = held(rt.alloc(), &mut { OWN }, &mut writer, &mut host);
+    expect_prefix(rt, OWN_ANSWERS, &writer.text);
+    if outcome.is_ok() {
+        return false;
+    }
+    assert!(rt; outcome == Err(ShellFault::Write));
+    expect_equal(rt, writer.calls, nth);
+    true
 }
 
 #[test]
 fn each_failing_call_ends_a_session(rt: HostRuntime) {
     for nth in 1..100u32 {
-        let mut writer = Full::new(&rt, nth);
-        let mut reader = OWN;
-        let outcome = run_shell(rt.alloc(), &mut reader, &mut writer, &mut Counts::new(true));
-        assert!(rt; OWN_ANSWERS.starts_with(&writer.text));
-        match outcome {
-            Err(fault) => {
-                assert!(rt; fault == ShellFault::Write);
-                assert!(rt; writer.calls == nth);
-            }
-            Ok(_) => {
-                assert!(rt; nth > 20);
-                return;
-            }
+        let row = nth as usize;
+        if !fails_at(&Row { rt: &rt, row }, nth) {
+            assert!(rt; nth > 20);
+            return;
         }
     }
+    assert!(rt; false, "each of 99 calls fails");
+}
+
+/// Whether memory was refused. What is written is a prefix of the answers.
+fn is_refused<A: Allocator + Copy>(rt: &(impl AllocGlobal + Abort), memory: A) -> bool {
+    let mut writer = Full::new(rt, 0);
+    let mut host = Counts::new(true);
+    let outcome = held(memory, &mut { OWN }, &mut writer, &mut host);
+    expect_prefix(rt, OWN_ANSWERS, &writer.text);
+    outcome == Err(ShellFault::OutOfMemory)
 }
 
 #[test]
 fn each_allocation_is_refused(rt: HostRuntime) {
-    let refused = refused_in_turn(rt.alloc(), |memory: &RefusingAllocator<_>| {
-        let mut writer = Full::new(&rt, 0);
-        let mut reader = OWN;
-        let outcome = run_shell(memory, &mut reader, &mut writer, &mut Counts::new(true));
-        assert!(rt; OWN_ANSWERS.starts_with(&writer.text));
-        outcome == Err(ShellFault::OutOfMemory)
-    });
-    assert!(rt; refused.is_ok_and(|n| n > 9), "{refused:?}");
+    let refused = refused_in_turn(rt.alloc(), |memory| is_refused(&rt, memory));
+    expect_refusals(&rt, refused, 10);
 }

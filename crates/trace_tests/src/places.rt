@@ -1,6 +1,7 @@
 //! Where the fault of a line is, and what is wrong there.
 
-use rh_explain::{fault_part, no_command_part};
+use crate::expectations::{Row, expect_equal, expect_text};
+use rh_explain::{Part, fault_part, no_command_part};
 use std::process::Abort;
 
 /// A faulty line: its number, its text, where its part begins and ends, and what is wrong there.
@@ -305,14 +306,23 @@ const FAULTY: &[Faulty] = &[
     (2, b"1 watch", 7, 7, "ROOT is missing: OWNER watch ROOT"),
 ];
 
+/// Expects a part to begin and end so, and this sentence on what is wrong there.
+fn expect_part(
+    rt: &(impl AllocGlobal + Abort),
+    part: &Part,
+    columns: (usize, usize),
+    sentence: &str,
+) {
+    expect_equal(rt, (part.begins, part.ends), columns);
+    expect_text(rt, part.why, sentence);
+}
+
 #[test]
 fn each_fault_has_its_place(rt: HostRuntime) {
     for (row, &(number, line, begins, ends, sentence)) in FAULTY.iter().enumerate() {
+        let rt = Row { rt: &rt, row };
         let part = fault_part(number, line, true).expect(&rt, "a fault");
-        let why = part.why;
-        let text = format!(in rt.alloc(); "{why}").expect(&rt, "memory is ample");
-        assert!(rt; part.begins == begins && part.ends == ends, "row {row}");
-        assert!(rt; text.as_str() == sentence, "row {row}: {text}");
+        expect_part(&rt, &part, (begins, ends), sentence);
     }
 }
 
@@ -329,28 +339,19 @@ const READ: &[(u32, &[u8])] = &[
 #[test]
 fn what_is_read_has_no_faulty_part(rt: HostRuntime) {
     for (row, &(number, line)) in READ.iter().enumerate() {
-        assert!(rt; fault_part(number, line, true).is_none(), "row {row}");
+        let rt = Row { rt: &rt, row };
+        assert!(rt; fault_part(number, line, true).is_none());
         let cut = fault_part(number, line, false).expect(&rt, "a fault");
-        let why = cut.why;
-        let text = format!(in rt.alloc(); "{why}").expect(&rt, "memory is ample");
-        assert!(rt;
-            cut.begins == line.len() && cut.ends == line.len(),
-            "row {row}"
-        );
-        assert!(rt; text.as_str() == "the line has no line end: a line feed ends each line");
+        let sentence = "the line has no line end: a line feed ends each line";
+        expect_part(&rt, &cut, (line.len(), line.len()), sentence);
     }
 }
 
 #[test]
 fn a_line_that_is_no_command_fails_at_its_keyword(rt: HostRuntime) {
     let begin = no_command_part(b"begin");
-    assert!(rt; begin.begins == 0 && begin.ends == 5);
+    expect_equal(&rt, (begin.begins, begin.ends), (0, 5));
     let watch = no_command_part(b"1 watch 1.0");
-    assert!(rt; watch.begins == 2 && watch.ends == 7);
-    let why = watch.why;
-    let text = format!(in rt.alloc(); "{why}").expect(&rt, "memory is ample");
-    assert!(rt;
-        text.as_str()
-            == "only commands stand in this run: alloc, raw, load, store, copy, same and drop"
-    );
+    let sentence = "only commands stand in this run: alloc, raw, load, store, copy, same and drop";
+    expect_part(&rt, &watch, (2, 7), sentence);
 }
