@@ -1,4 +1,6 @@
+pub mod Added
 pub mod Causes
+pub mod Chosen
 pub mod ClapMatches
 pub mod Counted
 pub mod Drawn

@@ -2,7 +2,7 @@
 use Rattle.std.proofs.Common.{◌≡◌, ◌≢◌, ◌≤◌, ◌⊎◌, ◌↔◌, inl, inr, ℕ, refl, sym, ap, arith}
 use Rattle.rh_replay.specs.declared.checking.Verdict.{Verdict}
 use Rattle.rh_replay.specs.declared.checking.Verdict.TheVariants.{Legal, Wrong}
-use Rattle.std.specs.Prelude.{Ok}
+use Rattle.std.specs.Prelude.{IfErr, Result, Ok, Err}
 use Rattle.clap.specs.Words.{kind_of}
 use Rattle.clap.specs.declared.error.kind.ErrorKind.{ErrorKind}
 use Rattle.clap.specs.declared.error.kind.ErrorKind.TheVariants.{DisplayHelp, DisplayVersion}
@@ -10,7 +10,7 @@ use Rattle.rh_cli.specs.declared.ending.Ending.{Ending}
 use Rattle.rh_cli.specs.declared.ending.Ending.TheVariants.{Done, WrongHistory}
 use Rattle.rh_cli.specs.declared.fault.LineFault.{LineFault}
 use Rattle.rh_cli.specs.declared.fault.LineFault.TheVariants as faults
-use Rattle.rh_cli.specs.Fault.{arguments_status, status_of, ending_status, IsLateStatus, IsUsualFault}
+use Rattle.rh_cli.specs.Fault.{arguments_status, status_after, status_of, ending_status, IsLateStatus, IsUsualFault}
 use Rattle.rh_cli.specs.Replay.{IsReplayStatus}
 
 -- a fault that any subcommand may end with has another status than 0 and 4
@@ -53,6 +53,11 @@ pub late_of_fault : (status own : ℕ) → status ≡ own → ((own ≡ 1) ⊎ (
 late_of_fault status own is (inl (inl one)) = (omega (arith, is, one), λ two. omega (arith, is, one, two))
 late_of_fault status own is (inl (inr three)) = (omega (arith, is, three), λ two. omega (arith, is, three, two))
 late_of_fault status own is (inr four) = (omega (arith, is, four), λ two. omega (arith, is, four, two))
+
+-- nor is the status after what ended with such a fault, if with any
+pub late_after : (ended : Result Ending LineFault) (status : ℕ) → status ≡ status_after ended → IfErr ended IsUsualFault → IsLateStatus status
+late_after (Ok ending) status is usual = late_of_ending ending status is
+late_after (Err fault) status is usual = late_of_fault status (status_of fault) is (inl usual)
 
 -- what comes before anything is read of what is viewed
 pub usual_open : (fault : LineFault) → fault ≡ faults.Open → IsUsualFault fault

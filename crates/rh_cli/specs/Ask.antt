@@ -17,14 +17,25 @@ use Rattle.rh_cli.specs.declared.ask.Ask.{Ask}
 use Rattle.rh_cli.specs.declared.fault.LineFault.{LineFault}
 use Rattle.rh_cli.specs.declared.fault.LineFault.TheVariants as faults
 
+-- a word of this name, which is required or not
+abbrev pub word_rule : Text → Bool → Rule
+word_rule name is_required = record (new_rule name) { required = is_required }
+
+-- an option of this name with a value
+abbrev pub option_rule : Text → Rule
+option_rule name = record (new_rule name) { long = Some name; value_names = 1 }
+
+-- a flag of this name
+abbrev pub flag_rule : Text → Rule
+flag_rule name = record (new_rule name) { long = Some name; action = Some SetTrue }
+
 -- the file, which is required
 abbrev pub file_rule : Rule
-file_rule = record (new_rule (codes "FILE")) { required = true }
+file_rule = word_rule (codes "FILE") true
 
 -- whether a fault is explained, a flag of each command that takes a file
 abbrev pub explain_rule : Rule
-explain_rule =
-    record (new_rule (codes "explain")) { long = Some (codes "explain"); action = Some SetTrue }
+explain_rule = flag_rule (codes "explain")
 
 -- a command of this name that takes a file, as `run FILE`
 abbrev pub file_app : Text → App
@@ -32,13 +43,13 @@ file_app name = with_rule (with_rule (new_app name) file_rule) explain_rule
 
 -- the options of `run`: a flag, and two with a value
 abbrev pub paced_rule : Rule
-paced_rule = record (new_rule (codes "paced")) { long = Some (codes "paced"); action = Some SetTrue }
+paced_rule = flag_rule (codes "paced")
 
 abbrev pub mark_rule : Rule
-mark_rule = record (new_rule (codes "mark")) { long = Some (codes "mark"); value_names = 1 }
+mark_rule = option_rule (codes "mark")
 
 abbrev pub grow_rule : Rule
-grow_rule = record (new_rule (codes "grow")) { long = Some (codes "grow"); value_names = 1 }
+grow_rule = option_rule (codes "grow")
 
 -- the command `run`: a file, and these options, of which the last is for a heap that grows
 abbrev pub marked_app : App
@@ -49,17 +60,16 @@ grown_app = with_rule marked_app grow_rule
 
 -- the options that view what is done: two files, and two flags
 abbrev pub cycles_rule : Rule
-cycles_rule = record (new_rule (codes "cycles")) { long = Some (codes "cycles"); value_names = 1 }
+cycles_rule = option_rule (codes "cycles")
 
 abbrev pub history_rule : Rule
-history_rule =
-    record (new_rule (codes "history")) { long = Some (codes "history"); value_names = 1 }
+history_rule = option_rule (codes "history")
 
 abbrev pub echo_rule : Rule
-echo_rule = record (new_rule (codes "echo")) { long = Some (codes "echo"); action = Some SetTrue }
+echo_rule = flag_rule (codes "echo")
 
 abbrev pub json_rule : Rule
-json_rule = record (new_rule (codes "json")) { long = Some (codes "json"); action = Some SetTrue }
+json_rule = flag_rule (codes "json")
 
 -- a command with both flags
 abbrev pub told_app : App → App
@@ -75,11 +85,10 @@ replay_app = told_app (file_app (codes "replay"))
 
 -- the options of `threads`, each with a value
 abbrev pub replicators_rule : Rule
-replicators_rule =
-    record (new_rule (codes "replicators")) { long = Some (codes "replicators"); value_names = 1 }
+replicators_rule = option_rule (codes "replicators")
 
 abbrev pub idle_rule : Rule
-idle_rule = record (new_rule (codes "idle")) { long = Some (codes "idle"); value_names = 1 }
+idle_rule = option_rule (codes "idle")
 
 -- the command `threads`: a file, and these options
 abbrev pub threads_app : App
@@ -87,7 +96,7 @@ threads_app = with_rule (with_rule (file_app (codes "threads")) replicators_rule
 
 -- the option of `dump`, a flag
 abbrev pub dot_rule : Rule
-dot_rule = record (new_rule (codes "dot")) { long = Some (codes "dot"); action = Some SetTrue }
+dot_rule = flag_rule (codes "dot")
 
 -- the command `dump`: a file, this option, and one of the flags
 abbrev pub dump_app : App
@@ -95,7 +104,7 @@ dump_app = with_rule (with_rule (file_app (codes "dump")) dot_rule) json_rule
 
 -- the option of `draw`, with a value
 abbrev pub line_rule : Rule
-line_rule = record (new_rule (codes "line")) { long = Some (codes "line"); value_names = 1 }
+line_rule = option_rule (codes "line")
 
 -- the command `draw`: a file, and this option
 abbrev pub draw_app : App
@@ -103,14 +112,14 @@ draw_app = with_rule (file_app (codes "draw")) line_rule
 
 -- the options of `lisp`, each with a value, beside that of a heap that grows
 abbrev pub heap_rule : Rule
-heap_rule = record (new_rule (codes "heap")) { long = Some (codes "heap"); value_names = 1 }
+heap_rule = option_rule (codes "heap")
 
 abbrev pub steps_rule : Rule
-steps_rule = record (new_rule (codes "steps")) { long = Some (codes "steps"); value_names = 1 }
+steps_rule = option_rule (codes "steps")
 
 -- its file, without which a session is held
 abbrev pub program_rule : Rule
-program_rule = new_rule (codes "FILE")
+program_rule = word_rule (codes "FILE") false
 
 -- the command `lisp` with its file and the words of a heap that keeps them
 abbrev pub sized_app : App
@@ -130,7 +139,7 @@ shell_app = new_app (codes "shell")
 
 -- the shell of `completions`, which is required
 abbrev pub shell_rule : Rule
-shell_rule = record (new_rule (codes "SHELL")) { required = true }
+shell_rule = word_rule (codes "SHELL") true
 
 -- the command `completions`: a shell, and no file
 abbrev pub completions_app : App

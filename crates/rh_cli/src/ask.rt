@@ -4,7 +4,7 @@ use rh_lisp_run::Limits;
 use rh_viewed_trace::Telling;
 
 /// A shell that completes command lines.
-#[derive(Clone, Copy, Debug, PartialEq, Eq)]
+#[derive(Clone, Copy, PartialEq, Eq)]
 pub enum Shell {
     /// `bash`.
     Bash,
@@ -15,7 +15,7 @@ pub enum Shell {
 }
 
 /// How what is done is viewed.
-#[derive(Clone, Copy, Debug, PartialEq, Eq)]
+#[derive(Clone, Copy, PartialEq, Eq)]
 pub struct Views<'a> {
     /// How it is told on standard output.
     pub telling: Telling,
@@ -43,7 +43,7 @@ impl<'a> Views<'a> {
 }
 
 /// What is to be done with the file.
-#[derive(Clone, Copy, Debug, PartialEq, Eq)]
+#[derive(Clone, Copy, PartialEq, Eq)]
 pub enum Subcommand {
     /// Run the trace in it.
     Run,
@@ -96,7 +96,7 @@ pub enum Subcommand {
 }
 
 /// A command line that was understood.
-#[derive(Clone, Copy, Debug, PartialEq, Eq)]
+#[derive(Clone, Copy, PartialEq, Eq)]
 pub struct Ask<'a> {
     /// What is to be done.
     pub subcommand: Subcommand,

@@ -7,8 +7,9 @@ ghost use Rattle.rh_cli.specs.Ask.{grown_app, replay_app, told_app, completions_
 
 use crate::help;
 use crate::lisp_arguments::lisp_command;
+use crate::options::{with_flag, with_option, with_word};
 use crate::version::VERSION;
-use clap::{Arg, ArgAction, Command};
+use clap::Command;
 use std::alloc::{AllocError, Global};
 
 /// What the flag does that asks for JSON.
@@ -44,18 +45,22 @@ fn run_command<'a>(alloc: Global, word: &str) -> Result<Command<'a>, AllocError>
     if !has_options(word, "run") {
         return Ok(named_command(alloc, "run", about));
     }
-    let cycles = Arg::new(alloc, "cycles")
-        .long("cycles")
-        .value_name("OUT")
-        .help("Writes a line for each cycle to the file OUT; - is standard output");
-    let history = Arg::new(alloc, "history")
-        .long("history")
-        .value_name("OUT")
-        .help("Writes the history of the commands to the file OUT; - is standard output");
-    told_command(
+    let grown = grown_command(alloc, about)?;
+    let cycling = with_option(
         alloc,
-        grown_command(alloc, about)?.arg(cycles)?.arg(history)?,
-    )
+        grown,
+        "cycles",
+        "OUT",
+        "Writes a line for each cycle to the file OUT; - is standard output",
+    )?;
+    let viewed = with_option(
+        alloc,
+        cycling,
+        "history",
+        "OUT",
+        "Writes the history of the commands to the file OUT; - is standard output",
+    )?;
+    told_command(alloc, viewed)
 }
 
 /// A command with the flags that say how it is told on standard output, as clap knows it.
@@ -64,15 +69,13 @@ fn told_command<'a>(alloc: Global, command: Command<'a>) -> Result<Command<'a>, 
     ensures local { (fields_of command.entry).has_globals ≡ false
         → IfOk result (λ told. (fields_of told).has_globals ≡ false) }
 {
-    let echo = Arg::new(alloc, "echo")
-        .long("echo")
-        .action(ArgAction::SetTrue)
-        .help("Prints each line's number, its text and its answer, with tabs between");
-    let json = Arg::new(alloc, "json")
-        .long("json")
-        .action(ArgAction::SetTrue)
-        .help(JSON_HELP);
-    command.arg(echo)?.arg(json)
+    let echoing = with_flag(
+        alloc,
+        command,
+        "echo",
+        "Prints each line's number, its text and its answer, with tabs between",
+    )?;
+    with_flag(alloc, echoing, "json", JSON_HELP)
 }
 
 /// The command `run` with its options but those that view a run, as clap knows it.
@@ -80,10 +83,14 @@ fn grown_command<'a>(alloc: Global, about: &'a str) -> Result<Command<'a>, Alloc
     ensures app { IfOk result (λ command. app_of command ≡ grown_app) }
     ensures local { IfOk result (λ command. (fields_of command).has_globals ≡ false) }
 {
-    let grow = Arg::new(alloc, "grow").long("grow").value_name("N").help(
+    let marked = marked_command(alloc, about)?;
+    with_option(
+        alloc,
+        marked,
+        "grow",
+        "N",
         "With --paced, without --mark: each of its spaces grows to at most N words",
-    );
-    marked_command(alloc, about)?.arg(grow)
+    )
 }
 
 /// The command `run` with the options of a heap that doesn't grow, as clap knows it.
@@ -91,16 +98,20 @@ fn marked_command<'a>(alloc: Global, about: &'a str) -> Result<Command<'a>, Allo
     ensures app { IfOk result (λ command. app_of command ≡ marked_app) }
     ensures local { IfOk result (λ command. (fields_of command).has_globals ≡ false) }
 {
-    let paced = Arg::new(alloc, "paced")
-        .long("paced")
-        .action(ArgAction::SetTrue)
-        .help("Runs a trace of commands alone, on a heap that collects by itself");
-    let mark = Arg::new(alloc, "mark").long("mark").value_name("N").help(
+    let plain = file_command(alloc, "run", about, help::run())?;
+    let paced = with_flag(
+        alloc,
+        plain,
+        "paced",
+        "Runs a trace of commands alone, on a heap that collects by itself",
+    )?;
+    with_option(
+        alloc,
+        paced,
+        "mark",
+        "N",
         "With --paced: a cycle begins where fewer than N words are free",
-    );
-    file_command(alloc, "run", about, help::RUN)?
-        .arg(paced)?
-        .arg(mark)
+    )
 }
 
 /// The command `threads` as clap knows it, where the word is the first.
@@ -113,16 +124,21 @@ fn threads_command<'a>(alloc: Global, word: &str) -> Result<Command<'a>, AllocEr
     if !has_options(word, "threads") {
         return Ok(named_command(alloc, "threads", about));
     }
-    let replicators = Arg::new(alloc, "replicators")
-        .long("replicators")
-        .value_name("N")
-        .help("The replicators, in threads of their own: 0 to 8, 2 where it isn't said");
-    let idle = Arg::new(alloc, "idle").long("idle").value_name("N").help(
+    let plain = file_command(alloc, "threads", about, help::threads())?;
+    let replicating = with_option(
+        alloc,
+        plain,
+        "replicators",
+        "N",
+        "The replicators, in threads of their own: 0 to 8, 2 where it isn't said",
+    )?;
+    with_option(
+        alloc,
+        replicating,
+        "idle",
+        "N",
         "The idle words of an increment in a cycle: 0 to 65535, 0 if it isn't said",
-    );
-    file_command(alloc, "threads", about, help::THREADS)?
-        .arg(replicators)?
-        .arg(idle)
+    )
 }
 
 /// The command `replay` as clap knows it, where the word is the first.
@@ -135,7 +151,8 @@ fn replay_command<'a>(alloc: Global, word: &str) -> Result<Command<'a>, AllocErr
     if !has_options(word, "replay") {
         return Ok(named_command(alloc, "replay", about));
     }
-    told_command(alloc, file_command(alloc, "replay", about, help::REPLAY)?)
+    let plain = file_command(alloc, "replay", about, help::replay())?;
+    told_command(alloc, plain)
 }
 
 /// The command `dump` as clap knows it, where the word is the first.
@@ -148,17 +165,14 @@ fn dump_command<'a>(alloc: Global, word: &str) -> Result<Command<'a>, AllocError
     if !has_options(word, "dump") {
         return Ok(named_command(alloc, "dump", about));
     }
-    let dot = Arg::new(alloc, "dot")
-        .long("dot")
-        .action(ArgAction::SetTrue)
-        .help("Prints its graph instead, as a text for Graphviz");
-    let json = Arg::new(alloc, "json")
-        .long("json")
-        .action(ArgAction::SetTrue)
-        .help(JSON_HELP);
-    file_command(alloc, "dump", about, help::DUMP)?
-        .arg(dot)?
-        .arg(json)
+    let plain = file_command(alloc, "dump", about, help::dump())?;
+    let graphing = with_flag(
+        alloc,
+        plain,
+        "dot",
+        "Prints its graph instead, as a text for Graphviz",
+    )?;
+    with_flag(alloc, graphing, "json", JSON_HELP)
 }
 
 /// The command `draw` as clap knows it, where the word is the first.
@@ -171,10 +185,14 @@ fn draw_command<'a>(alloc: Global, word: &str) -> Result<Command<'a>, AllocError
     if !has_options(word, "draw") {
         return Ok(named_command(alloc, "draw", about));
     }
-    let line = Arg::new(alloc, "line").long("line").value_name("N").help(
+    let plain = file_command(alloc, "draw", about, help::draw())?;
+    with_option(
+        alloc,
+        plain,
+        "line",
+        "N",
         "The line after which it is drawn, from 1; the last if it isn't said",
-    );
-    file_command(alloc, "draw", about, help::DRAW)?.arg(line)
+    )
 }
 
 /// The command `shell` as clap knows it.
@@ -182,9 +200,12 @@ fn shell_command<'a>(alloc: Global) -> Command<'a>
     ensures app { app_of result ≡ shell_app }
     ensures local { (fields_of result).has_globals ≡ false }
 {
-    Command::new(alloc, "shell")
-        .about("Answers the lines of a trace as they are typed, and draws the heap")
-        .after_help(help::SHELL)
+    helped_command(
+        alloc,
+        "shell",
+        "Answers the lines of a trace as they are typed, and draws the heap",
+        help::shell(),
+    )
 }
 
 /// The command `completions` as clap knows it, where the word is the first.
@@ -197,13 +218,8 @@ fn completions_command<'a>(alloc: Global, word: &str) -> Result<Command<'a>, All
     if !has_options(word, "completions") {
         return Ok(named_command(alloc, "completions", about));
     }
-    let shell = Arg::new(alloc, "SHELL")
-        .required(true)
-        .help("The shell: bash, zsh or fish");
-    Command::new(alloc, "completions")
-        .about(about)
-        .after_help(help::COMPLETIONS)
-        .arg(shell)
+    let plain = helped_command(alloc, "completions", about, help::completions());
+    with_word(alloc, plain, "SHELL", true, "The shell: bash, zsh or fish")
 }
 
 /// The command of this name without its options, as clap knows it.
@@ -212,6 +228,19 @@ pub(crate) fn named_command<'a>(alloc: Global, name: &'a str, about: &'a str) ->
     ensures local { (fields_of result).has_globals ≡ false }
 {
     Command::new(alloc, name).about(about)
+}
+
+/// That command with what its help ends with, as clap knows it.
+pub(crate) fn helped_command<'a>(
+    alloc: Global,
+    name: &'a str,
+    about: &'a str,
+    after_help: &'a str,
+) -> Command<'a>
+    ensures app { app_of result ≡ new_app name.entry.now }
+    ensures local { (fields_of result).has_globals ≡ false }
+{
+    named_command(alloc, name, about).after_help(after_help)
 }
 
 /// Whether the command of this name has its options, where the word is the first. It has them if
@@ -273,14 +302,15 @@ fn file_command<'a>(
     ensures app { IfOk result (λ command. app_of command ≡ file_app name.entry.now) }
     ensures local { IfOk result (λ command. (fields_of command).has_globals ≡ false) }
 {
-    let file = Arg::new(alloc, "FILE")
-        .required(true)
-        .help("The file to read; - is standard input");
-    let command = Command::new(alloc, name)
-        .about(about)
-        .after_help(after_help)
-        .arg(file)?;
-    explained_command(alloc, command)
+    let plain = helped_command(alloc, name, about, after_help);
+    let filed = with_word(
+        alloc,
+        plain,
+        "FILE",
+        true,
+        "The file to read; - is standard input",
+    )?;
+    explained_command(alloc, filed)
 }
 
 /// A command with the flag that asks for explanations, as clap knows it.
@@ -293,9 +323,10 @@ pub(crate) fn explained_command<'a>(
     ensures local { (fields_of command.entry).has_globals ≡ false
         → IfOk result (λ explained. (fields_of explained).has_globals ≡ false) }
 {
-    let explain = Arg::new(alloc, "explain")
-        .long("explain")
-        .action(ArgAction::SetTrue)
-        .help("Shows the part of a line that is wrong, and says what may stand there");
-    command.arg(explain)
+    with_flag(
+        alloc,
+        command,
+        "explain",
+        "Shows the part of a line that is wrong, and says what may stand there",
+    )
 }

@@ -116,6 +116,16 @@ where
     }
 }
 
+/// Tells the fault of what ended with one, and answers the status after it.
+pub(crate) fn tell_ending<E: Write>(ended: Result<Ending, LineFault>, err: &mut E) -> u8
+    ensures { result ≡ status_after ended }
+{
+    match ended {
+        Ok(ending) => ending.status(),
+        Err(fault) => tell(&fault, err),
+    }
+}
+
 /// Writes a fault's text, and answers its status. A fault that can't be told still has its status.
 pub fn tell<E: Write>(fault: &LineFault, err: &mut E) -> u8
     ensures { result ≡ status_of fault.now }

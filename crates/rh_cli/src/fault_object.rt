@@ -8,6 +8,7 @@ use crate::fault::LineFault;
 use rh_layout::OutOfMemory;
 use rh_viewed_trace::fault_json;
 use std::alloc::Allocator;
+use std::fmt::Display;
 use std::io::Write;
 
 /// The line and the name of the kind of a fault that has a line.
@@ -16,11 +17,21 @@ fn place_of<A: Allocator + Copy>(
     fault: &LineFault,
 ) -> Result<Option<(u32, String<A>)>, OutOfMemory> {
     match fault {
-        LineFault::Trace(fault) => Ok(Some((fault.line, format!(in alloc; "{}", fault.kind)?))),
-        LineFault::History(fault) => Ok(Some((fault.line, format!(in alloc; "{}", fault.kind)?))),
-        LineFault::Dump(fault) => Ok(Some((fault.line, format!(in alloc; "{}", fault.kind)?))),
+        LineFault::Trace(fault) => place(alloc, fault.line, &fault.kind),
+        LineFault::History(fault) => place(alloc, fault.line, &fault.kind),
+        LineFault::Dump(fault) => place(alloc, fault.line, &fault.kind),
         _ => Ok(None),
     }
+}
+
+/// The line of a fault and the name of its kind.
+fn place<A: Allocator + Copy, K: Display>(
+    alloc: A,
+    line: u32,
+    kind: &K,
+) -> Result<Option<(u32, String<A>)>, OutOfMemory> {
+    let name = format!(in alloc; "{kind}")?;
+    Ok(Some((line, name)))
 }
 
 /// The object of a fault: what its line says after the program's name, and its place.

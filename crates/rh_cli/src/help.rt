@@ -1,4 +1,45 @@
-//! What the help of each command ends with.
+//! What the help of each command ends with. A function lends each text, so that no proof writes it
+//! out.
+
+/// Lends what the help of `run` ends with.
+pub(crate) fn run<'a>() -> &'a str {
+    RUN
+}
+
+/// Lends what the help of `threads` ends with.
+pub(crate) fn threads<'a>() -> &'a str {
+    THREADS
+}
+
+/// Lends what the help of `replay` ends with.
+pub(crate) fn replay<'a>() -> &'a str {
+    REPLAY
+}
+
+/// Lends what the help of `dump` ends with.
+pub(crate) fn dump<'a>() -> &'a str {
+    DUMP
+}
+
+/// Lends what the help of `draw` ends with.
+pub(crate) fn draw<'a>() -> &'a str {
+    DRAW
+}
+
+/// Lends what the help of `shell` ends with.
+pub(crate) fn shell<'a>() -> &'a str {
+    SHELL
+}
+
+/// Lends what the help of `lisp` ends with.
+pub(crate) fn lisp<'a>() -> &'a str {
+    LISP
+}
+
+/// Lends what the help of `completions` ends with.
+pub(crate) fn completions<'a>() -> &'a str {
+    COMPLETIONS
+}
 
 /// What the help of `run` ends with.
 pub const RUN: &str = "\

@@ -7,10 +7,11 @@ ghost use Rattle.rh_cli.specs.Ask.{bounded_app, command_for, heap_words, lisp_ap
 ghost use Rattle.rh_cli.specs.Fault.{IsArgumentsFault};
 
 use crate::ask::Subcommand;
-use crate::commands::{explained_command, has_options, named_command};
+use crate::commands::{explained_command, has_options, helped_command, named_command};
 use crate::fault::LineFault;
 use crate::help;
-use clap::{Arg, Command};
+use crate::options::{with_option, with_word};
+use clap::Command;
 use rh_layout::limits::MAX_SPACE_WORDS;
 use rh_lisp_run::{HeapWords, Limits, MOST_STEPS};
 use rh_text::read_number;
@@ -30,11 +31,9 @@ pub(crate) fn lisp_command<'a>(alloc: Global, word: &str) -> Result<Command<'a>,
     if !has_options(word, "lisp") {
         return Ok(named_command(alloc, "lisp", about));
     }
-    let cycles = Arg::new(alloc, "cycles")
-        .long("cycles")
-        .value_name("OUT")
-        .help(CYCLES_HELP);
-    explained_command(alloc, bounded_command(alloc, about)?.arg(cycles)?)
+    let bounded = bounded_command(alloc, about)?;
+    let cycling = with_option(alloc, bounded, "cycles", "OUT", CYCLES_HELP)?;
+    explained_command(alloc, cycling)
 }
 
 /// The command `lisp` with its file and what a program may take, as clap knows it.
@@ -42,14 +41,21 @@ fn bounded_command<'a>(alloc: Global, about: &'a str) -> Result<Command<'a>, All
     ensures app { IfOk result (λ command. app_of command ≡ bounded_app) }
     ensures local { IfOk result (λ command. (fields_of command).has_globals ≡ false) }
 {
-    let grow = Arg::new(alloc, "grow")
-        .long("grow")
-        .value_name("WORDS")
-        .help("Each of its spaces grows to at most so many words; 16777216 if it isn't said");
-    let steps = Arg::new(alloc, "steps").long("steps").value_name("N").help(
+    let sized = sized_command(alloc, about)?;
+    let growing = with_option(
+        alloc,
+        sized,
+        "grow",
+        "WORDS",
+        "Each of its spaces grows to at most so many words; 16777216 if it isn't said",
+    )?;
+    with_option(
+        alloc,
+        growing,
+        "steps",
+        "N",
         "The instructions that may be done, 0 to 4294967295; 2^64 - 1 without it",
-    );
-    sized_command(alloc, about)?.arg(grow)?.arg(steps)
+    )
 }
 
 /// The command `lisp` with its file and the words of a heap that keeps them, as clap knows it.
@@ -57,18 +63,21 @@ fn sized_command<'a>(alloc: Global, about: &'a str) -> Result<Command<'a>, Alloc
     ensures app { IfOk result (λ command. app_of command ≡ sized_app) }
     ensures local { IfOk result (λ command. (fields_of command).has_globals ≡ false) }
 {
-    let file = Arg::new(alloc, "FILE").help(
+    let plain = helped_command(alloc, "lisp", about, help::lisp());
+    let filed = with_word(
+        alloc,
+        plain,
+        "FILE",
+        false,
         "The file to read; - is standard input; a session without it",
-    );
-    let heap = Arg::new(alloc, "heap")
-        .long("heap")
-        .value_name("WORDS")
-        .help("Each of its spaces has so many words, and keeps them");
-    Command::new(alloc, "lisp")
-        .about(about)
-        .after_help(help::LISP)
-        .arg(file)?
-        .arg(heap)
+    )?;
+    with_option(
+        alloc,
+        filed,
+        "heap",
+        "WORDS",
+        "Each of its spaces has so many words, and keeps them",
+    )
 }
 
 /// The program or the session that is asked for: its heap of one size or its heap that grows, its

@@ -6,7 +6,7 @@ ghost use Rattle.rh_cli.specs.Fault.{IsLateStatus, IsUsualFault, status_after};
 ghost use Rattle.rh_cli.specs.Lisp.{ConcludesLispSession, IsLispSessionStatus};
 
 use crate::conversing::{Alone, Prompter};
-use crate::driving::tell;
+use crate::driving::tell_ending;
 use crate::ending::Ending;
 use crate::fault::LineFault;
 use crate::lisp::fault_of_lisp;
@@ -102,8 +102,6 @@ where
         prompts,
         explains,
     };
-    match play_entries(rt.alloc(), &mut reader, &mut out, limits, &mut console) {
-        Ok(ending) => Ok(ending.status()),
-        Err(fault) => Ok(tell(&fault, console.err)),
-    }
+    let played = play_entries(rt.alloc(), &mut reader, &mut out, limits, &mut console);
+    Ok(tell_ending(played, console.err))
 }

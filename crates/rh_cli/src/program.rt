@@ -12,7 +12,7 @@ ghost use Rattle.rh_cli.specs.declared.ask.Ask.{Ask as AskOf};
 use crate::arguments::read_words;
 use crate::ask::{Ask, Subcommand};
 use crate::conversing::{Prompter, converse};
-use crate::driving::{drive, show, tell};
+use crate::driving::{drive, show, tell, tell_ending};
 use crate::explaining::drive_explained;
 use crate::fault::LineFault;
 use crate::keeping::KeptReader;
@@ -34,7 +34,7 @@ use std::thread::Threads;
 const OUTPUT_BYTES: usize = 65_536;
 
 /// What of the program is a terminal.
-#[derive(Clone, Copy, Debug, PartialEq, Eq)]
+#[derive(Clone, Copy)]
 pub struct Terminals {
     /// Standard input. A session shows a prompt then.
     pub input: bool,
@@ -106,10 +106,9 @@ fn fault_of_reading(error: &io::Error) -> LineFault
     ensures no_text { error_kind error.now ≢ ErrorKind.OutOfMemory → result ≡ LineFault.NoText }
     ensures kinds { (result ≡ LineFault.NoText) ⊎ (result ≡ LineFault.OutOfMemory) }
 {
-    if error.kind() == ErrorKind::OutOfMemory {
-        LineFault::OutOfMemory
-    } else {
-        LineFault::NoText
+    match error.kind() {
+        ErrorKind::OutOfMemory => LineFault::OutOfMemory,
+        _ => LineFault::NoText,
     }
 }
 
@@ -279,10 +278,8 @@ where
         prompts,
         explains: false,
     };
-    match converse(rt.alloc(), &mut reader, &mut out, &mut host) {
-        Ok(ending) => Ok(ending.status()),
-        Err(fault) => Ok(tell(&fault, host.err)),
-    }
+    let held = converse(rt.alloc(), &mut reader, &mut out, &mut host);
+    Ok(tell_ending(held, host.err))
 }
 
 /// Carries out a request that is viewed, and answers its status. What went wrong is told as the
@@ -341,15 +338,34 @@ where
     ensures late { IfOk result (λ status. IsLateStatus status) }
     ensures early { IfErr result (λ fault. IsUsualFault fault) }
 {
-    let (out, history, mut cycles) = outputs_of(rt, &ask.views)?;
-    let mut out = gathering(rt.alloc(), out)?;
-    let mut history = gathering(rt.alloc(), history)?;
     let mut kept = kept_if(rt.alloc(), reader, explains);
+    with_kept(rt, threads, ask, &mut kept, err, explains)
+}
+
+/// Carries out a request that is viewed, with the reader that it is lent.
+fn with_kept<R, T, I, E>(
+    rt: &R,
+    threads: &T,
+    ask: &Ask<'_>,
+    kept: &mut KeptReader<I, Global>,
+    err: &mut E,
+    explains: bool,
+) -> Result<u8, LineFault>
+where
+    R: Files + Print + AllocGlobal,
+    T: Threads + Wait + Sync,
+    I: Read,
+    E: Write,
+    ensures late { IfOk result (λ status. IsLateStatus status) }
+    ensures early { IfErr result (λ fault. IsUsualFault fault) }
+{
+    let (out, history, mut cycles) = outputs_of(rt, &ask.views)?;
+    let (mut out, mut history) = gathering_both(rt.alloc(), out, history)?;
     Ok(drive_viewed(
         threads,
         rt.alloc(),
         ask,
-        &mut kept,
+        kept,
         &mut out,
         &mut history,
         &mut cycles,
@@ -382,6 +398,19 @@ pub(crate) fn gathering<W: Write + Drop>(
         Ok(out) => Ok(out),
         Err(_) => Err(LineFault::OutOfMemory),
     }
+}
+
+/// Both writers, gathering so.
+fn gathering_both<W: Write + Drop>(
+    alloc: Global,
+    one: W,
+    other: W,
+) -> Result<(BufWriter<W>, BufWriter<W>), LineFault>
+    ensures { IfErr result (λ fault. fault ≡ LineFault.OutOfMemory) }
+{
+    let one = gathering(alloc, one)?;
+    let other = gathering(alloc, other)?;
+    Ok((one, other))
 }
 
 /// The file of this name, to read it.

@@ -1,12 +1,20 @@
-use Rattle.std.proofs.Common.{rules, ap₂, ◌≡◌, ◌∙◌, codes, true}
-use Rattle.std.proofs.lemmas.Result.{IfOk-weaker}
-use Rattle.clap.specs.Words.{rule_of, with_rule}
-use Rattle.rh_cli.specs.Ask.{draw_app, has_options, line_rule}
-use Rattle.rh_cli.proofs.Wholes.{whole-command_for}
+use Rattle.std.proofs.Common.{◌∙◌, ap, codes, sym}
+use Rattle.clap.specs.Words.{App, with_rule}
+use Rattle.rh_cli.specs.Ask.{draw_app, line_rule}
+use Rattle.rh_cli.proofs.Added.{app-as}
+use Rattle.rh_cli.proofs.Wholes.{bare-command_for, whole-command_for}
 use Rattle.rh_cli.proofs.commands.draw_command.Goals as goal
+
+pub returns-then-not-has_options-clause-app : goal.returns-then-not-has_options-clause-app
+returns-then-not-has_options-clause-app c =
+    c.named_command.ensures.app ∙ bare-command_for c.args.word.now (codes "draw") draw_app (sym c.has_options.ensures ∙ c.if-not-has_options.true)
+
+pub returns-then-not-has_options-clause-local : goal.returns-then-not-has_options-clause-local
+returns-then-not-has_options-clause-local c = c.named_command.ensures.local
 
 pub returns-clause-app : goal.returns-clause-app
 returns-clause-app c =
-    let line_is : rule_of c.help-line.result ≡ line_rule = search rules in
-    let has : has_options c.args.word.now (codes "draw") ≡ true = search rules in
-    IfOk-weaker c.arg.result _ _ (λ r added. added.shape (search rules) ∙ ap₂ with_rule c.in_ok-file_command.ensures.app line_is ∙ whole-command_for c.args.word.now (codes "draw") draw_app has) c.arg.ensures
+    app-as c.with_option.result _ _ c.with_option.ensures.app (ap (λ (app : App). with_rule app line_rule) c.in_ok-plain.ensures.app ∙ whole-command_for c.args.word.now (codes "draw") draw_app (sym c.has_options.ensures ∙ c.if-not-has_options.false))
+
+pub returns-clause-local : goal.returns-clause-local
+returns-clause-local c = c.with_option.ensures.local c.in_ok-plain.ensures.local

@@ -1,10 +1,12 @@
-use Rattle.std.proofs.Common.{rules, ap₂, ◌≡◌, ◌∙◌}
-use Rattle.std.proofs.lemmas.Result.{IfOk-weaker}
-use Rattle.clap.specs.Words.{rule_of, with_rule}
+use Rattle.std.proofs.Common.{◌∙◌, ap}
+use Rattle.clap.specs.Words.{App, with_rule}
 use Rattle.rh_cli.specs.Ask.{grow_rule}
+use Rattle.rh_cli.proofs.Added.{app-as}
 use Rattle.rh_cli.proofs.commands.grown_command.Goals as goal
 
 pub returns-clause-app : goal.returns-clause-app
 returns-clause-app c =
-    let grow_is : rule_of c.help-grow.result ≡ grow_rule = search rules in
-    IfOk-weaker c.arg.result _ _ (λ r added. added.shape (search rules) ∙ ap₂ with_rule c.in_ok-marked_command.ensures.app grow_is) c.arg.ensures
+    app-as c.with_option.result _ _ c.with_option.ensures.app (ap (λ (app : App). with_rule app grow_rule) c.in_ok-marked.ensures.app)
+
+pub returns-clause-local : goal.returns-clause-local
+returns-clause-local c = c.with_option.ensures.local c.in_ok-marked.ensures.local

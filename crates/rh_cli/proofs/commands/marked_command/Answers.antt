@@ -1,13 +1,12 @@
-use Rattle.std.proofs.Common.{rules, ap₂, ◌≡◌, ◌∙◌, codes}
-use Rattle.std.proofs.lemmas.Result.{IfOk-weaker}
-use Rattle.clap.specs.Words.{app_of, rule_of, with_rule}
-use Rattle.rh_cli.specs.Ask.{file_app, paced_rule, mark_rule}
+use Rattle.std.proofs.Common.{◌∙◌, ap}
+use Rattle.clap.specs.Words.{App, with_rule}
+use Rattle.rh_cli.specs.Ask.{mark_rule, paced_rule}
+use Rattle.rh_cli.proofs.Added.{app-as}
 use Rattle.rh_cli.proofs.commands.marked_command.Goals as goal
 
 pub returns-clause-app : goal.returns-clause-app
 returns-clause-app c =
-    let paced_is : rule_of c.help-paced.result ≡ paced_rule = search rules in
-    let mark_is : rule_of c.help-mark.result ≡ mark_rule = search rules in
-    let with_paced : app_of c.in_ok-arg.field-0 ≡ with_rule (file_app (codes "run")) paced_rule =
-    c.in_ok-arg.ensures.shape (search rules) ∙ ap₂ with_rule c.in_ok-file_command.ensures.app paced_is in
-    IfOk-weaker c.arg-2.result _ _ (λ r added. added.shape (search rules) ∙ ap₂ with_rule with_paced mark_is) c.arg-2.ensures
+    app-as c.with_option.result _ _ c.with_option.ensures.app (ap (λ (app : App). with_rule app mark_rule) (c.in_ok-paced.ensures.app ∙ ap (λ (app : App). with_rule app paced_rule) (c.in_ok-plain.ensures.app)))
+
+pub returns-clause-local : goal.returns-clause-local
+returns-clause-local c = c.with_option.ensures.local (c.in_ok-paced.ensures.local c.in_ok-plain.ensures.local)

@@ -1,6 +1,7 @@
-use Rattle.std.proofs.Common.{ap, ◌∙◌}
-use Rattle.clap.specs.Simple.{app_of_fields}
 use Rattle.rh_cli.proofs.commands.shell_command.Goals as goal
 
 pub returns-clause-app : goal.returns-clause-app
-returns-clause-app c = ap app_of_fields c.after_help.ensures ∙ ap app_of_fields c.about.ensures ∙ c.new.ensures.app
+returns-clause-app c = c.helped_command.ensures.app
+
+pub returns-clause-local : goal.returns-clause-local
+returns-clause-local c = c.helped_command.ensures.local

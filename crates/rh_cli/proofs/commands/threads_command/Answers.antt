@@ -1,15 +1,20 @@
-use Rattle.std.proofs.Common.{rules, ap₂, ◌≡◌, ◌∙◌, codes, true}
-use Rattle.std.proofs.lemmas.Result.{IfOk-weaker}
-use Rattle.clap.specs.Words.{app_of, rule_of, with_rule}
-use Rattle.rh_cli.specs.Ask.{file_app, has_options, idle_rule, replicators_rule, threads_app}
-use Rattle.rh_cli.proofs.Wholes.{whole-command_for}
+use Rattle.std.proofs.Common.{◌∙◌, ap, codes, sym}
+use Rattle.clap.specs.Words.{App, with_rule}
+use Rattle.rh_cli.specs.Ask.{idle_rule, replicators_rule, threads_app}
+use Rattle.rh_cli.proofs.Added.{app-as}
+use Rattle.rh_cli.proofs.Wholes.{bare-command_for, whole-command_for}
 use Rattle.rh_cli.proofs.commands.threads_command.Goals as goal
+
+pub returns-then-not-has_options-clause-app : goal.returns-then-not-has_options-clause-app
+returns-then-not-has_options-clause-app c =
+    c.named_command.ensures.app ∙ bare-command_for c.args.word.now (codes "threads") threads_app (sym c.has_options.ensures ∙ c.if-not-has_options.true)
+
+pub returns-then-not-has_options-clause-local : goal.returns-then-not-has_options-clause-local
+returns-then-not-has_options-clause-local c = c.named_command.ensures.local
 
 pub returns-clause-app : goal.returns-clause-app
 returns-clause-app c =
-    let replicators_is : rule_of c.help-replicators.result ≡ replicators_rule = search rules in
-    let idle_is : rule_of c.help-idle.result ≡ idle_rule = search rules in
-    let with_replicators : app_of c.in_ok-arg.field-0 ≡ with_rule (file_app (codes "threads")) replicators_rule =
-    c.in_ok-arg.ensures.shape (search rules) ∙ ap₂ with_rule c.in_ok-file_command.ensures.app replicators_is in
-    let has : has_options c.args.word.now (codes "threads") ≡ true = search rules in
-    IfOk-weaker c.arg-2.result _ _ (λ r added. added.shape (search rules) ∙ ap₂ with_rule with_replicators idle_is ∙ whole-command_for c.args.word.now (codes "threads") threads_app has) c.arg-2.ensures
+    app-as c.with_option-2.result _ _ c.with_option-2.ensures.app (ap (λ (app : App). with_rule app idle_rule) (c.in_ok-replicating.ensures.app ∙ ap (λ (app : App). with_rule app replicators_rule) (c.in_ok-plain.ensures.app)) ∙ whole-command_for c.args.word.now (codes "threads") threads_app (sym c.has_options.ensures ∙ c.if-not-has_options.false))
+
+pub returns-clause-local : goal.returns-clause-local
+returns-clause-local c = c.with_option-2.ensures.local (c.in_ok-replicating.ensures.local c.in_ok-plain.ensures.local)
