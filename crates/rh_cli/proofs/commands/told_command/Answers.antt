@@ -1,4 +1,4 @@
-use Rattle.std.proofs.Common.{◌∙◌, ap}
+use Rattle.std.proofs.Common.{ap}
 use Rattle.clap.specs.Words.{App, with_rule}
 use Rattle.rh_cli.specs.Ask.{json_rule}
 use Rattle.rh_cli.proofs.Added.{app-as}
