@@ -10,7 +10,12 @@ pub const TWO_FLIPS_ANSWERS: &[u8] =
     b"object 2\nobject 2\nobject 2\nobject 2\nobject 2\nobject 2\nobject 2\nobject 2\n\
         object 2\nobject 2\nobject 2\ntotal commands 11 refused 0 flips 2 rootwords 2\n";
 
+/// How often a byte stands in a text.
+pub fn count_of(text: &[u8], wanted: u8) -> usize {
+    text.iter().filter(|byte| **byte == wanted).count()
+}
+
 /// How many lines of a text have ended.
 pub fn ended_lines(text: &[u8]) -> usize {
-    text.iter().filter(|byte| **byte == b'\n').count()
+    count_of(text, b'\n')
 }

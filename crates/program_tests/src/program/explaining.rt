@@ -658,6 +658,25 @@ const DUMPS: &[(Ask<'static>, &[u8], &[u8])] = &[
     ),
 ];
 
+/// Does what is asked with an input, and answers the status. No test needs what `drive_explained`
+/// promises beside it.
+fn status_of_explained<R, A, I>(
+    rt: &R,
+    memory: A,
+    ask: &Ask<'_>,
+    input: I,
+    out: &mut Vec<u8>,
+    err: &mut Vec<u8>,
+) -> u8
+where
+    R: Threads + Wait + Sync,
+    A: Allocator + Copy + Send,
+    I: Read + Drop,
+{
+    let mut reader = KeptReader::new(memory, input);
+    drive_explained(rt, memory, ask, &mut reader, out, err)
+}
+
 /// Does what is asked with an input, and answers the status, what was written, and what was told.
 fn explained<R, A, I>(rt: &R, memory: A, ask: &Ask<'_>, input: I) -> (u8, Vec<u8>, Vec<u8>)
 where
@@ -665,10 +684,9 @@ where
     A: Allocator + Copy + Send,
     I: Read + Drop,
 {
-    let mut reader = KeptReader::new(memory, input);
     let mut out = Vec::new(rt.alloc());
     let mut err = Vec::new(rt.alloc());
-    let status = drive_explained(rt, memory, ask, &mut reader, &mut out, &mut err);
+    let status = status_of_explained(rt, memory, ask, input, &mut out, &mut err);
     (status, out, err)
 }
 

@@ -2,7 +2,7 @@
 
 use crate::expectations::{Row, expect_bytes, expect_equal, expect_prefix};
 use crate::program::command_line::played;
-use crate::program::driving::status_of;
+use crate::program::driving::{drives_to, status_of};
 use refusing::RefusingAllocator;
 use rh_cli::{Ask, HeapWords, KeptReader, Limits, PLAIN, Subcommand, Terminals, drive_lisp};
 use samples::devices::{Broken, SlowReader, SlowWriter, Unflushed};
@@ -127,6 +127,23 @@ const PROGRAMS: &[(Limits, &[u8], u8, &[u8], &[u8])] = &[
     ),
 ];
 
+/// Runs a program, and answers the status. No test needs what `drive_lisp` promises beside it.
+fn status_of_program<A, I, O, E>(
+    alloc: A,
+    limits: Limits,
+    mut reader: KeptReader<I, A>,
+    out: &mut O,
+    err: &mut E,
+) -> u8
+where
+    A: Allocator + Copy,
+    I: Read + Drop,
+    O: Write,
+    E: Write,
+{
+    drive_lisp(alloc, "p", limits, &mut reader, out, err)
+}
+
 /// Runs a program, and expects this status and what is told.
 fn expect_told<R: AllocGlobal + Abort, I: Read, W: Write>(
     rt: &R,
@@ -136,8 +153,8 @@ fn expect_told<R: AllocGlobal + Abort, I: Read, W: Write>(
     (status, told): (u8, &[u8]),
 ) {
     let mut err = Vec::new(rt.alloc());
-    let mut passing = KeptReader::passing(rt.alloc(), reader);
-    let ended = drive_lisp(rt.alloc(), "p", limits, &mut passing, out, &mut err);
+    let kept = KeptReader::passing(rt.alloc(), reader);
+    let ended = status_of_program(rt.alloc(), limits, kept, out, &mut err);
     expect_equal(rt, ended, status);
     expect_bytes(rt, &err, told);
 }
@@ -156,11 +173,16 @@ fn expect_printed<R: AllocGlobal + Abort>(
     expect_equal(rt, out.writes <= 1, true);
 }
 
+/// Runs each of these programs, and expects what its row says.
+fn expect_programs<R: AllocGlobal + Abort>(rt: &R, programs: &[(Limits, &[u8], u8, &[u8], &[u8])]) {
+    for (row, &(limits, text, status, printed, told)) in programs.iter().enumerate() {
+        expect_printed(&Row { rt, row }, limits, text, printed, (status, told));
+    }
+}
+
 #[test]
 fn programs_print_and_end_as_their_rows_say(rt: HostRuntime) {
-    for (row, &(limits, text, status, printed, told)) in PROGRAMS.iter().enumerate() {
-        expect_printed(&Row { rt: &rt, row }, limits, text, printed, (status, told));
-    }
+    expect_programs(&rt, PROGRAMS);
 }
 
 /// Programs that stop, or are none, and what is told where it is shown.
@@ -175,16 +197,20 @@ const EXPLAINED: &[(&[u8], &[u8])] = &[
     ),
 ];
 
+/// Runs a program that stops, or is none, and expects that its form there is shown.
+fn expect_shown<R: AllocGlobal + Abort>(rt: &R, text: &[u8], told: &[u8]) {
+    let kept = KeptReader::new(rt.alloc(), text);
+    let mut out: Vec<u8> = Vec::new(rt.alloc());
+    let mut err = Vec::new(rt.alloc());
+    let ended = status_of_program(rt.alloc(), AMPLE, kept, &mut out, &mut err);
+    expect_equal(rt, ended, 1);
+    expect_bytes(rt, &err, told);
+}
+
 #[test]
 fn the_form_at_which_a_program_stops_is_shown(rt: HostRuntime) {
     for (row, &(text, told)) in EXPLAINED.iter().enumerate() {
-        let rt = Row { rt: &rt, row };
-        let mut reader = KeptReader::new(rt.alloc(), text);
-        let mut out: Vec<u8> = Vec::new(rt.alloc());
-        let mut err = Vec::new(rt.alloc());
-        let ended = drive_lisp(rt.alloc(), "p", AMPLE, &mut reader, &mut out, &mut err);
-        expect_equal(&rt, ended, 1);
-        expect_bytes(&rt, &err, told);
+        expect_shown(&Row { rt: &rt, row }, text, told);
     }
 }
 
@@ -209,14 +235,7 @@ fn a_program_without_a_file_is_told_without_its_place(rt: HostRuntime) {
         views: PLAIN,
     };
     for (row, &(text, status, printed, told)) in ALONE.iter().enumerate() {
-        let rt = Row { rt: &rt, row };
-        let mut reader = text;
-        let mut out = Vec::new(rt.alloc());
-        let mut err = Vec::new(rt.alloc());
-        let ended = status_of(rt.rt, rt.alloc(), &ask, &mut reader, &mut out, &mut err);
-        expect_equal(&rt, ended, status);
-        expect_bytes(&rt, &out, printed);
-        expect_bytes(&rt, &err, told);
+        drives_to(&Row { rt: &rt, row }, &ask, text, status, printed, told);
     }
 }
 
@@ -257,15 +276,8 @@ fn a_failed_write_of_a_program_is_told(rt: HostRuntime) {
 
 #[test]
 fn a_program_ends_where_nothing_can_be_told(rt: HostRuntime) {
-    let mut reader = KeptReader::new(rt.alloc(), PRINTS);
-    let ended = drive_lisp(
-        rt.alloc(),
-        "p",
-        AMPLE,
-        &mut reader,
-        &mut Broken,
-        &mut Broken,
-    );
+    let kept = KeptReader::new(rt.alloc(), PRINTS);
+    let ended = status_of_program(rt.alloc(), AMPLE, kept, &mut Broken, &mut Broken);
     expect_equal(&rt, ended, 1);
 }
 
@@ -275,8 +287,8 @@ fn is_refused<A: Allocator + Copy>(rt: &(impl AllocGlobal + Abort), alloc: A, nt
     let memory = RefusingAllocator::new(alloc, nth);
     let mut out = Vec::new(rt.alloc());
     let mut err = Vec::new(rt.alloc());
-    let mut reader = KeptReader::passing(&memory, STOPS);
-    let ended = drive_lisp(&memory, "p", SMALL, &mut reader, &mut out, &mut err);
+    let kept = KeptReader::passing(&memory, STOPS);
+    let ended = status_of_program(&memory, SMALL, kept, &mut out, &mut err);
     let is_refused = memory.has_refused();
     expect_stopped(rt, is_refused, ended, &out, &err);
     is_refused
@@ -435,11 +447,20 @@ fn expect_session(
     expect_bytes(test, &told, due);
 }
 
+/// Holds each of these sessions, and expects what its row says.
+fn expect_sessions(
+    test: &(impl Abort + Threads + Wait + Sync),
+    rt: &HostRuntime,
+    sessions: &[(&[&[u8]], &[u8], u8, &[u8], &[u8])],
+) {
+    for (row, session) in sessions.iter().enumerate() {
+        expect_session(&Row { rt: test, row }, rt, false, session);
+    }
+}
+
 #[test]
 fn sessions_print_and_tell_as_their_rows_say(rt: HostRuntime) {
-    for (row, session) in SESSIONS.iter().enumerate() {
-        expect_session(&Row { rt: &rt, row }, &rt, false, session);
-    }
+    expect_sessions(&rt, &rt, SESSIONS);
 }
 
 #[test]
@@ -543,16 +564,21 @@ where
     let mut err = Vec::new(rt.alloc());
     let ended = status_of(rt, &memory, &SESSION, &mut reader, &mut out, &mut err);
     let is_refused = memory.has_refused();
+    expect_session_ended(rt, is_refused, ended, &err);
+    expect_prefix(rt, printed, &out);
+    expect_equal(rt, is_refused || out.len() == printed.len(), true);
+    is_refused
+}
+
+/// Expects that a session ended so, and told this.
+fn expect_session_ended(rt: &impl Abort, is_refused: bool, ended: u8, err: &[u8]) {
     let (status, told): (u8, &[u8]) = if is_refused {
         (3, b"rheap: out of memory\n")
     } else {
         (0, b"")
     };
     expect_equal(rt, ended, status);
-    expect_bytes(rt, &err, told);
-    expect_prefix(rt, printed, &out);
-    expect_equal(rt, is_refused || out.len() == printed.len(), true);
-    is_refused
+    expect_bytes(rt, err, told);
 }
 
 #[test]

@@ -1,7 +1,7 @@
 //! The cycles of programs of the small Scheme, as they are written.
 
 use crate::expectations::{Row, ample, expect_bytes, expect_equal, expect_prefix};
-use crate::texts::ended_lines;
+use crate::texts::{count_of, ended_lines};
 use refusing::RefusingAllocator;
 use rh_cli::{HeapWords, KeptReader, Limits, drive_lisp_with_cycles};
 use samples::devices::{Broken, SlowWriter, Unflushed};
@@ -19,6 +19,25 @@ const SMALL: &[HeapWords] = &[HeapWords::Just(3_200), HeapWords::UpTo(8_618)];
 /// What makes 2,000 pairs, none of which it keeps.
 const MAKES: &[u8] =
     b"(define (make n) (if (= n 0) 'done (begin (cons n n) (make (- n 1)))))\n(display (make 2000))";
+
+/// Runs a program with its cycles, and answers the status. No test needs what
+/// `drive_lisp_with_cycles` promises beside it.
+fn status_of_program<A, C>(
+    memory: A,
+    limits: Limits,
+    text: &[u8],
+    cycles: C,
+    out: &mut Vec<u8>,
+    err: &mut Vec<u8>,
+) -> u8
+where
+    A: Allocator + Copy,
+    C: Write + Drop,
+{
+    let mut reader = KeptReader::passing(memory, text);
+    let (_, ended) = drive_lisp_with_cycles(memory, "p", limits, &mut reader, out, cycles, err);
+    ended
+}
 
 /// Runs a program with its cycles, and expects this status, what is printed and what is told.
 fn expect_run<R, A, C>(
@@ -40,16 +59,7 @@ where
     };
     let mut out = Vec::new(rt.alloc());
     let mut err = Vec::new(rt.alloc());
-    let mut reader = KeptReader::passing(memory, text);
-    let (_, ended) = drive_lisp_with_cycles(
-        memory,
-        "p",
-        limits,
-        &mut reader,
-        &mut out,
-        cycles,
-        &mut err,
-    );
+    let ended = status_of_program(memory, limits, text, cycles, &mut out, &mut err);
     expect_equal(rt, ended, status);
     expect_bytes(rt, &out, printed);
     expect_bytes(rt, &err, told);
@@ -83,6 +93,16 @@ fn expect_numbered<R: AllocGlobal + Abort>(rt: &R, cycles: &[u8]) {
     }
 }
 
+/// Expects the columns, and at least three lines of as many parts, with their numbers.
+fn expect_lines<R: AllocGlobal + Abort>(rt: &R, cycles: &[u8]) {
+    expect_prefix(rt, cycles, COLUMNS);
+    let lines = ended_lines(cycles);
+    // 2,000 pairs of 4 words each take 3,200 words twice.
+    assert!(rt; 3 < lines, "{lines} lines");
+    expect_equal(rt, count_of(cycles, b'\t'), lines.saturating_mul(18));
+    expect_numbered(rt, cycles);
+}
+
 #[test]
 fn each_cycle_of_a_program_has_a_line_of_all_columns(rt: HostRuntime) {
     for (row, &heap) in SMALL.iter().enumerate() {
@@ -90,13 +110,7 @@ fn each_cycle_of_a_program_has_a_line_of_all_columns(rt: HostRuntime) {
         let mut cycles: Vec<u8> = Vec::new(rt.alloc());
         let due: (u8, &[u8], &[u8]) = (0, b"done", b"");
         expect_run(&test, rt.alloc(), heap, MAKES, &mut cycles, due);
-        expect_prefix(&test, &cycles, COLUMNS);
-        let tabs = cycles.iter().filter(|byte| **byte == b'\t').count();
-        let lines = ended_lines(&cycles);
-        // 2,000 pairs of 4 words each take 3,200 words twice.
-        assert!(test; 3 < lines, "{lines} lines");
-        expect_equal(&test, tabs, lines.saturating_mul(18));
-        expect_numbered(&test, &cycles);
+        expect_lines(&test, &cycles);
     }
 }
 
@@ -111,16 +125,21 @@ fn a_line_of_a_cycle_that_is_lost_is_a_failed_write(rt: HostRuntime) {
     expect_prefix(&rt, &full.text, COLUMNS);
 }
 
+/// What is due where the nth allocation is refused: the status, what is printed and what is told.
+fn due_where_refused(nth: u64) -> (u8, &'static [u8], &'static [u8]) {
+    if nth == 0 {
+        (0, b"done", b"")
+    } else {
+        (3, b"", b"rheap: out of memory\n")
+    }
+}
+
 /// Runs the program while its nth allocation is refused. Answers how many were asked for, and
 /// whether the columns alone were written.
 fn asked_where_refused<R: AllocGlobal + Abort>(rt: &R, nth: u64) -> (u64, bool) {
     let memory = RefusingAllocator::new(rt.alloc(), nth);
     let mut cycles: Vec<u8> = Vec::new(rt.alloc());
-    let due: (u8, &[u8], &[u8]) = if nth == 0 {
-        (0, b"done", b"")
-    } else {
-        (3, b"", b"rheap: out of memory\n")
-    };
+    let due = due_where_refused(nth);
     expect_run(rt, &memory, HeapWords::Just(3_200), MAKES, &mut cycles, due);
     (memory.asked(), cycles.as_slice() == COLUMNS)
 }

@@ -254,27 +254,55 @@ struct Written {
     err: Vec<u8>,
 }
 
+/// Does what is asked with these four writers, and answers the status. No test needs what
+/// `drive_viewed` promises beside it.
+fn status_of_view<R, A>(
+    rt: &R,
+    memory: A,
+    ask: &Ask<'_>,
+    text: &[u8],
+    out: &mut Vec<u8>,
+    history: &mut Vec<u8>,
+    cycles: &mut Vec<u8>,
+    err: &mut Vec<u8>,
+) -> u8
+where
+    R: Threads + Wait + Sync,
+    A: Allocator + Copy + Send,
+{
+    let mut reader = KeptReader::passing(memory, text);
+    drive_viewed(
+        rt,
+        memory,
+        ask,
+        &mut reader,
+        out,
+        history,
+        cycles,
+        err,
+        false,
+    )
+}
+
 /// Does what is asked with a text, and answers the status and what was written.
 fn viewed<R, A>(rt: &R, memory: A, ask: &Ask<'_>, text: &[u8]) -> (u8, Written)
 where
     R: AllocGlobal + Abort + Threads + Wait + Sync,
     A: Allocator + Copy + Send,
 {
-    let mut reader = KeptReader::passing(memory, text);
     let mut out = Vec::new(rt.alloc());
     let mut history = Vec::new(rt.alloc());
     let mut cycles = Vec::new(rt.alloc());
     let mut err = Vec::new(rt.alloc());
-    let status = drive_viewed(
+    let status = status_of_view(
         rt,
         memory,
         ask,
-        &mut reader,
+        text,
         &mut out,
         &mut history,
         &mut cycles,
         &mut err,
-        false,
     );
     let written = Written {
         out,
@@ -285,18 +313,30 @@ where
     (status, written)
 }
 
+/// Does what is asked, and expects this status and what goes to each writer.
+fn expect_viewed<R: AllocGlobal + Abort + Threads + Wait + Sync>(
+    rt: &R,
+    &(subcommand, telling, text, due, texts): &Viewed,
+) {
+    let ask = told(subcommand, telling);
+    let (status, written) = viewed(rt, rt.alloc(), &ask, text);
+    expect_equal(rt, status, due);
+    expect_bytes(rt, &written.out, texts[0]);
+    expect_bytes(rt, &written.history, texts[1]);
+    expect_bytes(rt, &written.cycles, texts[2]);
+    expect_bytes(rt, &written.err, texts[3]);
+}
+
+/// The same of each of these.
+fn expect_each_viewed<R: AllocGlobal + Abort + Threads + Wait + Sync>(rt: &R, views: &[Viewed]) {
+    for (row, view) in views.iter().enumerate() {
+        expect_viewed(&Row { rt, row }, view);
+    }
+}
+
 #[test]
 fn each_view_goes_to_its_writer(rt: HostRuntime) {
-    for (row, &(subcommand, telling, text, due, texts)) in VIEWED.iter().enumerate() {
-        let rt = Row { rt: &rt, row };
-        let ask = told(subcommand, telling);
-        let (status, written) = viewed(&rt, rt.alloc(), &ask, text);
-        expect_equal(&rt, status, due);
-        expect_bytes(&rt, &written.out, texts[0]);
-        expect_bytes(&rt, &written.history, texts[1]);
-        expect_bytes(&rt, &written.cycles, texts[2]);
-        expect_bytes(&rt, &written.err, texts[3]);
-    }
+    expect_each_viewed(&rt, VIEWED);
 }
 
 /// Runs with cycles: of each the texts that go to standard output and to the history, and the lines
@@ -319,23 +359,74 @@ const WITH_CYCLES: &[(Subcommand, &[u8], [&[u8]; 3])] = &[
     ),
 ];
 
+/// Expects this text of cycles after the columns.
+fn expect_cycles(rt: &impl Abort, cycles: &[u8], due: &[u8]) {
+    expect_prefix(rt, cycles, COLUMNS);
+    expect_bytes(rt, cycles.strip_prefix(COLUMNS).unwrap_or(b""), due);
+}
+
+/// Does what is asked, and expects that it is done, and its texts.
+fn expect_with_cycles<R: AllocGlobal + Abort + Threads + Wait + Sync>(
+    rt: &R,
+    &(subcommand, text, texts): &(Subcommand, &[u8], [&[u8]; 3]),
+) {
+    let ask = told(subcommand, Telling::Answers);
+    let (status, written) = viewed(rt, rt.alloc(), &ask, text);
+    expect_equal(rt, status, 0);
+    expect_bytes(rt, &written.out, texts[0]);
+    expect_bytes(rt, &written.history, texts[1]);
+    expect_cycles(rt, &written.cycles, texts[2]);
+    expect_bytes(rt, &written.err, b"");
+}
+
+/// The same of each of these.
+fn expect_each_with_cycles<R: AllocGlobal + Abort + Threads + Wait + Sync>(
+    rt: &R,
+    runs: &[(Subcommand, &[u8], [&[u8]; 3])],
+) {
+    for (row, run) in runs.iter().enumerate() {
+        expect_with_cycles(&Row { rt, row }, run);
+    }
+}
+
 #[test]
 fn each_cycle_has_its_line(rt: HostRuntime) {
-    for (row, &(subcommand, text, texts)) in WITH_CYCLES.iter().enumerate() {
-        let rt = Row { rt: &rt, row };
-        let ask = told(subcommand, Telling::Answers);
-        let (status, written) = viewed(&rt, rt.alloc(), &ask, text);
-        expect_equal(&rt, status, 0);
-        expect_bytes(&rt, &written.out, texts[0]);
-        expect_bytes(&rt, &written.history, texts[1]);
-        expect_prefix(&rt, &written.cycles, COLUMNS);
-        expect_bytes(
-            &rt,
-            written.cycles.strip_prefix(COLUMNS).unwrap_or(b""),
-            texts[2],
-        );
-        expect_bytes(&rt, &written.err, b"");
-    }
+    expect_each_with_cycles(&rt, WITH_CYCLES);
+}
+
+/// Does what is asked with these writers, and answers the status and the log. No test needs what
+/// `drive_viewed_logged` promises beside them.
+fn logged<R, O, H, C>(
+    rt: &R,
+    ask: &Ask<'_>,
+    text: &[u8],
+    out: &mut O,
+    history: &mut H,
+    cycles: &mut C,
+    err: &mut Vec<u8>,
+) -> (u8, ViewLog)
+where
+    R: AllocGlobal + Threads + Wait + Sync,
+    O: Write,
+    H: Write,
+    C: Write,
+{
+    let alloc = rt.alloc();
+    let mut reader = KeptReader::passing(alloc, text);
+    let mut log = ViewLog::new(IoLog::new());
+    let status = drive_viewed_logged(
+        rt,
+        alloc,
+        ask,
+        &mut reader,
+        &mut log,
+        out,
+        history,
+        cycles,
+        err,
+        false,
+    );
+    (status, log)
 }
 
 /// Does what is asked with this text, and tells it to these writers, of which a flush fails: that is a
@@ -353,22 +444,9 @@ where
     H: Write,
     C: Write,
 {
-    let mut reader = KeptReader::passing(rt.alloc(), text);
     let mut err = Vec::new(rt.alloc());
     let ask = told(subcommand, Telling::Json);
-    let mut log = ViewLog::new(IoLog::new());
-    let status = drive_viewed_logged(
-        rt,
-        rt.alloc(),
-        &ask,
-        &mut reader,
-        &mut log,
-        out,
-        history,
-        cycles,
-        &mut err,
-        false,
-    );
+    let (status, log) = logged(rt, &ask, text, out, history, cycles, &mut err);
     expect_equal(rt, status, 1);
     expect_equal(rt, log.has_flush_failed(), true);
     expect_equal(rt, log.flushes(), flushes);
@@ -385,15 +463,23 @@ const FLUSHED: &[(Subcommand, &[u8], u64)] = &[
     (Subcommand::Dump, COUNTED, 1),
 ];
 
+/// Expects that of each of these a flush of its standard output fails.
+fn expect_flush_faults<R: AllocGlobal + Abort + Threads + Wait + Sync>(
+    rt: &R,
+    table: &[(Subcommand, &[u8], u64)],
+) {
+    for (row, &asked) in table.iter().enumerate() {
+        let rt = Row { rt, row };
+        expect_write_fault(&rt, asked, &mut Unflushed, &mut io::sink(), &mut io::sink());
+    }
+}
+
 #[test]
 fn a_failed_flush_of_each_writer_is_a_failed_write(rt: HostRuntime) {
     let run = (Subcommand::Run, STORED, 3);
     expect_write_fault(&rt, run, &mut io::sink(), &mut Unflushed, &mut io::sink());
     expect_write_fault(&rt, run, &mut io::sink(), &mut io::sink(), &mut Unflushed);
-    for (row, &asked) in FLUSHED.iter().enumerate() {
-        let rt = Row { rt: &rt, row };
-        expect_write_fault(&rt, asked, &mut Unflushed, &mut io::sink(), &mut io::sink());
-    }
+    expect_flush_faults(&rt, FLUSHED);
 }
 
 /// Whether memory was refused. What is told is then a prefix, and no history is written.
