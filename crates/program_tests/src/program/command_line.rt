@@ -757,6 +757,16 @@ fn a_session_shows_its_prompts(rt: HostRuntime) {
     expect_bytes(&rt, &told, b"> > > \n");
 }
 
+/// Expects each of these faults to have this status, and to be told so.
+fn expect_faults_told<R: AllocGlobal + Abort>(rt: &R, faults: &[(LineFault, u8, &[u8])]) {
+    for (row, (fault, status, text)) in faults.iter().enumerate() {
+        let rt = Row { rt, row };
+        let mut err = Vec::new(rt.alloc());
+        expect_equal(&rt, tell(fault, &mut err), *status);
+        expect_bytes(&rt, &err, text);
+    }
+}
+
 #[test]
 fn faults_before_a_run_are_told(rt: HostRuntime) {
     let table: [(LineFault, u8, &[u8]); 14] = [
@@ -783,10 +793,5 @@ fn faults_before_a_run_are_told(rt: HostRuntime) {
         (LineFault::NoLine, 1, b"rheap: draw: NoLine\n"),
         (LineFault::HistoryDiffers, 4, b"rheap: history differs\n"),
     ];
-    for (row, (fault, status, text)) in table.iter().enumerate() {
-        let rt = Row { rt: &rt, row };
-        let mut err = Vec::new(rt.alloc());
-        expect_equal(&rt, tell(fault, &mut err), *status);
-        expect_bytes(&rt, &err, text);
-    }
+    expect_faults_told(&rt, &table);
 }

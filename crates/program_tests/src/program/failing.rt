@@ -87,6 +87,11 @@ const PLAYED: &[(Ask<'static>, &[u8], u8, &[u8])] = &[
     (DOT, BESIDE_RAW, 0, BESIDE_RAW_GRAPH),
 ];
 
+/// All of these. The table is named here alone, since a proof writes it out wherever it is named.
+fn all_played() -> &'static [(Ask<'static>, &'static [u8], u8, &'static [u8])] {
+    PLAYED
+}
+
 /// Does what is asked with a text that comes a byte a time, where the reads and writes fail that
 /// are counted so, at 0 none, and so many bytes of a write are taken. Answers the status, what was
 /// written, how often, and what was told.
@@ -146,10 +151,23 @@ fn expect_lines_before(rt: &impl Abort, text: &[u8], line: u32) {
     assert!(rt; text.is_empty() || text.ends_with(b"\n"));
 }
 
-#[test]
-fn each_write_fails_in_turn(rt: HostRuntime) {
-    for (row, played) in PLAYED.iter().enumerate() {
-        let rt = Row { rt: &rt, row };
+/// Takes no byte of a write, and expects that it failed.
+fn expect_untaken<R: AllocGlobal + Abort + Threads + Wait + Sync>(
+    rt: &R,
+    played: &(Ask<'static>, &[u8], u8, &[u8]),
+) {
+    let (status, out, err) = play(rt, &played.0, played.1, (0, 0, 0));
+    expect_equal(rt, (status, out.writes, out.text.len()), (1, 1, 0));
+    expect_bytes(rt, &err, b"rheap: write failed\n");
+}
+
+/// Fails each write of each of these in turn, and takes no byte of the first.
+fn fail_each_write<R: AllocGlobal + Abort + Threads + Wait + Sync>(
+    rt: &R,
+    table: &[(Ask<'static>, &[u8], u8, &[u8])],
+) {
+    for (row, played) in table.iter().enumerate() {
+        let rt = Row { rt, row };
         let writes = fail_writes(&rt, played, 1000);
         assert!(rt; 0 < writes);
         if played.0.subcommand == Subcommand::Run {
@@ -157,10 +175,13 @@ fn each_write_fails_in_turn(rt: HostRuntime) {
             expect_equal(&rt, writes as usize, ended_lines(played.3));
         }
         expect_equal(&rt, fail_writes(&rt, played, 1) as usize, played.3.len());
-        let (status, out, err) = play(&rt, &played.0, played.1, (0, 0, 0));
-        expect_equal(&rt, (status, out.writes, out.text.len()), (1, 1, 0));
-        expect_bytes(&rt, &err, b"rheap: write failed\n");
+        expect_untaken(&rt, played);
     }
+}
+
+#[test]
+fn each_write_fails_in_turn(rt: HostRuntime) {
+    fail_each_write(&rt, all_played());
 }
 
 /// Does what is asked where the flush fails, and expects that a write failed.
@@ -183,16 +204,24 @@ fn expect_untold<R: AllocGlobal + Abort + Threads + Wait + Sync>(rt: &R, ask: &A
     expect_equal(rt, (status, out.len()), (1, 0));
 }
 
-#[test]
-fn devices_that_fail(rt: HostRuntime) {
+/// Does each of these with devices that fail. Answers how many there are.
+fn fail_devices<R: AllocGlobal + Abort + Threads + Wait + Sync>(
+    rt: &R,
+    table: &[(Ask<'static>, &[u8], u8, &[u8])],
+) -> u32 {
     let mut failed: u32 = 0;
-    for (row, &(ask, text, ..)) in PLAYED.iter().enumerate() {
-        let rt = Row { rt: &rt, row };
+    for (row, &(ask, text, ..)) in table.iter().enumerate() {
+        let rt = Row { rt, row };
         expect_unflushed(&rt, &ask, text);
         expect_untold(&rt, &ask);
         failed = failed.saturating_add(1);
     }
-    expect_equal(&rt, failed, 14);
+    failed
+}
+
+#[test]
+fn devices_that_fail(rt: HostRuntime) {
+    expect_equal(&rt, fail_devices(&rt, all_played()), 14);
 }
 
 /// The first eight reads of a text that comes a byte a time, and the two after its last byte.
@@ -202,21 +231,46 @@ fn some_reads(text: &[u8]) -> [u32; 10] {
     [1, 2, 3, 4, 5, 6, 7, 8, next, end]
 }
 
+/// Fails this read, and expects that this is told, and nothing is written.
+fn expect_failed_read<R: AllocGlobal + Abort + Threads + Wait + Sync>(
+    rt: &R,
+    played: &(Ask<'static>, &[u8], u8, &[u8]),
+    nth: u32,
+) {
+    let (status, out, err) = play(rt, &played.0, played.1, (nth, 0, 1000));
+    expect_equal(rt, (status, out.writes), (1, 0));
+    expect_bytes(rt, &err, b"rheap: read failed\n");
+}
+
+/// Fails some reads of what is played. Answers how many.
+fn fail_reads<R: AllocGlobal + Abort + Threads + Wait + Sync>(
+    rt: &R,
+    played: &(Ask<'static>, &[u8], u8, &[u8]),
+) -> u32 {
+    let mut failed: u32 = 0;
+    for nth in some_reads(played.1) {
+        let row = nth as usize;
+        expect_failed_read(&Row { rt, row }, played, nth);
+        failed = failed.saturating_add(1);
+    }
+    failed
+}
+
+/// Fails some reads of each of these. Answers how many.
+fn fail_reads_of_each<R: AllocGlobal + Abort + Threads + Wait + Sync>(
+    rt: &R,
+    table: &[(Ask<'static>, &[u8], u8, &[u8])],
+) -> u32 {
+    let mut failed: u32 = 0;
+    for (row, played) in table.iter().enumerate() {
+        failed = failed.saturating_add(fail_reads(&Row { rt, row }, played));
+    }
+    failed
+}
+
 #[test]
 fn first_and_last_reads_fail(rt: HostRuntime) {
-    let mut failed: u32 = 0;
-    for (row, played) in PLAYED.iter().enumerate() {
-        let rt = Row { rt: &rt, row };
-        for nth in some_reads(played.1) {
-            let row = nth as usize;
-            let rt = Row { rt: &rt, row };
-            let (status, out, err) = play(&rt, &played.0, played.1, (nth, 0, 1000));
-            expect_equal(&rt, (status, out.writes), (1, 0));
-            expect_bytes(&rt, &err, b"rheap: read failed\n");
-            failed = failed.saturating_add(1);
-        }
-    }
-    expect_equal(&rt, failed, 140);
+    expect_equal(&rt, fail_reads_of_each(&rt, all_played()), 140);
 }
 
 /// What is asked, of which text, what is wrong with it where it is cut: before its first byte,
@@ -245,14 +299,35 @@ fn is_cut<R: AllocGlobal + Abort + Threads + Wait + Sync>(
     };
     let (status, out, err) = play(rt, &ask, text, (0, 0, 1000));
     if kind.is_empty() {
-        expect_equal(rt, (status, err.len()), (0, 0));
         let left_out = ended_lines(whole).saturating_sub(ended_lines(text));
-        expect_fewer(rt, answers, &out.text, left_out);
+        expect_whole(rt, (status, &out, &err), answers, left_out);
     } else {
-        expect_equal(rt, (status, out.writes), (1, 0));
-        expect_fault(rt, &err, ended_lines(text).saturating_add(1), kind);
+        let line = ended_lines(text).saturating_add(1);
+        expect_cut(rt, (status, &out, &err), line, kind);
     }
     !kind.is_empty()
+}
+
+/// Expects a text that was cut to be whole, and to have so many answers less.
+fn expect_whole(
+    rt: &impl Abort,
+    (status, out, err): (u8, &SlowWriter, &[u8]),
+    answers: &[u8],
+    left_out: usize,
+) {
+    expect_equal(rt, (status, err.len()), (0, 0));
+    expect_fewer(rt, answers, &out.text, left_out);
+}
+
+/// Expects a text that was cut to have this fault, and nothing to be written.
+fn expect_cut<R: AllocGlobal + Abort>(
+    rt: &R,
+    (status, out, err): (u8, &SlowWriter, &[u8]),
+    line: usize,
+    kind: &str,
+) {
+    expect_equal(rt, (status, out.writes), (1, 0));
+    expect_fault(rt, err, line, kind);
 }
 
 /// Expects so many answers less, of which the others stay, but for the last line.
@@ -268,17 +343,17 @@ fn expect_fault<R: AllocGlobal + Abort>(rt: &R, err: &[u8], line: usize, kind: &
     expect_bytes(rt, err, told.as_bytes());
 }
 
-#[test]
-fn texts_are_cut_after_each_byte(rt: HostRuntime) {
-    for (row, asked) in CUT.iter().enumerate() {
+/// Cuts each of these texts after each of its bytes.
+fn cut_each<R: AllocGlobal + Abort + Threads + Wait + Sync>(
+    rt: &R,
+    table: &[(Ask<'static>, &[u8], [&str; 3], &[u8])],
+) {
+    for (row, asked) in table.iter().enumerate() {
         let text = asked.1;
         let mut cut: usize = 0;
         let mut whole: usize = 0;
         for count in 0..text.len() {
-            let at = Row {
-                rt: &rt,
-                row: count,
-            };
+            let at = Row { rt, row: count };
             if is_cut(&at, asked, &text[..count]) {
                 cut = cut.saturating_add(1);
             } else {
@@ -290,9 +365,14 @@ fn texts_are_cut_after_each_byte(rt: HostRuntime) {
         } else {
             0
         };
-        let rt = Row { rt: &rt, row };
+        let rt = Row { rt, row };
         expect_equal(&rt, (whole, cut), (runs, text.len().saturating_sub(runs)));
     }
+}
+
+#[test]
+fn texts_are_cut_after_each_byte(rt: HostRuntime) {
+    cut_each(&rt, CUT);
 }
 
 /// Refuses each allocation in turn, and expects so many refusals or more, and this to be told where
@@ -351,20 +431,36 @@ const FAULTY: &[(Ask<'static>, &[u8], &[u8])] = &[
     ),
 ];
 
+/// Refuses each allocation of each of these. Answers how many there are.
+fn refuse_each<R: AllocGlobal + Abort + Threads + Wait + Sync>(
+    rt: &R,
+    table: &[(Ask<'static>, &[u8], u8, &[u8])],
+) -> u32 {
+    let mut refused: u32 = 0;
+    for (row, played) in table.iter().enumerate() {
+        refuse(&Row { rt, row }, played, b"", 3);
+        refused = refused.saturating_add(1);
+    }
+    refused
+}
+
+/// The same of faulty texts.
+fn refuse_faulty<R: AllocGlobal + Abort + Threads + Wait + Sync>(
+    rt: &R,
+    table: &[(Ask<'static>, &[u8], &[u8])],
+) -> u32 {
+    let mut refused: u32 = 0;
+    for (row, &(ask, text, told)) in table.iter().enumerate() {
+        refuse(&Row { rt, row }, &(ask, text, 1, b""), told, 1);
+        refused = refused.saturating_add(1);
+    }
+    refused
+}
+
 #[test]
 fn each_allocation_is_refused(rt: HostRuntime) {
-    let mut refused: u32 = 0;
-    for (row, played) in PLAYED.iter().enumerate() {
-        let rt = Row { rt: &rt, row };
-        refuse(&rt, played, b"", 3);
-        refused = refused.saturating_add(1);
-    }
-    for (row, &(ask, text, told)) in FAULTY.iter().enumerate() {
-        let rt = Row { rt: &rt, row };
-        refuse(&rt, &(ask, text, 1, b""), told, 1);
-        refused = refused.saturating_add(1);
-    }
-    expect_equal(&rt, refused, 22);
+    expect_equal(&rt, refuse_each(&rt, all_played()), 14);
+    expect_equal(&rt, refuse_faulty(&rt, FAULTY), 8);
 }
 
 /// Sizes around those at which vectors grow.
@@ -383,33 +479,61 @@ fn lines<R: AllocGlobal + Abort>(
     text
 }
 
+/// The answers to so many drops.
+fn answers_to_drops<R: AllocGlobal + Abort>(rt: &R, size: u32) -> Vec<u8> {
+    let total = format!(in rt.alloc(); "total commands {size} refused 0 flips 0 rootwords 0\n");
+    lines(rt, b"", b"done\n", size, &ample(rt, total))
+}
+
+/// The history of so many drops.
+fn history_of_drops<R: AllocGlobal + Abort>(rt: &R, size: u32) -> Vec<u8> {
+    let end = format!(in rt.alloc(); "end {size}\n");
+    let next = b"1 drop 1.0 = done\n";
+    lines(rt, b"history 2 2\n", next, size, &ample(rt, end))
+}
+
+/// Refuses each allocation of runs over a trace of so many drops, with and without a pace.
+fn refuse_runs<R: AllocGlobal + Abort + Threads + Wait + Sync>(rt: &R, trace: &[u8], size: u32) {
+    let answers = answers_to_drops(rt, size);
+    refuse(rt, &(RUN, trace, 0, &answers), b"", 3);
+    refuse(rt, &(PACED, trace, 0, &answers), b"", 3);
+}
+
+/// Refuses each allocation of a check of a history of so many calls.
+fn refuse_check<R: AllocGlobal + Abort + Threads + Wait + Sync>(rt: &R, history: &[u8], size: u32) {
+    let legal = format!(in rt.alloc(); "owner 1 calls {size}\nlegal {size}\n");
+    let legal = ample(rt, legal);
+    refuse(rt, &(REPLAY, history, 0, legal.as_bytes()), b"", 3);
+}
+
 /// Refuses each allocation of runs over a trace of so many lines, and of a check of its history.
 fn refuse_lines<R: AllocGlobal + Abort + Threads + Wait + Sync>(rt: &R, size: u32) {
     let trace = lines(rt, b"heap 64 8 8 2 2\n", b"1 drop 1.0\n", size, "");
-    let total = format!(in rt.alloc(); "total commands {size} refused 0 flips 0 rootwords 0\n");
-    let answers = lines(rt, b"", b"done\n", size, &ample(rt, total));
-    refuse(rt, &(RUN, &trace, 0, &answers), b"", 3);
-    refuse(rt, &(PACED, &trace, 0, &answers), b"", 3);
-    let end = format!(in rt.alloc(); "end {size}\n");
-    let next = b"1 drop 1.0 = done\n";
-    let history = lines(rt, b"history 2 2\n", next, size, &ample(rt, end));
+    refuse_runs(rt, &trace, size);
+    let history = history_of_drops(rt, size);
     refuse(rt, &(THREADS, &trace, 0, &history), b"", 10);
-    let legal = ample(
-        rt,
-        format!(in rt.alloc(); "owner 1 calls {size}\nlegal {size}\n"),
-    );
-    refuse(rt, &(REPLAY, &history, 0, legal.as_bytes()), b"", 3);
+    refuse_check(rt, &history, size);
+}
+
+/// How the dump of an object that refers to so many others begins.
+fn begun_dump<R: AllocGlobal + Abort>(rt: &R, size: u32) -> Vec<u8> {
+    let objects = size.saturating_add(1);
+    let first = format!(in rt.alloc(); "rheap 1\nroots 1\n1.0 @0\nobjects {objects}\n@0 {size}");
+    lines(rt, b"", b"", 0, &ample(rt, first))
+}
+
+/// Adds the references of the first object, the others, and the end.
+fn add_objects<R: AllocGlobal + Abort>(rt: &R, dump: &mut Vec<u8>, size: u32) {
+    ample(rt, add_numbered(rt, dump, size, (" @", "")));
+    ample(rt, dump.extend_from_slice(b"\n"));
+    ample(rt, add_numbered(rt, dump, size, ("@", " 0\n")));
+    ample(rt, dump.extend_from_slice(b"end\n"));
 }
 
 /// The dump of an object that refers to so many others.
 fn wide_dump<R: AllocGlobal + Abort>(rt: &R, size: u32) -> Vec<u8> {
-    let objects = size.saturating_add(1);
-    let first = format!(in rt.alloc(); "rheap 1\nroots 1\n1.0 @0\nobjects {objects}\n@0 {size}");
-    let mut dump = lines(rt, b"", b"", 0, &ample(rt, first));
-    ample(rt, add_numbered(rt, &mut dump, size, (" @", "")));
-    ample(rt, dump.extend_from_slice(b"\n"));
-    ample(rt, add_numbered(rt, &mut dump, size, ("@", " 0\n")));
-    ample(rt, dump.extend_from_slice(b"end\n"));
+    let mut dump = begun_dump(rt, size);
+    add_objects(rt, &mut dump, size);
     dump
 }
 

@@ -276,11 +276,17 @@ const RAW_BEFORE: &[(&[u8], u32, &str)] = &[
     (b"objects 1\n@0 raw 2 5\n", 5, "Number"),
 ];
 
-/// The first line of each version, with the faults of its lines of raw objects.
-const VERSIONS: &[(&[u8], &[(&[u8], u32, &str)])] = &[
-    (b"rheap 2\n", RAW_OBJECTS),
-    (b"rheap 1\n", RAW_BEFORE),
-];
+/// Expects a text, after `first`, to be answered with its fault and nothing else.
+fn expect_first_fault<R: AllocGlobal + Abort + Threads + Wait + Sync>(
+    rt: &R,
+    ask: &Ask<'_>,
+    first: &[u8],
+    &(rest, line, kind): &(&[u8], u32, &str),
+) {
+    let text = ample(rt, repeated(rt, first, rest, 1));
+    let told = ample(rt, format!(in rt.alloc(); "rheap: line {line}: {kind}\n"));
+    drives_to(rt, ask, &text, 1, b"", told.as_bytes());
+}
 
 /// Expects each of these texts, after `first`, to be answered with its fault and nothing else.
 fn expect_faults<R: AllocGlobal + Abort + Threads + Wait + Sync>(
@@ -289,11 +295,8 @@ fn expect_faults<R: AllocGlobal + Abort + Threads + Wait + Sync>(
     first: &[u8],
     faults: &[(&[u8], u32, &str)],
 ) {
-    for (row, &(rest, line, kind)) in faults.iter().enumerate() {
-        let rt = &Row { rt, row };
-        let text = ample(rt, repeated(rt, first, rest, 1));
-        let told = ample(rt, format!(in rt.alloc(); "rheap: line {line}: {kind}\n"));
-        drives_to(rt, ask, &text, 1, b"", told.as_bytes());
+    for (row, fault) in faults.iter().enumerate() {
+        expect_first_fault(&Row { rt, row }, ask, first, fault);
     }
 }
 
@@ -309,16 +312,23 @@ fn first_faults_of_tickets(rt: HostRuntime) {
     expect_faults(&rt, &RUN, b"heap 16 8 4 2 2\n", TICKET_LINES);
 }
 
+/// Expects the faults of dumps that begin with this line, and of its lines of raw objects.
+fn expect_faults_of_dumps<R: AllocGlobal + Abort + Threads + Wait + Sync>(
+    rt: &R,
+    version: &[u8],
+    raw: &[(&[u8], u32, &str)],
+) {
+    expect_faults(rt, &DUMP, version, DUMPS);
+    let first = ample(rt, repeated(rt, version, ONE_ROOT, 1));
+    expect_faults(rt, &DUMP, &first, OBJECTS);
+    expect_faults(rt, &DUMP, &first, raw);
+}
+
 #[test]
 fn first_faults_of_dumps(rt: HostRuntime) {
     expect_faults(&rt, &DUMP, b"", HEADERS);
-    for (row, &(version, raw)) in VERSIONS.iter().enumerate() {
-        let rt = Row { rt: &rt, row };
-        expect_faults(&rt, &DUMP, version, DUMPS);
-        let first = ample(&rt, repeated(&rt, version, ONE_ROOT, 1));
-        expect_faults(&rt, &DUMP, &first, OBJECTS);
-        expect_faults(&rt, &DUMP, &first, raw);
-    }
+    expect_faults_of_dumps(&Row { rt: &rt, row: 0 }, b"rheap 2\n", RAW_OBJECTS);
+    expect_faults_of_dumps(&Row { rt: &rt, row: 1 }, b"rheap 1\n", RAW_BEFORE);
 }
 
 /// A paced run at a mark.
@@ -414,15 +424,23 @@ const NOT_RUN: &[(Ask<'static>, &[u8], &[u8])] = &[
     ),
 ];
 
-#[test]
-fn runs_that_cannot_be_made(rt: HostRuntime) {
+/// Expects each of these to be answered with what is told and nothing else. Answers how many there
+/// are.
+fn expect_not_run<R: AllocGlobal + Abort + Threads + Wait + Sync>(
+    rt: &R,
+    table: &[(Ask<'static>, &[u8], &[u8])],
+) -> u32 {
     let mut tried: u32 = 0;
-    for (row, &(ask, text, told)) in NOT_RUN.iter().enumerate() {
-        let rt = Row { rt: &rt, row };
-        drives_to(&rt, &ask, text, 1, b"", told);
+    for (row, &(ask, text, told)) in table.iter().enumerate() {
+        drives_to(&Row { rt, row }, &ask, text, 1, b"", told);
         tried = tried.saturating_add(1);
     }
-    expect_equal(&rt, tried, 22);
+    tried
+}
+
+#[test]
+fn runs_that_cannot_be_made(rt: HostRuntime) {
+    expect_equal(&rt, expect_not_run(&rt, NOT_RUN), 22);
 }
 
 /// What a text begins with, the byte that follows, how often it does, the end, and what is told.
@@ -440,18 +458,32 @@ const LONG_HISTORIES: &[(&[u8], &[u8])] = &[
     (b"history 2 2\nend 0\n", b"rheap: line 3: Long\n"),
 ];
 
+/// Expects a trace with so many of a byte after its beginning, and this end, to be told of so.
+fn expect_long<R: AllocGlobal + Abort + Threads + Wait + Sync>(
+    rt: &R,
+    &(first, byte, bytes, end, told): &(&[u8], &[u8], u32, &[u8], &[u8]),
+) {
+    let mut text = ample(rt, repeated(rt, first, byte, bytes));
+    ample(rt, text.extend_from_slice(end));
+    drives_to(rt, &RUN, &text, 1, b"", told);
+}
+
+/// Expects a history that goes on with 257 digits to be told of so.
+fn expect_long_history<R: AllocGlobal + Abort + Threads + Wait + Sync>(
+    rt: &R,
+    &(first, told): &(&[u8], &[u8]),
+) {
+    let text = ample(rt, repeated(rt, first, b"9", 257));
+    drives_to(rt, &REPLAY, &text, 1, b"", told);
+}
+
 #[test]
 fn long_lines(rt: HostRuntime) {
-    for (row, &(first, byte, bytes, end, told)) in LONG.iter().enumerate() {
-        let rt = Row { rt: &rt, row };
-        let mut text = ample(&rt, repeated(&rt, first, byte, bytes));
-        ample(&rt, text.extend_from_slice(end));
-        drives_to(&rt, &RUN, &text, 1, b"", told);
+    for (row, trace) in LONG.iter().enumerate() {
+        expect_long(&Row { rt: &rt, row }, trace);
     }
-    for (row, &(first, told)) in LONG_HISTORIES.iter().enumerate() {
-        let rt = Row { rt: &rt, row };
-        let text = ample(&rt, repeated(&rt, first, b"9", 257));
-        drives_to(&rt, &REPLAY, &text, 1, b"", told);
+    for (row, history) in LONG_HISTORIES.iter().enumerate() {
+        expect_long_history(&Row { rt: &rt, row }, history);
     }
 }
 

@@ -22,7 +22,7 @@ const MAKES: &[u8] =
 
 /// Runs a program with its cycles, and answers the status. No test needs what
 /// `drive_lisp_with_cycles` promises beside it.
-fn status_of_program<A, C>(
+fn status_with_cycles<A, C>(
     memory: A,
     limits: Limits,
     text: &[u8],
@@ -59,7 +59,7 @@ where
     };
     let mut out = Vec::new(rt.alloc());
     let mut err = Vec::new(rt.alloc());
-    let ended = status_of_program(memory, limits, text, cycles, &mut out, &mut err);
+    let ended = status_with_cycles(memory, limits, text, cycles, &mut out, &mut err);
     expect_equal(rt, ended, status);
     expect_bytes(rt, &out, printed);
     expect_bytes(rt, &err, told);

@@ -365,7 +365,7 @@ fn expect_cycles(rt: &impl Abort, cycles: &[u8], due: &[u8]) {
     expect_bytes(rt, cycles.strip_prefix(COLUMNS).unwrap_or(b""), due);
 }
 
-/// Does what is asked, and expects that it is done, and its texts.
+/// Does what is asked, and expects that it is done, its texts, and that nothing is told.
 fn expect_with_cycles<R: AllocGlobal + Abort + Threads + Wait + Sync>(
     rt: &R,
     &(subcommand, text, texts): &(Subcommand, &[u8], [&[u8]; 3]),
@@ -429,8 +429,8 @@ where
     (status, log)
 }
 
-/// Does what is asked with this text, and tells it to these writers, of which a flush fails: that is a
-/// failed write, and the log says what failed, and that each text was flushed.
+/// Does what is asked with this text, and tells it to these writers, of which a flush fails. That is
+/// a failed write. The log says what failed, and that each text was flushed.
 fn expect_write_fault<R, O, H, C>(
     rt: &R,
     (subcommand, text, flushes): (Subcommand, &[u8], u64),
@@ -463,7 +463,7 @@ const FLUSHED: &[(Subcommand, &[u8], u64)] = &[
     (Subcommand::Dump, COUNTED, 1),
 ];
 
-/// Expects that of each of these a flush of its standard output fails.
+/// Does each of these where the flush of standard output fails, and expects a failed write.
 fn expect_flush_faults<R: AllocGlobal + Abort + Threads + Wait + Sync>(
     rt: &R,
     table: &[(Subcommand, &[u8], u64)],
