@@ -1,6 +1,7 @@
 -- What clap's matches hold, as far as a request is read from them.
-use Rattle.std.proofs.Common.{◌≡◌, ◌≢◌, ◌⊎◌, inl, inr, List, Option, Some, None, Result, option_map, ap, sym, subst, codes, Bool, true, false, refl, ◌∙◌}
-use Rattle.clap.specs.Words.{App, FailsBy, HasKind, Kinds, Row, Text, fault_of, is_simple_and_free, kind_of, first_of, first_value, found_of, rows_of, subcommand_rows_of, is_simple, HasMatchesOf, subcommand_name_of, subcommand_of, takes}
+use Rattle.std.proofs.Common.{◌≡◌, ◌≢◌, ◌⊎◌, inl, inr, List, Option, Some, None, Result, option_map, ap, sym, subst, codes, Bool, true, false, ◌&&◌, refl, ◌∙◌}
+use Rattle.clap.specs.Words.{App, FailsBy, HasKind, Kinds, Row, Text, fault_of, is_simple_and_free, kind_of, first_of, first_value, found_of, rows_of, subcommand_rows_of, built, is_simple, HasMatchesOf, subcommand_name_of, subcommand_of, takes}
+use Rattle.clap.specs.Faults.{is_free_app}
 use Rattle.clap.specs.declared.error.Error.{Error as ClapError}
 use Rattle.clap.specs.declared.error.kind.ErrorKind.{ErrorKind}
 use Rattle.clap.specs.declared.error.kind.ErrorKind.TheVariants.{OutOfMemory}
@@ -147,16 +148,27 @@ for_words P run threads replay dump draw shell lisp completions other word =
     by_word P word (codes "completions") completions (λ not_completions.
     other word (rw not_run (rw not_threads (rw not_replay (rw not_dump (rw not_draw (rw not_shell (rw not_lisp not_completions)))))))))))))))
 
-abbrev IsSimpleFor : Text → Type 0
-IsSimpleFor word = is_simple (rheap_app_for word) ≡ true
+abbrev IsFreeFor : Text → Type 0
+IsFreeFor word = is_simple_and_free (rheap_app_for word) ≡ true
 
-simple_for_others : (word : Text) → names_command word ≡ false → IsSimpleFor word
+free_for_others : (word : Text) → names_command word ≡ false → IsFreeFor word
 unfolding clap_on_literals
-simple_for_others word is = rw is refl
+free_for_others word is = rw is refl
 
-is_simple_line : (word : Text) → IsSimpleFor word
+is_free_line : (word : Text) → IsFreeFor word
 unfolding clap_on_literals
-is_simple_line = for_words IsSimpleFor refl refl refl refl refl refl refl refl simple_for_others
+is_free_line = for_words IsFreeFor refl refl refl refl refl refl refl refl free_for_others
+
+-- the first of two that hold
+first_holds : (one other : Bool) → one && other ≡ true → one ≡ true
+first_holds true other is = refl
+first_holds false other is = is
+
+simple_of_free : (a : App) → is_simple_and_free a ≡ true → is_simple a ≡ true
+simple_of_free a is = first_holds (is_simple a) (is_free_app (built a)) is
+
+is_simple_line : (word : Text) → is_simple (rheap_app_for word) ≡ true
+is_simple_line word = simple_of_free (rheap_app_for word) (is_free_line word)
 
 -- what the matches hold is what clap's parse of the arguments holds
 pub command_and_file_of-matches : (a : App) (arguments : List Text) (m : ArgMatches) → a ≡ rheap_app arguments → HasMatchesOf a arguments m → command_and_file_of arguments ≡ command_and_file_in (subcommand_rows_of m)
@@ -183,17 +195,6 @@ viewed_of-matches a arguments m is h =
 pub taken-app : (a : App) (arguments : List Text) → a ≡ rheap_app arguments → is_taken arguments ≡ true → takes a arguments ≡ true
 unfolding is_taken
 taken-app a arguments is taken = ap (λ (x : App). takes x arguments) is ∙ taken
-
-abbrev IsFreeFor : Text → Type 0
-IsFreeFor word = is_simple_and_free (rheap_app_for word) ≡ true
-
-free_for_others : (word : Text) → names_command word ≡ false → IsFreeFor word
-unfolding clap_on_literals
-free_for_others word is = rw is refl
-
-is_free_line : (word : Text) → IsFreeFor word
-unfolding clap_on_literals
-is_free_line = for_words IsFreeFor refl refl refl refl refl refl refl refl free_for_others
 
 -- a parse of the same command line under another name ends as these kinds of error say
 pub fails_by_error_kinds : {T : Type 0} (a : App) (arguments : List Text) (r : Result T ClapError) → a ≡ rheap_app arguments

@@ -1,18 +1,15 @@
-use Rattle.std.proofs.Common.{◌≡◌, ◌∙◌, Bool, Some, ap}
-use Rattle.clap.specs.Words.{Rule, rule_of}
-use Rattle.clap.specs.declared.builder.arg.Arg.{Arg}
+use Rattle.std.proofs.Common.{Some, refl}
+use Rattle.clap.specs.Words.{new_rule}
 use Rattle.rh_cli.specs.Ask.{option_rule}
-use Rattle.rh_cli.proofs.Added.{local-added, rule-added}
+use Rattle.rh_cli.proofs.Added.{IsMade, local-added, made-helped, made-long, made-valued, rule-added}
 use Rattle.rh_cli.proofs.options.with_option.Goals as goal
-
-abbrev is_global : Arg → Bool
-is_global arg = arg.global
 
 pub returns-clause-app : goal.returns-clause-app
 returns-clause-app c =
-    let rule_is : rule_of c.help-option.result ≡ option_rule c.args.name.now = ap rule_of c.help-option.ensures ∙ ap rule_of c.value_name.ensures ∙ ap (λ (a : Arg). record (rule_of a) { value_names = 1 }) c.long.ensures ∙ ap (λ (rule : Rule). record rule { long = Some c.args.name.now; value_names = 1 }) c.new.ensures.rule in
-    rule-added c.args.command c.help-option.result _ c.arg.result rule_is (ap is_global c.help-option.ensures ∙ ap is_global c.value_name.ensures ∙ ap is_global c.long.ensures ∙ c.new.ensures.optional.1) c.arg.ensures
+    let made : IsMade c.help-option.result (option_rule c.args.name.now) = made-helped _ _ (option_rule c.args.name.now) _ c.help-option.ensures (made-valued _ _ (record (new_rule c.args.name.now) { long = Some c.args.name.now }) _ 1 c.value_name.ensures refl (made-long _ _ (new_rule c.args.name.now) _ c.long.ensures (record { ruled = c.new.ensures.rule; local = c.new.ensures.optional.1 }))) in
+    rule-added c.args.command c.help-option.result (option_rule c.args.name.now) c.arg.result made c.arg.ensures
 
 pub returns-clause-local : goal.returns-clause-local
 returns-clause-local c = λ none.
-    local-added c.args.command c.help-option.result c.arg.result (ap is_global c.help-option.ensures ∙ ap is_global c.value_name.ensures ∙ ap is_global c.long.ensures ∙ c.new.ensures.optional.1) none c.arg.ensures
+    let made : IsMade c.help-option.result (option_rule c.args.name.now) = made-helped _ _ (option_rule c.args.name.now) _ c.help-option.ensures (made-valued _ _ (record (new_rule c.args.name.now) { long = Some c.args.name.now }) _ 1 c.value_name.ensures refl (made-long _ _ (new_rule c.args.name.now) _ c.long.ensures (record { ruled = c.new.ensures.rule; local = c.new.ensures.optional.1 }))) in
+    local-added c.args.command c.help-option.result (option_rule c.args.name.now) c.arg.result made none c.arg.ensures
