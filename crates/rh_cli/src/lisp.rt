@@ -11,7 +11,7 @@ use crate::fault::LineFault;
 use crate::keeping::KeptReader;
 use crate::lisp_explaining::show_kept;
 use crate::program::{gathering, is_standard_input, kept_if, opened};
-use rh_lisp_run::{Cause, Ended, Fault, Limits, LispFault, Outcome, Source, Stop, run_lisp};
+use rh_lisp_run::{Ended, Fault, Limits, LispFault, Outcome, Source, Stop, run_lisp};
 use std::alloc::Allocator;
 use std::io::{self, Read, Write};
 use std::rt::Files;
@@ -65,20 +65,11 @@ fn tell_end<A: Allocator, E: Write>(ended: &Ended<A>, text: Option<&[u8]>, err: 
     ensures status { IsLispStatus (Ok ended.now.outcome) result }
     ensures quiet { result ≡ 0 → Keeps (E.contents err.old) (E.contents err.new) }
 {
-    match ended.outcome {
-        Outcome::Finished => 0,
-        Outcome::Stopped {
-            problem,
-            source,
-            position,
-        } => {
+    match Stop::of_outcome(ended.outcome) {
+        None => 0,
+        Some(stop) => {
             // What can't be told is left out, as a fault's line is.
             let _ = err.write_all(&ended.line);
-            let stop = Stop {
-                source,
-                position,
-                cause: Cause::Problem(problem),
-            };
             show_kept(text, stop, err);
             1
         }
@@ -110,12 +101,7 @@ fn tell_place<E: Write>(file: &str, fault: Fault, text: Option<&[u8]>, err: &mut
         "{name}:{}:{}: {}",
         place.line, place.column, fault.kind
     );
-    let stop = Stop {
-        source: fault.source,
-        position: place,
-        cause: Cause::Fault(fault.kind),
-    };
-    show_kept(text, stop, err);
+    show_kept(text, Stop::of_fault(fault), err);
     1
 }
 

@@ -7,7 +7,7 @@ use rh_pace::PaceError;
 /// Why a program isn't run, or what it printed isn't written. `Long`, `Text` and those of the heap
 /// are faults of what is given, in this order. Nothing is written where one of them, `Read` or
 /// `OutOfMemory` comes; after `Write` a prefix of the text may be written.
-#[derive(Clone, Copy, PartialEq, Eq)]
+#[derive(Clone, Copy, Debug, PartialEq, Eq)]
 pub enum LispFault {
     /// A read failed, or 33,554,432 reads didn't come to the end.
     Read,

@@ -1,6 +1,6 @@
 //! Where a program stops or a text is none, and what may stand there.
 
-ghost use Rattle.std.specs.Prelude.{◌≡◌, ◌↔◌, None};
+ghost use Rattle.std.specs.Prelude.{◌≡◌, ◌↔◌, None, IfSome};
 
 use rh_lisp::{Fault, FaultKind, Outcome, Problem, ReadKind, Source, Why};
 use rh_machine::Position;
@@ -28,7 +28,10 @@ pub struct Stop {
 impl Stop {
     /// Where and why a program stopped that ended so. Nothing if it finished.
     pub fn of_outcome(outcome: Outcome) -> Option<Stop>
-        ensures { (result ≡ None) ↔ (outcome ≡ Outcome.Finished) }
+        ensures finished { (result ≡ None) ↔ (outcome ≡ Outcome.Finished) }
+        ensures stopped { IfSome result (λ stop. (problem : Problem)
+            × (outcome ≡ Outcome.Stopped problem stop.source stop.position)
+            × (stop.cause ≡ Cause.Problem problem)) }
     {
         match outcome {
             Outcome::Finished => None,
@@ -45,7 +48,11 @@ impl Stop {
     }
 
     /// Where and why a text is no program that has this fault.
-    pub fn of_fault(fault: Fault) -> Stop {
+    pub fn of_fault(fault: Fault) -> Stop
+        ensures source { result.source ≡ fault.source }
+        ensures position { result.position ≡ fault.position }
+        ensures cause { result.cause ≡ Cause.Fault fault.kind }
+    {
         Stop {
             source: fault.source,
             position: fault.position,
