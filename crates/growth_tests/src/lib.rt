@@ -1,4 +1,4 @@
-//! Tests of the rule by which heaps grow, and of heaps that grow.
+//! Tests of heaps that grow.
 #![tactic(auto)]
 
 #[cfg(test)]
@@ -7,9 +7,5 @@ mod calls;
 mod expectations;
 #[cfg(test)]
 mod growing;
-#[cfg(test)]
-mod numbers;
-#[cfg(test)]
-mod rule;
 #[cfg(test)]
 mod watching;

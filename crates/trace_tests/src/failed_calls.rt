@@ -3,7 +3,7 @@
 use crate::expectations::{Row, expect_equal};
 use rh_text::{IoLog, send};
 use rh_trace::{RunFault, Trace, Write, parse, print_logged, run_trace_logged};
-use samples::devices::{InterruptedReader, SlowReader, SlowWriter};
+use samples::devices::{SlowReader, SlowWriter};
 use samples::texts::WITHOUT_FIELDS;
 use std::process::Abort;
 
@@ -30,26 +30,6 @@ fn runs_tell_which_call_failed(rt: HostRuntime) {
         expect_equal(&rt, outcome.err(), fault);
         expect_equal(&rt, (reads.has_failed(), writes.has_failed()), told);
     }
-}
-
-#[test]
-fn reads_that_run_out_are_no_failed_read(rt: HostRuntime) {
-    let mut reader = InterruptedReader {
-        reads: 0,
-        ends_at: 0,
-    };
-    let mut writer = SlowWriter::new(&rt, 1000, 0);
-    let (mut reads, mut writes) = (IoLog::new(), IoLog::new());
-    let outcome = run_trace_logged(
-        rt.alloc(),
-        &mut reader,
-        &mut reads,
-        &mut writer,
-        &mut writes,
-    );
-    expect_equal(&rt, outcome.err(), Some(RunFault::Read));
-    expect_equal(&rt, (reads.has_failed(), reads.left()), (false, 0));
-    expect_equal(&rt, writer.writes, 0);
 }
 
 /// Prints a trace to a writer that takes so many bytes of a write, and fails at its nth. Expects this

@@ -1,15 +1,15 @@
 //! Histories: recorded, checked, reported, written and read.
 
-use crate::expectations::{Row, ample, expect_bytes, expect_equal};
+use crate::expectations::{Row, expect_bytes, expect_equal};
 use crate::texts::{RAW_HISTORY, RAW_HISTORY_REPORT};
 use rh_layout::{Command, Refusal, Reply, RootId};
 use rh_replay::{
-    History, HistoryError, HistoryKind, Recorder, RecorderError, TraceFull, Verdict, check,
-    read_history, report, write_history,
+    History, Recorder, RecorderError, TraceFull, Verdict, check, read_history, report,
+    write_history,
 };
 use rh_trace::{Kind, Write, command_of, write_answer, write_command};
 use samples::devices::SlowWriter;
-use samples::texts::{RIGHT, RIGHT_REPORT, WRONG, WRONG_REPORT, repeated};
+use samples::texts::{RIGHT, RIGHT_REPORT, WRONG, WRONG_REPORT};
 use std::process::Abort;
 
 /// A history that tells a raw object as one that isn't, and the report on it.
@@ -126,36 +126,6 @@ fn a_recorder_takes_as_many_calls_as_its_limit(rt: HostRuntime) {
         expect_equal(&rt, made.err(), Some(error));
     }
     assert!(rt; Recorder::new(rt.alloc(), 16, 256, 1_048_576).is_ok());
-}
-
-/// How many calls a history of this text has, or the fault of the text and its line.
-fn read(rt: &impl AllocGlobal, text: &[u8]) -> Option<Result<usize, (u32, HistoryKind)>> {
-    match &read_history(rt.alloc(), text) {
-        Ok(history) => Some(Ok(history.calls().len())),
-        Err(HistoryError::Fault(fault)) => Some(Err((fault.line, fault.kind))),
-        Err(HistoryError::OutOfMemory) => None,
-    }
-}
-
-#[test]
-fn the_longest_history(rt: HostRuntime) {
-    let drops = repeated(&rt, b"history 1 1\n", b"0 drop 0.0 = done\n", 1_048_574);
-    let mut text = ample(&rt, drops);
-    let unended = Err((1_048_576, HistoryKind::End));
-    expect_equal(&rt, read(&rt, &text), Some(unended));
-    ample(&rt, text.extend_from_slice(b"end 1048574\n"));
-    expect_verdict(&rt, &history_of(&rt, &text), Verdict::Legal(1_048_574));
-}
-
-#[test]
-fn a_history_of_too_many_lines(rt: HostRuntime) {
-    let drops = repeated(&rt, b"history 1 1\n", b"0 drop 0.0 = done\n", 1_048_575);
-    let mut text = ample(&rt, drops);
-    let unended = Err((1_048_577, HistoryKind::End));
-    expect_equal(&rt, read(&rt, &text), Some(unended));
-    ample(&rt, text.extend_from_slice(b"end 1048575\n"));
-    let long = Err((1_048_577, HistoryKind::Line(Kind::Long)));
-    expect_equal(&rt, read(&rt, &text), Some(long));
 }
 
 #[test]

@@ -7,6 +7,8 @@ mod blocks;
 #[cfg(test)]
 mod dumps;
 #[cfg(test)]
+mod errors;
+#[cfg(test)]
 mod expectations;
 #[cfg(test)]
 mod failed_calls;
@@ -24,8 +26,6 @@ mod places;
 mod reading_dumps;
 #[cfg(test)]
 mod sessions;
-#[cfg(test)]
-mod sizes;
 #[cfg(test)]
 mod texts;
 #[cfg(test)]

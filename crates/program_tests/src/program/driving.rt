@@ -1,8 +1,7 @@
 //! The program's commands, over a text and two writers.
 
-use crate::expectations::{Row, expect_bytes, expect_equal, expect_prefix};
+use crate::expectations::{expect_bytes, expect_equal, expect_prefix};
 use rh_cli::{Ask, PLAIN, Subcommand, drive};
-use samples::devices::InterruptedReader;
 use samples::texts::without_last_line;
 use std::alloc::Allocator;
 use std::io::{Read, Write};
@@ -111,44 +110,6 @@ pub fn drives_to<R: AllocGlobal + Abort + Threads + Wait + Sync>(
 ) {
     let (ended, out, err) = driven(rt, rt.alloc(), ask, text);
     expect_ended(rt, (ended, &out, &err), status, answers, told);
-}
-
-/// Does what is asked where the read of this number, counted from 1, comes to the end, and each
-/// other is interrupted. Expects so many reads, and what is told.
-fn expect_reads<R: AllocGlobal + Abort + Threads + Wait + Sync>(
-    rt: &R,
-    ask: &Ask<'_>,
-    ends_at: u32,
-    reads: u32,
-    told: &[u8],
-) {
-    let mut reader = InterruptedReader { reads: 0, ends_at };
-    let mut out = Vec::new(rt.alloc());
-    let mut err = Vec::new(rt.alloc());
-    let status = status_of(rt, rt.alloc(), ask, &mut reader, &mut out, &mut err);
-    expect_equal(rt, (status, reader.reads, out.len()), (1, reads, 0));
-    expect_bytes(rt, &err, told);
-}
-
-#[test]
-fn reads_of_traces_and_histories_end(rt: HostRuntime) {
-    for (row, ask) in [RUN, PACED, THREADS, REPLAY].iter().enumerate() {
-        let rt = Row { rt: &rt, row };
-        expect_reads(&rt, ask, 33_554_432, 33_554_432, b"rheap: line 1: Empty\n");
-        expect_reads(&rt, ask, 33_554_433, 33_554_432, b"rheap: read failed\n");
-    }
-}
-
-/// So many reads take their time, so that only the one too many is tried, and not the last.
-#[test]
-fn reads_of_dumps_end(rt: HostRuntime) {
-    expect_reads(
-        &rt,
-        &DUMP,
-        536_870_913,
-        536_870_912,
-        b"rheap: read failed\n",
-    );
 }
 
 /// Does what is asked, and expects this status, these answers and what is told, or that memory was

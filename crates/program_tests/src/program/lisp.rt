@@ -486,9 +486,6 @@ const SESSION: Ask<'static> = Ask {
 /// Entries of which the second one stops.
 const ENTRIES: &[u8] = b"(display 1)\n(car 5)\n23\n";
 
-/// An entry of two lines, which prints 3 and a line end.
-const TWO_LINES: &[u8] = b"(+ 1\n 2)\n";
-
 /// Holds a session, and expects that it ends so and tells this.
 fn expect_held<T, R, W>(rt: &T, reader: &mut R, out: &mut W, (status, told): (u8, &[u8]))
 where
@@ -591,22 +588,4 @@ fn allocations_of_a_session_are_refused_further_and_further_on(rt: HostRuntime) 
         nth = nth.saturating_add(1 + nth / 4);
     }
     assert!(rt; 1_000 < nth, "{nth} allocations");
-}
-
-#[test]
-fn each_allocation_of_an_entry_of_two_lines_is_refused_in_turn(rt: HostRuntime) {
-    let begun = asked_in_session(&rt, b"");
-    let all = asked_in_session(&rt, TWO_LINES);
-    assert!(rt;
-        begun.saturating_add(10) < all,
-        "{begun} and {all} allocations"
-    );
-    for nth in begun..all {
-        let nth = nth.saturating_add(1);
-        expect_equal(
-            &rt,
-            is_refused_in_session(&rt, (TWO_LINES, b"3\n"), nth),
-            true,
-        );
-    }
 }

@@ -1,12 +1,8 @@
 //! Reading and printing traces.
 
-use crate::expectations::{Row, ample, expect_bytes, expect_equal, expect_prefix};
-use crate::parts::{Part, text_of};
-use crate::texts::{
-    DUMPS, FOUR_CYCLES, LARGE_TRAYS, LONG_HEADER, LONG_LINE, RAW_OBJECT, TOO_MANY, TWO_EPOCHS,
-    WATCHED,
-};
-use rh_trace::{Kind, Line, ParseError, Request, Trace, TraceFault, Write, parse, print};
+use crate::expectations::{Row, expect_bytes, expect_equal, expect_prefix};
+use crate::texts::{DUMPS, FOUR_CYCLES, LARGE_TRAYS, RAW_OBJECT, TOO_MANY, TWO_EPOCHS, WATCHED};
+use rh_trace::{Line, Request, Trace, Write, parse, print};
 use samples::devices::SlowWriter;
 use samples::texts::{JOINED, WHOLE_CYCLE, WITHOUT_FIELDS};
 use std::process::Abort;
@@ -170,30 +166,4 @@ fn prints_what_was_parsed(rt: HostRuntime) {
     for (row, &text) in PRINTED.iter().enumerate() {
         expect_printed_again(&Row { rt: &rt, row }, text);
     }
-}
-
-/// The greatest trace.
-const GREATEST: &[Part] = &[Part::Once(LONG_HEADER), Part::Times(1_048_575, LONG_LINE)];
-
-/// Expects the greatest trace to be read, and printed as it was.
-fn expect_greatest(rt: &(impl AllocGlobal + Abort), text: &[u8]) {
-    expect_equal(rt, text.len(), 16_777_216);
-    let trace = parse(rt.alloc(), text).ok().expect(rt, "a trace");
-    expect_equal(rt, trace.len(), 1_048_575);
-    let mut printed = Vec::new(rt.alloc());
-    expect_equal(rt, print(&trace, &mut printed), Ok(()));
-    assert!(rt; printed.as_slice() == text);
-}
-
-#[test]
-fn the_greatest_trace(rt: HostRuntime) {
-    let mut text = text_of(&rt, GREATEST);
-    expect_greatest(&rt, &text);
-    ample(&rt, text.extend_from_slice(b"\n"));
-    let long = TraceFault {
-        line: 1_048_577,
-        kind: Kind::Long,
-    };
-    let found = parse(rt.alloc(), &text).err();
-    assert!(rt; matches!(found, Some(ParseError::Fault(found)) if found == long));
 }

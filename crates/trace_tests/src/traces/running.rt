@@ -155,62 +155,6 @@ fn a_trace_has_64_trays(rt: HostRuntime) {
     expect_long_run(&rt, MANY_TRAYS, MANY_TRAYS_ANSWERS, 1000);
 }
 
-/// The greatest trace, its answers, and what these add up to.
-const GREATEST: &[Part] = &[Part::Once(LONG_HEADER), Part::Times(1_048_575, LONG_LINE)];
-
-const GREATEST_ANSWERS: &[Part] = &[
-    Part::Times(1_048_575, LONG_ANSWER),
-    Part::Once(b"total commands 1048575 refused 0 flips 0 rootwords 0\n"),
-];
-
-const GREATEST_SUMMARY: Summary = Summary {
-    commands: 1_048_575,
-    refused: 0,
-    flips: 0,
-    root_words: 0,
-};
-
-/// Ends the test unless a run of a trace has this outcome and writes these answers.
-fn expect_outcome(
-    rt: &(impl AllocGlobal + Abort),
-    text: &[u8],
-    outcome: Result<Summary, RunFault>,
-    answers: &[u8],
-) {
-    let mut written = Vec::new(rt.alloc());
-    let ended = run_trace(rt.alloc(), &mut { text }, &mut written);
-    expect_equal(rt, ended, outcome);
-    assert!(rt; written.as_slice() == answers);
-}
-
-#[test]
-fn the_greatest_trace(rt: HostRuntime) {
-    let mut text = text_of(&rt, GREATEST);
-    let answers = text_of(&rt, GREATEST_ANSWERS);
-    expect_outcome(&rt, &text, Ok(GREATEST_SUMMARY), &answers);
-    ample(&rt, text.extend_from_slice(b"\n"));
-    expect_outcome(&rt, &text, Err(RunFault::Long), b"");
-}
-
-#[test]
-fn interrupted_writes_are_made_again(rt: HostRuntime) {
-    // How many of two writes each are interrupted, and what that comes to.
-    let table = [
-        (1, None, WITHOUT_FIELDS_ANSWERS, 6),
-        (2, Some(RunFault::Write), b"".as_slice(), 33_554_432),
-    ];
-    for (row, &(interrupted, fault, answers, writes)) in table.iter().enumerate() {
-        let rt = Row { rt: &rt, row };
-        let mut reader = WITHOUT_FIELDS;
-        let mut writer = SlowWriter::new(&rt, 1000, 0);
-        writer.interrupted = interrupted;
-        let outcome = run_trace(rt.alloc(), &mut reader, &mut writer);
-        expect_equal(&rt, outcome.err(), fault);
-        expect_bytes(&rt, &writer.text, answers);
-        expect_equal(&rt, writer.writes, writes);
-    }
-}
-
 /// How many writes a run made before memory was refused, if it was: then what is written is a
 /// prefix of the answers before their total line.
 fn writes_of(

@@ -1,40 +1,17 @@
-//! Sizes at which nothing lacks memory, and the texts of errors.
+//! Dumps of the greatest sizes, and heaps of more than a million objects.
 
-use crate::expectations::{ample, expect_equal, expect_texts};
-use rh_core::{Config, DealError, GiveError, Heap};
+use crate::expectations::{ample, expect_equal};
+use rh_core::{Config, Heap};
 use rh_dump::limits::MAX_OBJECTS;
 use rh_dump::{Graph, plain_graph, read_dump, same_text, write_dump};
-use rh_layout::{Command, Operand, Reply, RootId};
+use rh_layout::{Command, Operand, RootId};
 use rh_model::Plain;
-use rh_replay::{Recorder, RecorderError, TraceFull, Verdict, check};
-use rh_trace::{DealRefusal, GiveRefusal, JoinRefusal, graph};
+use rh_trace::graph;
 use std::process::Abort;
 
 const A: RootId = RootId { owner: 1, slot: 0 };
 
 const B: RootId = RootId { owner: 1, slot: 1 };
-
-/// The most calls that a history may have.
-const MOST_CALLS: u32 = 1_048_576;
-
-/// Notes as many calls as there may be. One more is refused.
-fn note_all(rt: &impl Abort, recorder: &mut Recorder) {
-    let drop = Command::Drop { root: A };
-    for _ in 0..MOST_CALLS {
-        expect_equal(rt, recorder.note(1, &drop, Ok(Reply::Done)), Ok(()));
-    }
-    let full = recorder.note(1, &drop, Ok(Reply::Done));
-    expect_equal(rt, full, Err(TraceFull));
-}
-
-#[test]
-fn the_greatest_history(rt: HostRuntime) {
-    let recorder = Recorder::new(rt.alloc(), 2, 2, MOST_CALLS).ok();
-    let mut recorder = recorder.expect(&rt, "a recorder");
-    note_all(&rt, &mut recorder);
-    let verdict = check(rt.alloc(), recorder.history()).ok();
-    expect_equal(&rt, verdict, Some(Verdict::Legal(MOST_CALLS)));
-}
 
 /// Adds the line of an object of a chain to a dump: it has ten fields.
 fn add_object(rt: &(impl AllocGlobal + Abort), text: &mut Vec<u8>, n: u32) {
@@ -124,39 +101,4 @@ fn expect_same_chain(rt: &(impl AllocGlobal + Abort), plain: &mut Plain) {
 fn a_chain_of_a_million_objects(rt: HostRuntime) {
     let plain = Plain::new(rt.alloc(), 2, 2).ok();
     expect_same_chain(&rt, &mut plain.expect(&rt, "a plain heap"));
-}
-
-/// Why there is no recorder.
-const RECORDERS: &[(RecorderError, &str)] = &[
-    (RecorderError::BadRoots, "BadRoots"),
-    (RecorderError::BadHistory, "BadHistory"),
-    (RecorderError::OutOfMemory, "out of memory"),
-];
-
-/// Why nothing is dealt into a tray.
-const DEALS: &[(DealRefusal, &str)] = &[
-    (DealRefusal::TooManyTrays, "TooManyTrays"),
-    (DealRefusal::OtherEpoch, "OtherEpoch"),
-    (DealRefusal::Heap(DealError::NothingToDeal), "NothingToDeal"),
-];
-
-/// Why a tray isn't given.
-const GIVES: &[(GiveRefusal, &str)] = &[
-    (GiveRefusal::NoTray, "NoTray"),
-    (GiveRefusal::Heap(GiveError::TooMany), "TooMany"),
-];
-
-/// Why no tray is joined into another.
-const JOINS: &[(JoinRefusal, &str)] = &[
-    (JoinRefusal::NoTray, "NoTray"),
-    (JoinRefusal::TooManyTrays, "TooManyTrays"),
-];
-
-#[test]
-fn texts_of_errors(rt: HostRuntime) {
-    expect_texts(&rt, RECORDERS);
-    expect_texts(&rt, &[(TraceFull, "TraceFull")]);
-    expect_texts(&rt, DEALS);
-    expect_texts(&rt, GIVES);
-    expect_texts(&rt, JOINS);
 }
