@@ -195,6 +195,10 @@ const EXPLAINED: &[(&[u8], &[u8])] = &[
         b"(display \"a)\")\n (if)",
         b"p:2:2: bad form\n2 |  (if)\n     ^^^^\nthe form has another number of parts, or a part is no list: rheap lisp --help has it\n",
     ),
+    (
+        b"(list nosuch\"x\")",
+        b"p:1:7: nosuch: unbound variable\n1 | (list nosuch\"x\")\n          ^^^^^^\nthe name has no value yet: (define NAME VALUE) gives it one\n",
+    ),
 ];
 
 /// Runs a program that stops, or is none, and expects that its form there is shown.
