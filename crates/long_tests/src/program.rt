@@ -1,8 +1,9 @@
-//! Reads of the program that run out.
+//! Reads of the program that run out, and a dump that is too long.
 
-use crate::expectations::{Row, expect_bytes, expect_equal};
-use rh_cli::{Ask, PLAIN, Subcommand, drive};
+use crate::expectations::{Row, ample, expect_bytes, expect_equal};
+use rh_cli::{Ask, KeptReader, PLAIN, Subcommand, drive, drive_explained};
 use samples::devices::InterruptedReader;
+use samples::texts::repeated;
 use std::process::Abort;
 use std::sync::Wait;
 use std::thread::Threads;
@@ -65,4 +66,57 @@ fn reads_of_traces_and_histories_end(rt: HostRuntime) {
 fn reads_of_dumps_end(rt: HostRuntime) {
     let told = b"rheap: read failed\n";
     expect_reads(&rt, Subcommand::Dump, 536_870_913, 536_870_912, told);
+}
+
+/// Adds the line of an object of a dump: it refers to the next, and has 4,094 numbers.
+fn add_object(rt: &(impl AllocGlobal + Abort), text: &mut Vec<u8>, n: u32, numbers: &[u8]) {
+    let next = n.saturating_add(1);
+    let line = ample(rt, format!(in rt.alloc(); "@{n} 4095 @{next}"));
+    ample(rt, text.extend_from_slice(line.as_bytes()));
+    ample(rt, text.extend_from_slice(numbers));
+}
+
+/// A dump that passes its most bytes in the line of its object 3,121.
+fn long_dump(rt: &(impl AllocGlobal + Abort)) -> Vec<u8> {
+    let numbers = repeated(rt, b"", b" -2305843009213693952", 4_094);
+    let mut numbers = ample(rt, numbers);
+    ample(rt, numbers.extend_from_slice(b"\n"));
+    let mut text = Vec::new(rt.alloc());
+    let first = b"rheap 2\nroots 1\n1.0 @0\nobjects 3200\n".as_slice();
+    ample(rt, text.extend_from_slice(first));
+    for n in 0..3_125u32 {
+        add_object(rt, &mut text, n, &numbers);
+    }
+    text
+}
+
+/// The line that passes the most bytes, as it is shown.
+const LONG_DUMP: &[u8] = b"rheap: line 3126: Long
+3126 | @3121 4095 @3122 -2305843009213693952 -2305843009213693952 -23058430092136..
+       ^^^^^^^^^^^^^^^^^^^^^^^^^^^^^^^^^^^^^^^^^^^^^^^^^^^^^^^^^^^^^^^^^^^^^^^^^^
+a dump has at most 268435456 bytes
+";
+
+/// Reads a dump, and answers the status and what is told. No test needs what `drive_explained`
+/// promises beside it.
+fn explained<R: AllocGlobal + Threads + Wait + Sync>(rt: &R, dump: &[u8]) -> (u8, Vec<u8>) {
+    let ask = Ask {
+        subcommand: Subcommand::Dump,
+        file: "-",
+        explain: true,
+        views: PLAIN,
+    };
+    let mut reader = KeptReader::new(rt.alloc(), dump);
+    let mut out = Vec::new(rt.alloc());
+    let mut err = Vec::new(rt.alloc());
+    let status = drive_explained(rt, rt.alloc(), &ask, &mut reader, &mut out, &mut err);
+    (status, err)
+}
+
+#[test]
+fn a_dump_that_is_too_long_is_shown(rt: HostRuntime) {
+    let dump = long_dump(&rt);
+    let (status, told) = explained(&rt, &dump);
+    expect_equal(&rt, status, 1);
+    expect_bytes(&rt, &told, LONG_DUMP);
 }
