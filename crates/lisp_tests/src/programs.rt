@@ -6,6 +6,7 @@ use refusing::RefusingAllocator;
 use rh_growing::GrowingHeap;
 use rh_lisp::{Fault, FaultKind, Outcome, Printed, Program, ReadKind};
 use rh_pace::{PacedHeap, Sizes};
+use samples::texts::repeated;
 use std::alloc::{Allocator, Global};
 use std::process::Abort;
 use std::rt::HostRuntime;
@@ -314,6 +315,8 @@ const FAULTS: &[(&[u8], &[u8])] = &[
     (b"(1 #;)", b"1:6: unexpected )"),
     (b"(cond (1 2) . 3)", b"1:1: bad form"),
     (b"(if)", b"1:1: bad form"),
+    (b"1 `(2 `(3 ,4))", b"1:3: bad form"),
+    (b"`#(1 `2)", b"1:1: bad form"),
     (b"(quote 1 2)", b"1:1: bad form"),
     (b"(define x 1 2)", b"1:1: bad form"),
     (b"(display (let ((x)) x))", b"1:10: bad form"),
@@ -509,6 +512,24 @@ fn expect_faults<R: AllocGlobal + Abort>(rt: &R, texts: &[(&[u8], &[u8])]) {
 #[test]
 fn texts_that_are_no_programs_have_their_first_faults(rt: HostRuntime) {
     expect_faults(&rt, FAULTS);
+}
+
+/// A call of so many operands, on the second line.
+fn call_of<R: AllocGlobal + Abort>(rt: &R, operands: u32) -> Vec<u8> {
+    let text = repeated(rt, b"1\n(list", b" 1", operands);
+    let mut text = text.expect(rt, "memory is ample");
+    let ended = text.extend_from_slice(b")");
+    ended.expect(rt, "memory is ample");
+    text
+}
+
+#[test]
+fn a_call_of_too_many_operands_is_told_at_its_place(rt: HostRuntime) {
+    let fault = fault_of(rt.alloc(), &call_of(&rt, 4_095), 9, 9);
+    let due = b"2:1: too many variables";
+    expect_fault(&rt, fault.expect(&rt, "a fault"), due);
+    let fault = fault_of(rt.alloc(), &call_of(&rt, 4_094), 9, 9);
+    assert!(rt; fault.is_none());
 }
 
 /// The program for whose making memory is refused.

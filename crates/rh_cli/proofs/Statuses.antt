@@ -66,6 +66,9 @@ usual_open fault is = inl (ap status_of is)
 pub usual_write : (fault : LineFault) → fault ≡ faults.Write → IsUsualFault fault
 usual_write fault is = inl (ap status_of is)
 
+pub usual_same : (fault : LineFault) → fault ≡ faults.SameFile → IsUsualFault fault
+usual_same fault is = inl (ap status_of is)
+
 pub usual_memory : (fault : LineFault) → fault ≡ faults.OutOfMemory → IsUsualFault fault
 usual_memory fault is = inr (ap status_of is)
 
@@ -86,6 +89,9 @@ fault_at_most_4 faults.Idle = omega arith
 fault_at_most_4 faults.Line = omega arith
 fault_at_most_4 faults.Shell = omega arith
 fault_at_most_4 faults.Views = omega arith
+fault_at_most_4 faults.Crossed = omega arith
+fault_at_most_4 faults.SessionCycles = omega arith
+fault_at_most_4 faults.SameFile = omega arith
 fault_at_most_4 faults.Words = omega arith
 fault_at_most_4 faults.Steps = omega arith
 fault_at_most_4 (faults.Program kind) = omega arith

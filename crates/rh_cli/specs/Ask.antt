@@ -282,7 +282,7 @@ steps_given (Some text) = number_of text
 abbrev pub lisp_within : Option Text → Option Text → Limits → Result Subcommand LineFault
 lisp_within cycles (Some file) limits = Ok (Lisp limits)
 lisp_within None None limits = Ok (LispSession limits)
-lisp_within (Some out) None limits = Err faults.Views
+lisp_within (Some out) None limits = Err faults.SessionCycles
 
 -- that on such a heap with so many steps, or the fault of the first that is none
 abbrev pub lisp_with : Option Text → Option Text → Option HeapWords → Option ℕ
@@ -385,7 +385,7 @@ is_crossed given =
 abbrev pub command_asked : Text → Options → Result Subcommand LineFault
 command_asked name given =
     if nat_lt 1 (output_texts given) then Err faults.Views
-    else (if is_crossed given then Err faults.Views else command_named name given)
+    else (if is_crossed given then Err faults.Crossed else command_named name given)
 
 -- how what is done is told, by the flags
 abbrev pub telling_of : Bool → Bool → Telling

@@ -15,7 +15,7 @@ arguments_status DisplayVersion = 0
 arguments_status kind = 2
 
 -- 0 done, 1 a fault in the file or an error of a program, sizes that make no heap, no pace, no such
--- line, or a failed open, read or write, 2 the command line, 3 memory or a thread was refused, 4 a
+-- line, a failed open, read or write, or a text for a file that has another, 2 the command line, 3 memory or a thread was refused, 4 a
 -- history that differs
 abbrev pub status_of : LineFault → ℕ
 status_of (faults.Arguments error) = arguments_status (kind_of error)
@@ -28,6 +28,8 @@ status_of faults.Idle = 2
 status_of faults.Line = 2
 status_of faults.Shell = 2
 status_of faults.Views = 2
+status_of faults.Crossed = 2
+status_of faults.SessionCycles = 2
 status_of faults.Words = 2
 status_of faults.Steps = 2
 status_of (faults.Trace fault) = 1
@@ -41,6 +43,7 @@ status_of (faults.Program kind) = 1
 status_of faults.Stopped = 1
 status_of (faults.Pace why) = 1
 status_of faults.Open = 1
+status_of faults.SameFile = 1
 status_of faults.Read = 1
 status_of faults.Write = 1
 status_of faults.TooLong = 1
@@ -70,6 +73,8 @@ IsArgumentsFault faults.Idle = ⊤
 IsArgumentsFault faults.Line = ⊤
 IsArgumentsFault faults.Shell = ⊤
 IsArgumentsFault faults.Views = ⊤
+IsArgumentsFault faults.Crossed = ⊤
+IsArgumentsFault faults.SessionCycles = ⊤
 IsArgumentsFault faults.Words = ⊤
 IsArgumentsFault faults.Steps = ⊤
 IsArgumentsFault faults.OutOfMemory = ⊤
@@ -93,6 +98,8 @@ IsEarlyFault faults.Idle = ⊤
 IsEarlyFault faults.Line = ⊤
 IsEarlyFault faults.Shell = ⊤
 IsEarlyFault faults.Views = ⊤
+IsEarlyFault faults.Crossed = ⊤
+IsEarlyFault faults.SessionCycles = ⊤
 IsEarlyFault faults.Words = ⊤
 IsEarlyFault faults.Steps = ⊤
 IsEarlyFault faults.Open = ⊤

@@ -46,10 +46,15 @@ pub enum LineFault {
     #[error("rheap: completions needs a shell: bash, zsh or fish")]
     Shell,
     /// More than one of `--cycles -`, `--history -`, `--echo`, `--json` and `--dot` is given, of
-    /// which each has standard output for a text of its own; or a text is for the file that is read,
-    /// or two are for one file; or `lisp` has `--cycles` and no file, a session.
-    #[error("rheap: --echo, --json, --dot and OUT - can't stand together, OUT is a file of its own, and a session of lisp has none")]
+    /// which each has standard output for a text of its own.
+    #[error("rheap: --echo, --json, --dot and OUT - can't stand together: each has standard output")]
     Views,
+    /// A text is for the file that is read, or two are for one file, by their names.
+    #[error("rheap: OUT is a file of its own, neither FILE nor another OUT")]
+    Crossed,
+    /// `lisp` has `--cycles` and no file, a session.
+    #[error("rheap: --cycles of lisp needs FILE: a session has none")]
+    SessionCycles,
     /// `--heap` and `--grow` of `lisp` stand together, or the value of one isn't a number of words, 0
     /// to 4,294,967,295.
     #[error("rheap: --heap or --grow needs a number of words, 0 to 4294967295, and not both stand")]
@@ -95,6 +100,10 @@ pub enum LineFault {
     /// isn't legal.
     #[error("rheap: history differs")]
     HistoryDiffers,
+    /// A text is for the file that is read, for that of another text, or for that to which standard
+    /// output goes, which has another name, or none. All files are as they were.
+    #[error("rheap: OUT is FILE, another OUT or standard output, by another name")]
+    SameFile,
     /// A read failed, or as many as may be made didn't come to the end: 33,554,432 of a trace or a
     /// history, 536,870,912 of a dump.
     #[error("rheap: read failed")]
@@ -123,6 +132,7 @@ impl LineFault {
             LineFault::Arguments(_) | LineFault::NoText | LineFault::Incomplete => 2,
             LineFault::Mark | LineFault::Grow | LineFault::Replicators | LineFault::Idle => 2,
             LineFault::Line | LineFault::Shell | LineFault::Views => 2,
+            LineFault::Crossed | LineFault::SessionCycles => 2,
             LineFault::Words | LineFault::Steps => 2,
             LineFault::OutOfMemory => 3,
             LineFault::HistoryDiffers => 4,

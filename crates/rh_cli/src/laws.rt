@@ -174,8 +174,9 @@ pub fn status_2_says_that_the_command_line_is_not_understood()
         → (fault ≡ FaultOf.NoText) ⊎ ((fault ≡ FaultOf.Incomplete) ⊎ ((fault ≡ FaultOf.Mark)
         ⊎ ((fault ≡ FaultOf.Grow) ⊎ ((fault ≡ FaultOf.Replicators) ⊎ ((fault ≡ FaultOf.Idle)
         ⊎ ((fault ≡ FaultOf.Line) ⊎ ((fault ≡ FaultOf.Shell) ⊎ ((fault ≡ FaultOf.Views)
+        ⊎ ((fault ≡ FaultOf.Crossed) ⊎ ((fault ≡ FaultOf.SessionCycles)
         ⊎ ((fault ≡ FaultOf.Words) ⊎ ((fault ≡ FaultOf.Steps)
-        ⊎ ((error : ClapError) × (fault ≡ FaultOf.Arguments error)))))))))))) }
+        ⊎ ((error : ClapError) × (fault ≡ FaultOf.Arguments error)))))))))))))) }
     ensures no_text { status_of FaultOf.NoText ≡ 2 }
     ensures incomplete { status_of FaultOf.Incomplete ≡ 2 }
     ensures mark { status_of FaultOf.Mark ≡ 2 }
@@ -185,6 +186,8 @@ pub fn status_2_says_that_the_command_line_is_not_understood()
     ensures line { status_of FaultOf.Line ≡ 2 }
     ensures shell { status_of FaultOf.Shell ≡ 2 }
     ensures views { status_of FaultOf.Views ≡ 2 }
+    ensures crossed { status_of FaultOf.Crossed ≡ 2 }
+    ensures session_cycles { status_of FaultOf.SessionCycles ≡ 2 }
     ensures words { status_of FaultOf.Words ≡ 2 }
     ensures steps { status_of FaultOf.Steps ≡ 2 }
     // What clap refuses has 2, unless it asks for help or the version, which is no mistake.
@@ -367,9 +370,9 @@ pub fn worked_command_lines()
           history = None;
         } }
     ensures lisp_session_cycles { command_and_file_of (codes "rheap" ∷ codes "lisp"
-        ∷ codes "--cycles=c" ∷ []) ≡ Err FaultOf.Views }
+        ∷ codes "--cycles=c" ∷ []) ≡ Err FaultOf.SessionCycles }
     ensures lisp_crossed { command_and_file_of (codes "rheap" ∷ codes "lisp" ∷ codes "x"
-        ∷ codes "--cycles=x" ∷ []) ≡ Err FaultOf.Views }
+        ∷ codes "--cycles=x" ∷ []) ≡ Err FaultOf.Crossed }
     ensures lisp_mark { false
         ≡ is_taken (codes "rheap" ∷ codes "lisp" ∷ codes "x" ∷ codes "--mark=7" ∷ []) }
     ensures session_file { false ≡ is_taken (codes "rheap" ∷ codes "shell" ∷ codes "x" ∷ []) }
@@ -388,9 +391,9 @@ pub fn worked_command_lines()
     ensures echo_output { command_and_file_of (codes "rheap" ∷ codes "run" ∷ codes "x"
         ∷ codes "--echo" ∷ codes "--cycles=-" ∷ []) ≡ Err FaultOf.Views }
     ensures crossed { command_and_file_of (codes "rheap" ∷ codes "run" ∷ codes "x"
-        ∷ codes "--history=x" ∷ []) ≡ Err FaultOf.Views }
+        ∷ codes "--history=x" ∷ []) ≡ Err FaultOf.Crossed }
     ensures crossed_texts { command_and_file_of (codes "rheap" ∷ codes "run" ∷ codes "x"
-        ∷ codes "--history=h" ∷ codes "--cycles=h" ∷ []) ≡ Err FaultOf.Views }
+        ∷ codes "--history=h" ∷ codes "--cycles=h" ∷ []) ≡ Err FaultOf.Crossed }
     ensures piped { command_and_file_of (codes "rheap" ∷ codes "run" ∷ codes "-"
         ∷ codes "--history=-" ∷ []) ≡ Ok (SubcommandOf.Run, codes "-") }
     ensures echo_dump { false

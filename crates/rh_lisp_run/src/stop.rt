@@ -95,7 +95,7 @@ fn of_problem(problem: Problem) -> &'static str {
         Problem::Overflow => "numbers are from -2^60 to 2^60 - 1",
         Problem::Output => "a program puts out 1048576 characters and names at most",
         Problem::Steps => "--steps says how many instructions may be done",
-        Problem::Arguments => "a call has 4094 operands at most",
+        Problem::Arguments => "a call has some 4090 operands at most",
         _ => "the heap has too few owners or slots",
     }
 }

@@ -5,7 +5,7 @@ ghost use Rattle.std.specs.List.{list_any};
 ghost use Rattle.rh_shell.specs.Session.{kind_name, size_fault_name, IsFaultLine};
 
 use rh_core::ConfigFault;
-use rh_explain::fault_part;
+use rh_explain::{Why, fault_part};
 use rh_explained::{Told, config_spot};
 use rh_text::{LineText, is_text};
 use rh_trace::Kind;
@@ -16,6 +16,10 @@ const MOST_SENTENCE: usize = 200;
 
 /// What is told where a line needs a heap and none was made.
 const NO_HEAP: &[u8] = b"the first line is heap WORDS RATIO LOG OWNERS SLOTS";
+
+/// What is told of a line that begins with no command and none of a session's own words.
+const NO_COMMAND: &[u8] =
+    b"no such command: help lists them, and the end of input ends the session";
 
 /// The name of a fault of a line.
 pub(crate) fn kind_name(kind: Kind) -> &'static [u8]
@@ -127,6 +131,9 @@ pub(crate) fn put_line_fault<A: Allocator + Copy>(
         return;
     }
     match fault_part(number, line, ended) {
+        Some(part) if matches!(part.why, Why::Unknown) => {
+            put_fault(text, kind_name(kind), NO_COMMAND)
+        }
         Some(part) => put_told(alloc, text, kind_name(kind), Told::Line(part.why)),
         None => put_fault(text, kind_name(kind), b""),
     }

@@ -90,9 +90,9 @@ fault: Cut: the line has no line end: a line feed ends each line
 total commands 2 refused 0 flips 0 rootwords 0
 ";
 
-/// Files of pictures, and a word that is nearly a command.
+/// Files of pictures, a word that is nearly a command, and one that is none.
 const FILES: &[u8] =
-    b"heap 32 8 8 1 2\ndraw heap.svg\ndraw \ndraw \xff\ndraw\nhelp me\ncycles 2\n1 allok 0.0 1\n";
+    b"heap 32 8 8 1 2\ndraw heap.svg\ndraw \ndraw \xff\ndraw\nhelp me\ncycles 2\n1 allok 0.0 1\nquit\n";
 
 const FILES_ANSWERS: &[u8] = b"\
 drawn
@@ -102,6 +102,7 @@ fault: Word: draw FILE
 fault: Word: help stands alone
 fault: Word: cycles stands alone
 fault: Word: no such command; did you mean alloc?
+fault: Word: no such command: help lists them, and the end of input ends the session
 total commands 0 refused 0 flips 0 rootwords 0
 ";
 
