@@ -10,6 +10,20 @@ pub const TWO_FLIPS_ANSWERS: &[u8] =
     b"object 2\nobject 2\nobject 2\nobject 2\nobject 2\nobject 2\nobject 2\nobject 2\n\
         object 2\nobject 2\nobject 2\ntotal commands 11 refused 0 flips 2 rootwords 2\n";
 
+/// What is told of views that can't stand together.
+pub const VIEWS_FAULT: &[u8] =
+    b"rheap: --echo, --json, --dot and OUT - can't stand together: each has standard output\n";
+
+/// What is told of a text for the file of another, and of the cycles of a session.
+pub const CROSSED_FAULT: &[u8] = b"rheap: OUT is a file of its own, neither FILE nor another OUT\n";
+
+pub const SESSION_FAULT: &[u8] = b"rheap: --cycles of lisp needs FILE: a session has none\n";
+
+/// What the trace without fields is told as with each line.
+pub const WITHOUT_FIELDS_ECHO: &[u8] =
+    b"2\t1 alloc 1.0 0\tobject 0\n3\t1 load 1.1 1.0 0\trefused NoField\n\
+        total commands 2 refused 1 flips 0 rootwords 0\n";
+
 /// How often a byte stands in a text.
 pub fn count_of(text: &[u8], wanted: u8) -> usize {
     text.iter().filter(|byte| **byte == wanted).count()

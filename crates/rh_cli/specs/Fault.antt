@@ -15,8 +15,8 @@ arguments_status DisplayVersion = 0
 arguments_status kind = 2
 
 -- 0 done, 1 a fault in the file or an error of a program, sizes that make no heap, no pace, no such
--- line, a failed open, read or write, or a text for a file that has another, 2 the command line, 3 memory or a thread was refused, 4 a
--- history that differs
+-- line, a failed open, read or write, or a text for a file that has another, 2 the command line, 3
+-- memory or a thread was refused, 4 a history that differs
 abbrev pub status_of : LineFault → ℕ
 status_of (faults.Arguments error) = arguments_status (kind_of error)
 status_of faults.NoText = 2

@@ -58,8 +58,8 @@ struct Options<'a> {
 /// or `--steps` with a value that is no number below 2^32; `Line` where `draw` has `--line` with a
 /// value that is no number from 1 below 2^32;
 /// `Shell` where `completions` is asked for another shell than bash, zsh and fish; `Views` where
-/// two texts are for standard output, two for one file, or one for the file that is read, or where
-/// `lisp` has `--cycles` and no file;
+/// two texts are for standard output, and then `Crossed` where two are for one file, or one for the
+/// file that is read; `SessionCycles` where `lisp` has `--cycles` and no file;
 /// `OutOfMemory` where memory was refused.
 pub fn read_words<'a>(alloc: Global, arguments: &'a [&'a str]) -> Result<Ask<'a>, LineFault>
     // The request has the command and the file that clap's parse of the arguments holds.
@@ -328,7 +328,7 @@ fn command_asked(name: &str, given: Options<'_>) -> Result<Subcommand, LineFault
         return Err(LineFault::Views);
     }
     if is_crossed(&given) {
-        return Err(LineFault::Views);
+        return Err(LineFault::Crossed);
     }
     command_named(name, given)
 }

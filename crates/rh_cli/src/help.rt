@@ -117,10 +117,12 @@ more was refused; LogFull too, where N is at most 349000 times RATIO.
 
 A run can be seen in other ways. --echo or --json, --history and --cycles can stand together, but
 standard output has one text alone. OUT is a file, or - for standard output in place of answers. It
-keeps what it had until its text comes: a FILE that has a fault leaves it as it was.
+keeps what it had until its text comes: a FILE that has a fault leaves it as it was. FILE and each
+OUT are files of their own.
   --echo         of each line but the first its number, its text and its answer, with tabs between
   --json         objects of JSON, one a line; a fault is one too
-  --history OUT  the commands that no limit refused, with their answers: `rheap replay` reads it
+  --history OUT  the commands that no limit refused, with their answers: `rheap replay` reads it, if
+                 it has at most 16777216 bytes
   --cycles OUT   a line of numbers for each cycle as it ends, with tabs between, and a head line
 
 Statuses:
@@ -142,6 +144,7 @@ file's line comes after it, carets under the part that is wrong, and what may st
   open failed    the file isn't there, or may not be read
   read failed    it is a folder, or its device failed
   write failed   standard output or an OUT is closed or full, can't be made, or its device failed
+  OUT is ..      it is FILE, another OUT or where standard output goes, by another name
   too long       the file has more than 16777216 bytes
   out of memory  the status is 3
 
@@ -300,11 +303,12 @@ Dumps and faults are described in docs/formats.md.";
 
 /// What the help of `draw` ends with.
 pub const DRAW: &str = "\
-The trace is one that `rheap run` runs. It is played up to line N, of which the first is the heap's,
-and the heap is drawn as it stands then: roots at the left, objects as rows of their fields, what a
-cycle has placed and held, and the log. Of more than 4096 words in use, 300 entries of the log, 300
-objects, or 300 roots that aren't nil it has bars of its words alone, and says of what there is too
-much. A number that is too long for its cell is cut; a browser shows it whole. Answers aren't printed.
+The trace is one that `rheap run` runs without --paced. It is played up to line N, of which the first
+is the heap's, and the heap is drawn as it stands then: roots at the left, objects as rows of their
+fields, what a cycle has placed and held, and the log. Of more than 4096 words in use, 300 entries of
+the log, 300 objects, or 300 roots that aren't nil it has bars of its words alone, and says of what
+there is too much. A number that is too long for its cell is cut; a browser shows it whole. Answers
+aren't printed.
 `rheap draw FILE --line 7 >FILE.svg` makes a picture that any browser shows.
 
 On failure standard error has one line, as `run` has it, and also
@@ -349,14 +353,14 @@ and prints the same on each heap that is large enough.
 
 Values      whole numbers from -2^60 to 2^60 - 1, booleans, characters of a byte, symbols, pairs,
             strings, vectors, procedures
-Forms       define lambda if cond case and or when unless let, named let, let* letrec do begin set!
-            quote quasiquote
+Forms       define lambda if cond case and or when unless let, named let, let* letrec letrec* do
+            begin set! quote quasiquote, which stands in no other
 Numbers     + - * quotient remainder modulo = < <= > >= abs max min zero? positive? negative? even?
             odd? number? number->string
 Lists       cons car cdr set-car! set-cdr! pair? null? list list? length append reverse list-tail
             list-ref memq memv member assq assv assoc map for-each apply
-Others      eq? eqv? equal? not boolean? symbol? procedure? call/cc, what reads and makes characters,
-            strings and vectors, display write newline error
+Others      eq? eqv? equal? not boolean? symbol? procedure? integer? call/cc, what reads and makes
+            characters, strings and vectors, display write newline error
 
 What differs from R7RS: numbers are whole, and what passes them is an error. Vectors and strings
 have at most 4094 elements. There are no macros, no ports and no dynamic-wind. A continuation that
@@ -395,8 +399,9 @@ Statuses:
 A program that stops has printed what it printed before, and standard error has one line, as
 `FILE:3:15: car: not a pair`, with the line and the column of the form that was done. Where that is
 in a procedure of the language, the place is that of the program's last call, but for calls of
-functions that one definition gives. With --explain, and always on a terminal, the line of the
-program comes after it, carets under the form, and what may stand there. So are told
+functions that one definition gives, or before its first form one in `prelude`. With --explain, and
+always on a terminal, the line of the program comes after it, carets under the form, and what may
+stand there. So are told
 
   unbound variable, not a pair, not a number, not a procedure, not a vector, not a string,
   not a character, wrong number of arguments, too many arguments, out of range, division by zero,

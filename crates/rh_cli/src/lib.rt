@@ -23,6 +23,7 @@ mod lisp_arguments;
 mod lisp_cycles;
 mod lisp_explaining;
 mod lisp_session;
+mod one_file;
 mod options;
 mod output_file;
 mod outputs;

@@ -117,7 +117,7 @@ fn lisp_within(
         Some(_) => Ok(Subcommand::Lisp { limits }),
         None => match cycles {
             None => Ok(Subcommand::LispSession { limits }),
-            Some(_) => Err(LineFault::Views),
+            Some(_) => Err(LineFault::SessionCycles),
         },
     }
 }

@@ -95,7 +95,7 @@ where
     ensures late { IfOk result (λ status. IsLateStatus status) }
     ensures refused { IfErr result (λ fault. fault ≡ LineFault.OutOfMemory) }
 {
-    let (out, _, cycles) = match outputs_of(rt, &ask.views) {
+    let (out, _, cycles) = match outputs_of(rt, ask.file, &ask.views) {
         Ok(outputs) => outputs,
         Err(fault) => return Ok(tell(&fault, err)),
     };

@@ -1,11 +1,12 @@
 //! Where the texts of a request go: standard output, a file, or nowhere.
 
-ghost use Rattle.std.specs.Prelude.{◌≡◌, option_map, IfOk, IfErr};
+ghost use Rattle.std.specs.Prelude.{◌≡◌, ◌⊎◌, option_map, IfOk, IfErr};
 ghost use Rattle.rh_cli.specs.Outputs.{GoesTo, answers_file};
 
 use crate::arguments::is_output;
 use crate::ask::Views;
 use crate::fault::LineFault;
+use crate::one_file::are_crossed;
 use crate::output_file::{OutputFile, output_file};
 use either::{Either, Left, Right};
 use std::io::{self, Printer, Sink};
@@ -55,10 +56,12 @@ where
     output_of(rt, Some("-"))
 }
 
-/// Where the texts of views go: the answers, the history and the cycles. That a file has the name
+/// Where the texts of views go: the answers, the history and the cycles, where this file is read.
+/// Nothing is written where one of them would go to the file of another. That a file has the name
 /// that is given for it no clause says.
 pub(crate) fn outputs_of<'a, R>(
     rt: &'a R,
+    file: &str,
     views: &Views<'_>,
 ) -> Result<(Output<'a, R>, Output<'a, R>, Output<'a, R>), LineFault>
 where
@@ -70,10 +73,14 @@ where
         GoesTo (option_map (λ t. t.now) views.now.history) outputs.1) }
     ensures cycles { IfOk result (λ outputs.
         GoesTo (option_map (λ t. t.now) views.now.cycles) outputs.2) }
-    ensures write { IfErr result (λ fault. fault ≡ LineFault.Write) }
+    ensures refused { IfErr result (λ fault.
+        (fault ≡ LineFault.Write) ⊎ (fault ≡ LineFault.SameFile)) }
 {
     let answers = answers_output(rt, views)?;
     let history = output_of(rt, views.history)?;
     let cycles = output_of(rt, views.cycles)?;
+    if are_crossed(rt, file, views) {
+        return Err(LineFault::SameFile);
+    }
     Ok((answers, history, cycles))
 }

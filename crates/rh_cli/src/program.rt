@@ -359,7 +359,7 @@ where
     ensures late { IfOk result (λ status. IsLateStatus status) }
     ensures early { IfErr result (λ fault. IsUsualFault fault) }
 {
-    let (out, history, mut cycles) = outputs_of(rt, &ask.views)?;
+    let (out, history, mut cycles) = outputs_of(rt, ask.file, &ask.views)?;
     let (mut out, mut history) = gathering_both(rt.alloc(), out, history)?;
     Ok(drive_viewed(
         threads,

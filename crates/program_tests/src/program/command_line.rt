@@ -1,6 +1,7 @@
 //! The program, from its arguments to its status.
 
 use crate::expectations::{Row, expect_bytes, expect_equal, expect_prefix};
+use crate::texts::{CROSSED_FAULT, SESSION_FAULT, VIEWS_FAULT, WITHOUT_FIELDS_ECHO};
 use rh_cli::{Ask, LineFault, PLAIN, Subcommand, Terminals, play, read_words, tell};
 use samples::terminal::Terminal;
 use samples::texts::{COLUMNS, WITHOUT_FIELDS, WITHOUT_FIELDS_ANSWERS};
@@ -449,15 +450,6 @@ const EXPLAINED: &[Call<'static>] = &[
     ),
 ];
 
-/// What is told of views that can't stand together.
-const VIEWS_FAULT: &[u8] =
-    b"rheap: --echo, --json, --dot and OUT - can't stand together, OUT is a file of its own, and a session of lisp has none\n";
-
-/// What the trace without fields is told as with each line.
-const WITHOUT_FIELDS_ECHO: &[u8] =
-    b"2\t1 alloc 1.0 0\tobject 0\n3\t1 load 1.1 1.0 0\trefused NoField\n\
-        total commands 2 refused 1 flips 0 rootwords 0\n";
-
 /// What views come to: texts on standard output, files that can't be opened or made, and options
 /// that can't be taken. A fault is an object where JSON is asked for.
 const VIEWED: &[Call<'static>] = &[
@@ -535,7 +527,7 @@ const VIEWED: &[Call<'static>] = &[
         &[b"rheap", b"run", b"-", b"--history=a", b"--cycles=a"],
         2,
         b"",
-        VIEWS_FAULT,
+        CROSSED_FAULT,
     ),
     (
         &[b"rheap", b"run", b"-", b"--history=-", b"--cycles=-"],
@@ -547,7 +539,7 @@ const VIEWED: &[Call<'static>] = &[
         &[b"rheap", b"run", b"a", b"--json", b"--cycles", b"a"],
         2,
         b"",
-        VIEWS_FAULT,
+        CROSSED_FAULT,
     ),
     (
         &[b"rheap", b"dump", b"-", b"--dot", b"--json"],
@@ -657,12 +649,12 @@ const PROGRAMS: &[Call<'static>] = &[
         b"",
         b"rheap: write failed\n",
     ),
-    (&[b"rheap", b"lisp", b"--cycles=a"], 2, b"", VIEWS_FAULT),
+    (&[b"rheap", b"lisp", b"--cycles=a"], 2, b"", SESSION_FAULT),
     (
         &[b"rheap", b"lisp", b"a", b"--cycles=a"],
         2,
         b"",
-        VIEWS_FAULT,
+        CROSSED_FAULT,
     ),
     (
         &[b"rheap", b"lisp", b"-", b"--cycles"],
@@ -769,7 +761,7 @@ fn expect_faults_told<R: AllocGlobal + Abort>(rt: &R, faults: &[(LineFault, u8, 
 
 #[test]
 fn faults_before_a_run_are_told(rt: HostRuntime) {
-    let table: [(LineFault, u8, &[u8]); 14] = [
+    let table: [(LineFault, u8, &[u8]); 17] = [
         (LineFault::Open, 1, b"rheap: open failed\n"),
         (
             LineFault::NoText,
@@ -788,6 +780,13 @@ fn faults_before_a_run_are_told(rt: HostRuntime) {
             b"rheap: completions needs a shell: bash, zsh or fish\n",
         ),
         (LineFault::Views, 2, VIEWS_FAULT),
+        (LineFault::Crossed, 2, CROSSED_FAULT),
+        (LineFault::SessionCycles, 2, SESSION_FAULT),
+        (
+            LineFault::SameFile,
+            1,
+            b"rheap: OUT is FILE, another OUT or standard output, by another name\n",
+        ),
         (LineFault::Words, 2, WORDS_FAULT),
         (LineFault::Steps, 2, STEPS_FAULT),
         (LineFault::NoLine, 1, b"rheap: draw: NoLine\n"),

@@ -360,6 +360,14 @@ const SESSIONS: &[(&[&[u8]], &[u8], u8, &[u8], &[u8])] = &[
         b"a2\n",
         b"-:2:33: car: not a pair\n",
     ),
+    // Where an entry before stops no form is shown, since its text isn't kept.
+    (
+        &[b"rheap", b"lisp", b"--explain"],
+        b"(define (f x)\n (car x))\n(f 5)\n(list 1 (f\n 6) (cdr 7))\n",
+        0,
+        b"",
+        b"-:2:2: car: not a pair\na pair is due here: cons makes one, and () is none\n-:2:2: car: not a pair\na pair is due here: cons makes one, and () is none\n",
+    ),
     // A text that is no program changes nothing.
     (
         &[b"rheap", b"lisp"],

@@ -1,0 +1,53 @@
+//! Whether names are those of one file.
+
+use crate::ask::Views;
+use crate::program::is_standard_input;
+use std::fs::metadata;
+use std::os::unix::fs::MetadataExt;
+use std::rt::Files;
+
+/// The names under which the system has the files that standard input and output go to.
+const INPUT: &str = "/dev/stdin";
+
+const OUTPUT: &str = "/dev/stdout";
+
+/// Whether both names are of one file, no device and no pipe. A name that can't be looked up is of none.
+fn is_one_file<R: Files>(rt: &R, name: &str, other: &str) -> bool {
+    let Ok(one) = metadata(rt, name) else {
+        return false;
+    };
+    let Ok(other) = metadata(rt, other) else {
+        return false;
+    };
+    one.is_file() && one.dev() == other.dev() && one.ino() == other.ino()
+}
+
+/// Whether a text would go to the file that is read, or to that to which standard output goes.
+fn is_taken<R: Files>(rt: &R, file: &str, out: Option<&str>) -> bool {
+    let Some(name) = out else {
+        return false;
+    };
+    if name == "-" {
+        return false;
+    }
+    let read = if is_standard_input(file) { INPUT } else { file };
+    is_one_file(rt, name, read) || is_one_file(rt, name, OUTPUT)
+}
+
+/// Whether a text of the views would go to the file that is read, to that to which standard output
+/// goes, or to that of the other, by whatever names.
+pub(crate) fn are_crossed<R: Files>(rt: &R, file: &str, views: &Views<'_>) -> bool {
+    if is_taken(rt, file, views.history) {
+        return true;
+    }
+    if is_taken(rt, file, views.cycles) {
+        return true;
+    }
+    let Some(history) = views.history else {
+        return false;
+    };
+    let Some(cycles) = views.cycles else {
+        return false;
+    };
+    is_one_file(rt, history, cycles)
+}
