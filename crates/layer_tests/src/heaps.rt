@@ -5,6 +5,7 @@ mod drawing;
 mod giving;
 mod headline;
 mod heap;
+mod random_pictures;
 mod raw_objects;
 mod resizing;
 mod runs;

@@ -11,6 +11,8 @@ mod heaps;
 #[cfg(test)]
 mod layers;
 #[cfg(test)]
+mod numbers;
+#[cfg(test)]
 mod paced;
 #[cfg(test)]
 mod refusals;

@@ -1,6 +1,6 @@
 //! Pictures of heaps: that they are well-formed, and show what the heap's readers tell.
 
-use crate::commands::{SIZES, expect_accepted, store};
+use crate::commands::{SIZES, expect_accepted, root, store};
 use crate::expectations::{Row, expect_equal, expect_refusals};
 use refusing::refused_in_turn;
 use rh_core::{Config, Heap, Kind, Shaded};
@@ -50,7 +50,7 @@ fn expect_well_formed<R: AllocGlobal + Abort>(rt: &R, text: &str) {
 }
 
 /// The bytes of a heap's picture.
-fn picture<R: AllocGlobal + Abort>(rt: &R, heap: &Heap) -> Vec<u8> {
+pub fn picture<R: AllocGlobal + Abort>(rt: &R, heap: &Heap) -> Vec<u8> {
     let mut text = Vec::new(rt.alloc());
     expect_equal(rt, draw(rt.alloc(), heap, "a < b & c", &mut text), Ok(()));
     text
@@ -69,18 +69,32 @@ fn references(heap: &Heap) -> usize {
     found
 }
 
-/// What to-space has.
-#[derive(Clone, Copy)]
-struct Held {
-    /// The fields of which a pair is held.
-    pairs: usize,
-    /// Those of which none is.
-    missing: usize,
-    /// Those of which a reference is held.
-    references: usize,
+/// The roots that aren't nil, and those of them that hold a reference.
+fn roots_of(heap: &Heap) -> (usize, usize) {
+    let (mut all, mut found): (usize, usize) = (0, 0);
+    let sizes = heap.config();
+    for owner in 0..sizes.owners {
+        for slot in 0..sizes.slots {
+            let value = heap.root(root(owner, slot)).unwrap_or(Value::Nil);
+            all = all.saturating_add((value != Value::Nil).into());
+            found = found.saturating_add(value.is_reference().into());
+        }
+    }
+    (all, found)
 }
 
-fn held_in(heap: &Heap) -> Held {
+/// What to-space has.
+#[derive(Clone, Copy)]
+pub struct Held {
+    /// The fields of which a pair is held.
+    pub pairs: usize,
+    /// Those of which none is.
+    pub missing: usize,
+    /// Those of which a reference is held.
+    pub references: usize,
+}
+
+pub fn held_in(heap: &Heap) -> Held {
     let mut held = Held {
         pairs: 0,
         missing: 0,
@@ -117,12 +131,13 @@ fn objects_in(heap: &Heap) -> usize {
     found
 }
 
-/// The boxes, arrows, filled, empty and hatched fields, and entries, that the heap's readers tell,
-/// and how often a picture has each.
-fn shown_of(heap: &Heap) -> [(&str, usize); 10] {
+/// The boxes, arrows, filled, empty and hatched fields, roots and entries that the heap's readers
+/// tell, and how often a picture has each.
+fn shown_of(heap: &Heap) -> [(&str, usize); 12] {
     let stat = heap.stat();
     let held = held_in(heap);
     let objects = objects_in(heap);
+    let (roots, root_arrows) = roots_of(heap);
     let old = (stat.missing as usize).saturating_sub(held.missing);
     let past = stat.log.saturating_sub(heap.undealt(Kind::Entries));
     [
@@ -138,6 +153,8 @@ fn shown_of(heap: &Heap) -> [(&str, usize); 10] {
             "class='reference'",
             references(heap).saturating_add(held.references),
         ),
+        ("class='root-box'", roots),
+        ("class='root'", root_arrows),
         ("class='placed'", stat.placed as usize),
         ("class='missing'", held.missing),
         ("class='old'", old),
@@ -166,7 +183,7 @@ fn expect_parts<R: AllocGlobal + Abort>(rt: &R, heap: &Heap, wanted: &[(&str, us
 
 /// Ends the test unless the heap's picture is well-formed, and shows what the heap's readers tell.
 /// What its legend has isn't counted.
-fn expect_shown<R: AllocGlobal + Abort>(rt: &R, heap: &Heap) {
+pub fn expect_shown<R: AllocGlobal + Abort>(rt: &R, heap: &Heap) {
     let bytes = picture(rt, heap);
     let text = str::from_utf8(&bytes).ok().expect(rt, "text");
     expect_well_formed(rt, text);
