@@ -46,6 +46,10 @@ const PROGRAMS: &[(&[u8], &[u8])] = &[
         b"(1 2 4 9 4)",
     ),
     (
+        b"(define x 5) (write `(1 ,`(2 ,x) quasiquote)) (write `(quasiquote 1 2))",
+        b"(1 (2 5) quasiquote)(quasiquote 1 2)",
+    ),
+    (
         b"(define v (make-vector 3 0)) (vector-set! v 1 'x) (write v) (write (vector-length v)) (write '#(1 (2)))",
         b"#(0 x 0)3#(1 (2))",
     ),
@@ -514,22 +518,28 @@ fn texts_that_are_no_programs_have_their_first_faults(rt: HostRuntime) {
     expect_faults(&rt, FAULTS);
 }
 
-/// A call of so many operands, on the second line.
-fn call_of<R: AllocGlobal + Abort>(rt: &R, operands: u32) -> Vec<u8> {
-    let text = repeated(rt, b"1\n(list", b" 1", operands);
+/// A call that begins so and goes on with so many operands.
+fn call_of<R: AllocGlobal + Abort>(rt: &R, begin: &[u8], operands: u32) -> Vec<u8> {
+    let text = repeated(rt, begin, b" 1", operands);
     let mut text = text.expect(rt, "memory is ample");
     let ended = text.extend_from_slice(b")");
     ended.expect(rt, "memory is ample");
     text
 }
 
+/// How calls begin on the second line, of the language's own and of a function that is known.
+const CALLS: &[&[u8]] = &[b"1\n(list", b"(define (f x) x)\n(f"];
+
 #[test]
 fn a_call_of_too_many_operands_is_told_at_its_place(rt: HostRuntime) {
-    let fault = fault_of(rt.alloc(), &call_of(&rt, 4_095), 9, 9);
     let due = b"2:1: too many variables";
-    expect_fault(&rt, fault.expect(&rt, "a fault"), due);
-    let fault = fault_of(rt.alloc(), &call_of(&rt, 4_094), 9, 9);
-    assert!(rt; fault.is_none());
+    for (row, &begin) in CALLS.iter().enumerate() {
+        let rt = Row { rt: &rt, row };
+        let fault = fault_of(rt.alloc(), &call_of(&rt, begin, 4_095), 9, 9);
+        expect_fault(&rt, fault.expect(&rt, "a fault"), due);
+        let fault = fault_of(rt.alloc(), &call_of(&rt, begin, 4_094), 9, 9);
+        assert!(rt; fault.is_none());
+    }
 }
 
 /// The program for whose making memory is refused.

@@ -101,8 +101,9 @@ pub enum LineFault {
     #[error("rheap: history differs")]
     HistoryDiffers,
     /// A text is for the file that is read, for that of another text, or for that to which standard
-    /// output goes, which has another name, or none. All files are as they were.
-    #[error("rheap: OUT is FILE, another OUT or standard output, by another name")]
+    /// output or error goes, which has another name, or none. All files are as they were. One that
+    /// wasn't there is made, and empty.
+    #[error("rheap: OUT is FILE, another OUT, or where standard output or error goes")]
     SameFile,
     /// A read failed, or as many as may be made didn't come to the end: 33,554,432 of a trace or a
     /// history, 536,870,912 of a dump.

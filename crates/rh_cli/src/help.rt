@@ -144,7 +144,7 @@ file's line comes after it, carets under the part that is wrong, and what may st
   open failed    the file isn't there, or may not be read
   read failed    it is a folder, or its device failed
   write failed   standard output or an OUT is closed or full, can't be made, or its device failed
-  OUT is ..      it is FILE, another OUT or where standard output goes, by another name
+  OUT is ..      it is FILE, another OUT, or where standard output or error goes, by another name
   too long       the file has more than 16777216 bytes
   out of memory  the status is 3
 
@@ -412,7 +412,8 @@ A text that is no program is told in the same way, before anything runs:
   unexpected ), unfinished, misplaced dot, number out of range, no such datum, bad form, not a name,
   too many globals, too many variables, program too long
 
-On other failures standard error has one line, as `rheap: open failed`; of the heap
+On other failures standard error has one line, as `rheap: open failed`, or `rheap: OUT is ..` where
+OUT is FILE or where standard output or error goes, by another name; of the heap
   grow: BadLimits         WORDS of --grow is above 16777216
   pace: TooSmall need N   WORDS of --heap or --grow is below N
   heap: BadSpace          WORDS of --heap is above 16777216

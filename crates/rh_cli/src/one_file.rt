@@ -6,10 +6,12 @@ use std::fs::metadata;
 use std::os::unix::fs::MetadataExt;
 use std::rt::Files;
 
-/// The names under which the system has the files that standard input and output go to.
+/// The names under which the system has the files of standard input, output and error.
 const INPUT: &str = "/dev/stdin";
 
 const OUTPUT: &str = "/dev/stdout";
+
+const ERROR: &str = "/dev/stderr";
 
 /// Whether both names are of one file, no device and no pipe. A name that can't be looked up is of none.
 fn is_one_file<R: Files>(rt: &R, name: &str, other: &str) -> bool {
@@ -22,7 +24,8 @@ fn is_one_file<R: Files>(rt: &R, name: &str, other: &str) -> bool {
     one.is_file() && one.dev() == other.dev() && one.ino() == other.ino()
 }
 
-/// Whether a text would go to the file that is read, or to that to which standard output goes.
+/// Whether a text would go to the file that is read, or to one to which standard output or error
+/// goes.
 fn is_taken<R: Files>(rt: &R, file: &str, out: Option<&str>) -> bool {
     let Some(name) = out else {
         return false;
@@ -31,11 +34,11 @@ fn is_taken<R: Files>(rt: &R, file: &str, out: Option<&str>) -> bool {
         return false;
     }
     let read = if is_standard_input(file) { INPUT } else { file };
-    is_one_file(rt, name, read) || is_one_file(rt, name, OUTPUT)
+    is_one_file(rt, name, read) || is_one_file(rt, name, OUTPUT) || is_one_file(rt, name, ERROR)
 }
 
-/// Whether a text of the views would go to the file that is read, to that to which standard output
-/// goes, or to that of the other, by whatever names.
+/// Whether a text of the views would go to the file that is read, to one to which standard output or
+/// error goes, or to that of the other, by whatever names.
 pub(crate) fn are_crossed<R: Files>(rt: &R, file: &str, views: &Views<'_>) -> bool {
     if is_taken(rt, file, views.history) {
         return true;
@@ -49,5 +52,5 @@ pub(crate) fn are_crossed<R: Files>(rt: &R, file: &str, views: &Views<'_>) -> bo
     let Some(cycles) = views.cycles else {
         return false;
     };
-    is_one_file(rt, history, cycles)
+    history != "-" && cycles != "-" && is_one_file(rt, history, cycles)
 }

@@ -52,14 +52,14 @@ fn form_length(bytes: &[u8]) -> usize
         match *byte {
             _ if is_plain => {}
             b'"' if is_string && depth == 0 => return index + 1,
-            b'"' | b'(' if is_atom && !is_string => return index,
+            b'"' | b'(' | b'\'' | b'`' | b',' if is_atom && !is_string => return index,
             b'"' => is_string = !is_string,
             _ if is_string => {}
             b'(' => depth = depth.saturating_add(1),
             b')' if depth > 1 => depth -= 1,
             b')' if depth == 1 || index == 0 => return index + 1,
             b')' | b';' => return index,
-            b' ' | b'\t' if depth == 0 => return index,
+            b' ' | b'\t' | b'\r' if depth == 0 => return index,
             // What stands before a form is no atom.
             b'\'' | b'`' | b',' | b'@' | b'#' => {}
             _ => is_atom = depth == 0,

@@ -120,9 +120,11 @@ fn of_fault(kind: FaultKind) -> &'static str {
     match kind {
         FaultKind::Name => "a name is due here",
         FaultKind::Globals => "names, quoted lists and strings are 4095 at most in all",
-        FaultKind::Variables => "a procedure has some 4090 variables and waiting operands at most",
+        FaultKind::Variables =>
+            "a procedure has some 4090 variables and waiting operands at most, and a call so many operands",
         FaultKind::Elements => "a vector or a string has 4094 elements at most",
         FaultKind::Long => "the program is too long",
-        _ => "the form has another number of parts, or a part is no list: rheap lisp --help has it",
+        _ =>
+            "the form has another number of parts, or a part may not stand there: rheap lisp --help has it",
     }
 }

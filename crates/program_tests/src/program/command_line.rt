@@ -785,7 +785,7 @@ fn faults_before_a_run_are_told(rt: HostRuntime) {
         (
             LineFault::SameFile,
             1,
-            b"rheap: OUT is FILE, another OUT or standard output, by another name\n",
+            b"rheap: OUT is FILE, another OUT, or where standard output or error goes\n",
         ),
         (LineFault::Words, 2, WORDS_FAULT),
         (LineFault::Steps, 2, STEPS_FAULT),

@@ -193,11 +193,19 @@ const EXPLAINED: &[(&[u8], &[u8])] = &[
     ),
     (
         b"(display \"a)\")\n (if)",
-        b"p:2:2: bad form\n2 |  (if)\n     ^^^^\nthe form has another number of parts, or a part is no list: rheap lisp --help has it\n",
+        b"p:2:2: bad form\n2 |  (if)\n     ^^^^\nthe form has another number of parts, or a part may not stand there: rheap lisp --help has it\n",
     ),
     (
         b"(list nosuch\"x\")",
         b"p:1:7: nosuch: unbound variable\n1 | (list nosuch\"x\")\n          ^^^^^^\nthe name has no value yet: (define NAME VALUE) gives it one\n",
+    ),
+    (
+        b"(list nosuch'x)",
+        b"p:1:7: nosuch: unbound variable\n1 | (list nosuch'x)\n          ^^^^^^\nthe name has no value yet: (define NAME VALUE) gives it one\n",
+    ),
+    (
+        b"(list 1 \"\\q\"nosuch)",
+        b"p:1:9: no such escape\n1 | (list 1 \"\\q\"nosuch)\n            ^^^^\nafter \\ in a string stands n, t, r, a, b, \", \\, x41; or a line end\n",
     ),
 ];
 
