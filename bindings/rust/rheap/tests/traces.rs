@@ -1,61 +1,107 @@
 //! Runs the traces of the repository's examples, and compares the answers with those beside them,
-//! which are what the program `rheap run` prints.
+//! which are what the program `rheap run` prints. A trace that no call runs is left out, and named.
+//! examples/c/check chooses by the same rules (`way_of`).
 
 use rheap::{run, run_paced, TraceError};
 use std::fs;
 use std::num::NonZeroU32;
 use std::path::{Path, PathBuf};
 
-/// The traces of the examples, but those that ask for a heap that grows: no call runs these.
+/// Why a trace is left out that asks for `--grow`.
+const GROWS: &str = "no call runs a trace on a heap that grows";
+
+/// Why a trace is left out that asks for a view of its run, and has answers.
+const VIEWED: &str = "the answers beside it are a view of the run, which no call gives";
+
+/// A call that runs a whole trace.
+#[derive(Clone, Copy)]
+enum Call {
+    Run,
+    RunPaced(Option<NonZeroU32>),
+}
+
+/// The traces of the examples, in order of their names.
 fn traces() -> Vec<PathBuf> {
     let folder = Path::new(env!("CARGO_MANIFEST_DIR")).join("../../../examples");
     let files = fs::read_dir(&folder).unwrap_or_else(|e| panic!("{}: {e}", folder.display()));
     let paths = files.map(|file| file.expect("a file has a path").path());
-    paths
+    let mut traces: Vec<PathBuf> = paths
         .filter(|path| path.extension().is_some_and(|end| end == "trace"))
-        .filter(|path| !options_of(path).is_some_and(|options| options.contains("--grow")))
-        .collect()
+        .collect();
+    traces.sort();
+    traces
 }
 
-/// The options of a trace, if it has any.
-fn options_of(path: &Path) -> Option<String> {
-    fs::read_to_string(path.with_extension("options")).ok()
+/// Whether the program tells a fault of the trace, in place of answers.
+fn has_fault(trace: &Path) -> bool {
+    trace.with_extension("told").exists()
 }
 
-/// The mark that the options of a run name, which are those of a paced one.
-fn mark_of(options: &str) -> Option<NonZeroU32> {
-    let words: Vec<&str> = options.split(' ').collect();
-    match words[..] {
-        ["--paced"] => None,
-        ["--paced", "--mark", mark] => Some(mark.parse().expect("a mark is a number above 0")),
-        _ => panic!("no options of a paced run: {options}"),
+/// The call that runs a trace as its options ask, or why none does.
+///
+/// A call doesn't tell what a fault is. So what only tells it in another way is passed over:
+/// `--explain`, and a view of a fault.
+fn call_for(trace: &Path) -> Result<Call, &'static str> {
+    let file = trace.with_extension("options");
+    let options = fs::read_to_string(&file).unwrap_or_default();
+    let mut call = Call::Run;
+    let mut why = None;
+    for option in options.split("--").map(str::trim) {
+        match option.split_once(' ').unwrap_or((option, "")) {
+            ("" | "explain", "") => {}
+            ("paced", "") => call = Call::RunPaced(None),
+            ("mark", mark) => {
+                let mark = mark.parse().expect("a mark is a number above 0");
+                call = Call::RunPaced(Some(mark));
+            }
+            ("grow", _) => why = why.or(Some(GROWS)),
+            ("echo" | "json", "") | ("history" | "cycles", "-") => {
+                why = why.or((!has_fault(trace)).then_some(VIEWED));
+            }
+            _ => panic!("{}: the option --{option} isn't known here", file.display()),
+        }
     }
+    why.map_or(Ok(call), Err)
 }
 
+/// Makes the call, and compares what it returns with what stands beside the trace.
+fn play(trace: &Path, call: Call) {
+    let text = fs::read(trace).expect("the trace is there");
+    let got = match call {
+        Call::Run => run(&text),
+        Call::RunPaced(mark) => run_paced(&text, mark),
+    };
+    let due = if has_fault(trace) {
+        Err(TraceError::Fault)
+    } else {
+        Ok(fs::read(trace.with_extension("answers")).expect("the answers are there"))
+    };
+    assert_eq!(got, due, "{}", trace.display());
+}
+
+/// What is left out is printed, and bindings/rust/check prints it again.
 #[test]
 fn the_examples_are_answered_as_the_program_does() {
-    let (mut done, mut paced, mut faults) = (0, 0, 0);
-    for path in traces() {
-        let trace = fs::read(&path).expect("the trace is there");
-        let got = match options_of(&path) {
-            None => run(&trace),
-            Some(options) => {
-                paced += 1;
-                run_paced(&trace, mark_of(options.trim()))
+    let (mut plain, mut paced, mut faults) = (0, 0, 0);
+    for trace in traces() {
+        let call = match call_for(&trace) {
+            Ok(call) => call,
+            Err(why) => {
+                let name = trace.file_name().expect("a trace has a name");
+                println!("{} is left out: {why}", name.to_string_lossy());
+                continue;
             }
         };
-        if path.with_extension("told").exists() {
-            assert_eq!(got, Err(TraceError::Fault), "{}", path.display());
-            faults += 1;
-        } else {
-            let due = fs::read(path.with_extension("answers")).expect("the answers are there");
-            assert_eq!(got.as_ref(), Ok(&due), "{}", path.display());
-            done += 1;
+        play(&trace, call);
+        match call {
+            _ if has_fault(&trace) => faults += 1,
+            Call::Run => plain += 1,
+            Call::RunPaced(_) => paced += 1,
         }
     }
     assert!(
-        done > 25 && paced > 4 && faults > 4,
-        "{done} {paced} {faults}"
+        plain >= 40 && paced >= 3 && faults >= 13,
+        "{plain} {paced} {faults}"
     );
 }
 
