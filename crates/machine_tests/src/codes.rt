@@ -1,7 +1,7 @@
 //! Code of the register machine, compiled by hand. Functions lend it, so that no proof of a test
 //! writes it out.
 
-use rh_machine::{Index, Instruction, Number, Operation, Register, Relation, Source, When};
+use rh_code::{Index, Instruction, Number, Operation, Register, Relation, Source, When};
 
 /// The function `tak` of 14, 9 and 5. A frame has its three numbers and two results, a
 /// continuation that before it, its frame and where the code goes on. The last call is a jump.

@@ -1,13 +1,11 @@
 //! Runs of one code on each kind of heap.
 
 use crate::codes::{count, digits, list, tak};
+use rh_code::{Code, CodeFault, Index, Instruction, Number, Operation, Position, Register, When};
 use rh_core::{Config, Heap};
 use rh_growing::{GrowingHeap, Growth, Short};
 use rh_layout::Refusal;
-use rh_machine::{
-    AnsweringHeap, Code, CodeFault, Ending, Index, Instruction, Number, Operation, Position,
-    Register, RegisterMachine, When, run,
-};
+use rh_machine::{AnsweringHeap, Ending, RegisterMachine, run};
 use rh_pace::{PacedHeap, Sizes};
 use std::alloc::Allocator;
 use std::process::Abort;

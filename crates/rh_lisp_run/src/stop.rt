@@ -2,8 +2,8 @@
 
 ghost use Rattle.std.specs.Prelude.{◌≡◌, ◌↔◌, None, IfSome};
 
+use rh_code::Position;
 use rh_lisp::{Fault, FaultKind, Outcome, Problem, ReadKind, Source, Why};
-use rh_machine::Position;
 
 /// Why a program stopped, or why a text is none.
 #[derive(Clone, Copy, PartialEq, Eq)]
