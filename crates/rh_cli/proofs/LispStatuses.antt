@@ -11,12 +11,12 @@ use Rattle.rh_lisp_run.specs.Run.{IsNewMachine, IsRun, LispEnds}
 use Rattle.rh_lisp_run.specs.Session.{GoesOn, SessionEnds}
 use Rattle.rh_lisp_run.specs.declared.fault.LispFault.{LispFault}
 use Rattle.rh_lisp_run.specs.declared.fault.LispFault.TheVariants as lisp_faults
-use Rattle.rh_lisp_run.specs.declared.limits.Limits.{Limits}
+use Rattle.rh_choices.specs.declared.limits.Limits.{Limits}
 use Rattle.rh_cli.specs.Drive.{Concludes}
-use Rattle.rh_cli.specs.Fault.{IsLateStatus}
+use Rattle.rh_commands.specs.Fault.{IsLateStatus}
 use Rattle.rh_cli.specs.Lisp.{ConcludesLisp, ConcludesLispCycles, ConcludesLispSession, IsLispSessionStatus, IsLispStatus, lisp_status, outcome_in}
-use Rattle.rh_cli.specs.declared.ask.Subcommand.{Subcommand}
-use Rattle.rh_cli.specs.declared.ask.Subcommand.TheVariants.{LispSession}
+use Rattle.rh_command_line.specs.declared.ask.Subcommand.{Subcommand}
+use Rattle.rh_command_line.specs.declared.ask.Subcommand.TheVariants.{LispSession}
 
 lisp_fault_is_1_or_3 : (fault : LispFault) → (lisp_status fault ≡ 1) ⊎ (lisp_status fault ≡ 3)
 lisp_fault_is_1_or_3 lisp_faults.Read = inl refl

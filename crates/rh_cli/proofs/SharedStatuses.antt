@@ -10,7 +10,7 @@ use Rattle.rh_shared_trace.specs.declared.fault.SharedRunFault.{SharedRunFault}
 use Rattle.rh_shared_trace.specs.declared.fault.SharedRunFault.TheVariants as faults
 use Rattle.rh_shared_trace.specs.declared.options.RunOptions.{RunOptions}
 use Rattle.rh_shared_trace.specs.Run.{Ends, IsHistoryOf, IsSharedRun}
-use Rattle.rh_cli.specs.Shared.{ConcludesShared, IsSharedStatus, shared_status}
+use Rattle.rh_commands.specs.Shared.{ConcludesShared, IsSharedStatus, shared_status}
 
 -- the status after a fault of a shared run is one of 1, 3 and 4
 shared_fault_is_1_3_or_4 : (fault : SharedRunFault) → (shared_status fault ≡ 1) ⊎ ((shared_status fault ≡ 3) ⊎ (shared_status fault ≡ 4))

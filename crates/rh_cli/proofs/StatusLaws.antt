@@ -23,37 +23,42 @@ use Rattle.rh_trace.specs.Run.{Ends, StopsBeforeTotal, run_of, text_of}
 use Rattle.rh_trace.specs.declared.run_fault.RunFault.{RunFault}
 use Rattle.rh_trace.specs.declared.run_fault.RunFault.TheVariants as run_faults
 use Rattle.rh_trace.specs.declared.summary.Summary.{Summary}
-use Rattle.rh_cli.specs.Count.{DumpEnds, IsCountStatus, IsSentStatus, counts_line}
-use Rattle.rh_cli.specs.Draw.{DrawEnds, SentEnds}
-use Rattle.rh_cli.specs.Drive.{Concludes, IsRunStatus, run_status}
-use Rattle.rh_cli.specs.Fault.{arguments_status, ending_status, status_of, IsLateStatus}
+use Rattle.rh_commands.specs.Count.{DumpEnds, IsCountStatus, IsSentStatus, counts_line}
+use Rattle.rh_commands.specs.Draw.{DrawEnds, SentEnds}
+use Rattle.rh_cli.specs.Drive.{Concludes}
+use Rattle.rh_commands.specs.Run.{IsRunStatus, run_status}
+use Rattle.rh_command_line.specs.Fault.{arguments_status, line_status}
+use Rattle.rh_command_line.specs.declared.fault.CommandLineFault.{CommandLineFault}
+use Rattle.rh_command_line.specs.declared.fault.CommandLineFault.TheVariants as line_faults
+use Rattle.rh_command_line.specs.lemmas.Statuses.{line_at_most_2}
+use Rattle.rh_commands.specs.Fault.{ending_status, status_of, IsLateStatus}
 use Rattle.rh_syntax.specs.Spelling.{Script}
 use Rattle.rh_pace.specs.declared.pace.Pace.{Pace}
 use Rattle.rh_paced_trace.specs.Run.{Ends as PacedEnds, IsRun, text_of as paced_text_of}
 use Rattle.rh_paced_trace.specs.Growing.{EndsGrowing, IsGrowingRun, growing_text_of}
-use Rattle.rh_cli.specs.Paced.{ConcludesGrowing, ConcludesPaced, IsPacedStatus, paced_status}
+use Rattle.rh_commands.specs.Paced.{ConcludesGrowing, ConcludesPaced, IsPacedStatus, paced_status}
 use Rattle.rh_paced_trace.specs.declared.fault.PacedFault.{PacedFault}
 use Rattle.rh_paced_trace.specs.declared.fault.PacedFault.TheVariants as paced_faults
 use Rattle.rh_cli.proofs.LispStatuses.{lisp_is_0, lisp_is_0_1_or_3, lisp_is_3, lisp_session_is_0_1_or_3}
 use Rattle.rh_lisp_run.specs.Run.{IsNewMachine, IsRun as IsLispRun}
-use Rattle.rh_lisp_run.specs.declared.limits.Limits.{Limits}
+use Rattle.rh_choices.specs.declared.limits.Limits.{Limits}
 use Rattle.rh_lisp.specs.Printed.{output_text}
 use Rattle.rh_lisp.specs.Program.{ProgramState}
 use Rattle.rh_machine.specs.declared.ending.Ending.TheVariants.{Halted}
 use Rattle.rh_cli.proofs.SharedStatuses.{shared_is_0_1_3_or_4, shared_is_4}
-use Rattle.rh_cli.specs.Replay.{IsJudged, IsReplayStatus, ReplayEnds}
+use Rattle.rh_commands.specs.Replay.{IsJudged, IsReplayStatus, ReplayEnds}
 use Rattle.rh_text.specs.RawLine.{lines_of}
 use Rattle.rh_shell.specs.Session.{IsSession}
 use Rattle.rh_shell.specs.declared.fault.ShellFault.{ShellFault}
 use Rattle.rh_shell.specs.declared.fault.ShellFault.TheVariants as shell_faults
-use Rattle.rh_cli.specs.Session.{IsSessionStatus, SessionEnds, session_status}
-use Rattle.rh_cli.specs.declared.ask.Shell.{Shell}
-use Rattle.rh_cli.specs.declared.ask.Subcommand.{Subcommand}
-use Rattle.rh_cli.specs.declared.ask.Subcommand.TheVariants.{Run, RunPaced, RunGrowing, Threads, Replay, Dump, Dot, Draw, Session, Lisp, LispSession, Completions}
-use Rattle.rh_cli.specs.declared.ending.Ending.{Ending}
-use Rattle.rh_cli.specs.declared.ending.Ending.TheVariants.{Done, WrongHistory}
-use Rattle.rh_cli.specs.declared.fault.LineFault.{LineFault}
-use Rattle.rh_cli.specs.declared.fault.LineFault.TheVariants as faults
+use Rattle.rh_commands.specs.Session.{IsSessionStatus, SessionEnds, session_status}
+use Rattle.rh_command_line.specs.declared.ask.Shell.{Shell}
+use Rattle.rh_command_line.specs.declared.ask.Subcommand.{Subcommand}
+use Rattle.rh_command_line.specs.declared.ask.Subcommand.TheVariants.{Run, RunPaced, RunGrowing, Threads, Replay, Dump, Dot, Draw, Session, Lisp, LispSession, Completions}
+use Rattle.rh_commands.specs.declared.ending.Ending.{Ending}
+use Rattle.rh_commands.specs.declared.ending.Ending.TheVariants.{Done, WrongHistory}
+use Rattle.rh_commands.specs.declared.fault.LineFault.{LineFault}
+use Rattle.rh_commands.specs.declared.fault.LineFault.TheVariants as faults
 
 -- what only the ending that is done has
 pub done_is_0 : (ending : Ending) → (ending_status ending ≡ 0) ↔ (ending ≡ Done)
@@ -81,30 +86,13 @@ run_fault_is_1_or_3 (run_faults.New fault) = inl refl
 run_fault_is_1_or_3 run_faults.Write = inl refl
 run_fault_is_1_or_3 run_faults.OutOfMemory = inr refl
 
-arguments_are_not_3 : (kind : ErrorKind) → arguments_status kind ≡ 3 → ⊥
-arguments_are_not_3 DisplayHelp is = omega (arith, is)
-arguments_are_not_3 DisplayVersion is = omega (arith, is)
-arguments_are_not_3 kind is = omega (arith, is)
-
 -- of all faults want of memory alone has 3
 pub memory_is_3 : (fault : LineFault) → (status_of fault ≡ 3) ↔ (fault ≡ faults.OutOfMemory)
-memory_is_3 (faults.Arguments error) = (λ is. absurd (arguments_are_not_3 (kind_of error) is), λ is. cc)
+memory_is_3 (faults.CommandLine line) = (λ is. absurd (omega (arith, is, line_at_most_2 line)), λ is. cc)
 memory_is_3 faults.NoText = (λ is. absurd (omega (arith, is)), λ is. cc)
-memory_is_3 faults.Incomplete = (λ is. absurd (omega (arith, is)), λ is. cc)
-memory_is_3 faults.Mark = (λ is. absurd (omega (arith, is)), λ is. cc)
-memory_is_3 faults.Grow = (λ is. absurd (omega (arith, is)), λ is. cc)
-memory_is_3 faults.Replicators = (λ is. absurd (omega (arith, is)), λ is. cc)
-memory_is_3 faults.Idle = (λ is. absurd (omega (arith, is)), λ is. cc)
-memory_is_3 faults.Views = (λ is. absurd (omega (arith, is)), λ is. cc)
-memory_is_3 faults.Crossed = (λ is. absurd (omega (arith, is)), λ is. cc)
-memory_is_3 faults.SessionCycles = (λ is. absurd (omega (arith, is)), λ is. cc)
 memory_is_3 faults.SameFile = (λ is. absurd (omega (arith, is)), λ is. cc)
-memory_is_3 faults.Words = (λ is. absurd (omega (arith, is)), λ is. cc)
-memory_is_3 faults.Steps = (λ is. absurd (omega (arith, is)), λ is. cc)
 memory_is_3 (faults.Program kind) = (λ is. absurd (omega (arith, is)), λ is. cc)
 memory_is_3 faults.Stopped = (λ is. absurd (omega (arith, is)), λ is. cc)
-memory_is_3 faults.Shell = (λ is. absurd (omega (arith, is)), λ is. cc)
-memory_is_3 faults.Line = (λ is. absurd (omega (arith, is)), λ is. cc)
 memory_is_3 faults.NoLine = (λ is. absurd (omega (arith, is)), λ is. cc)
 memory_is_3 (faults.Trace fault) = (λ is. absurd (omega (arith, is)), λ is. cc)
 memory_is_3 (faults.History fault) = (λ is. absurd (omega (arith, is)), λ is. cc)
@@ -120,30 +108,13 @@ memory_is_3 faults.Write = (λ is. absurd (omega (arith, is)), λ is. cc)
 memory_is_3 faults.TooLong = (λ is. absurd (omega (arith, is)), λ is. cc)
 memory_is_3 faults.OutOfMemory = (λ is. refl, λ is. refl)
 
--- what clap refuses has another status than 4
-arguments_are_not_4 : (kind : ErrorKind) → arguments_status kind ≡ 4 → ⊥
-arguments_are_not_4 DisplayHelp is = omega (arith, is)
-arguments_are_not_4 DisplayVersion is = omega (arith, is)
-arguments_are_not_4 kind is = omega (arith, is)
-
+-- of all faults that of a history that differs alone has 4
 pub differs_is_4 : (fault : LineFault) → (status_of fault ≡ 4) ↔ (fault ≡ faults.HistoryDiffers)
-differs_is_4 (faults.Arguments error) = (λ is. absurd (arguments_are_not_4 (kind_of error) is), λ is. cc)
+differs_is_4 (faults.CommandLine line) = (λ is. absurd (omega (arith, is, line_at_most_2 line)), λ is. cc)
 differs_is_4 faults.NoText = (λ is. absurd (omega (arith, is)), λ is. cc)
-differs_is_4 faults.Incomplete = (λ is. absurd (omega (arith, is)), λ is. cc)
-differs_is_4 faults.Mark = (λ is. absurd (omega (arith, is)), λ is. cc)
-differs_is_4 faults.Grow = (λ is. absurd (omega (arith, is)), λ is. cc)
-differs_is_4 faults.Replicators = (λ is. absurd (omega (arith, is)), λ is. cc)
-differs_is_4 faults.Idle = (λ is. absurd (omega (arith, is)), λ is. cc)
-differs_is_4 faults.Views = (λ is. absurd (omega (arith, is)), λ is. cc)
-differs_is_4 faults.Crossed = (λ is. absurd (omega (arith, is)), λ is. cc)
-differs_is_4 faults.SessionCycles = (λ is. absurd (omega (arith, is)), λ is. cc)
 differs_is_4 faults.SameFile = (λ is. absurd (omega (arith, is)), λ is. cc)
-differs_is_4 faults.Words = (λ is. absurd (omega (arith, is)), λ is. cc)
-differs_is_4 faults.Steps = (λ is. absurd (omega (arith, is)), λ is. cc)
 differs_is_4 (faults.Program kind) = (λ is. absurd (omega (arith, is)), λ is. cc)
 differs_is_4 faults.Stopped = (λ is. absurd (omega (arith, is)), λ is. cc)
-differs_is_4 faults.Shell = (λ is. absurd (omega (arith, is)), λ is. cc)
-differs_is_4 faults.Line = (λ is. absurd (omega (arith, is)), λ is. cc)
 differs_is_4 faults.NoLine = (λ is. absurd (omega (arith, is)), λ is. cc)
 differs_is_4 (faults.Trace fault) = (λ is. absurd (omega (arith, is)), λ is. cc)
 differs_is_4 (faults.History fault) = (λ is. absurd (omega (arith, is)), λ is. cc)
@@ -161,23 +132,9 @@ differs_is_4 faults.HistoryDiffers = (λ is. refl, λ is. refl)
 
 -- a fault with 2 is one of the command line
 pub only_the_line_is_2 : (fault : LineFault) → status_of fault ≡ 2
-    → (fault ≡ faults.NoText) ⊎ ((fault ≡ faults.Incomplete) ⊎ ((fault ≡ faults.Mark) ⊎ ((fault ≡ faults.Grow) ⊎ ((fault ≡ faults.Replicators)
-    ⊎ ((fault ≡ faults.Idle) ⊎ ((fault ≡ faults.Line) ⊎ ((fault ≡ faults.Shell) ⊎ ((fault ≡ faults.Views)
-    ⊎ ((fault ≡ faults.Crossed) ⊎ ((fault ≡ faults.SessionCycles) ⊎ ((fault ≡ faults.Words) ⊎ ((fault ≡ faults.Steps) ⊎ ((error : ClapError) × (fault ≡ faults.Arguments error))))))))))))))
-only_the_line_is_2 (faults.Arguments error) is = inr (inr (inr (inr (inr (inr (inr (inr (inr (inr (inr (inr (inr (error, refl)))))))))))))
+    → (fault ≡ faults.NoText) ⊎ ((line : CommandLineFault) × (fault ≡ faults.CommandLine line))
+only_the_line_is_2 (faults.CommandLine line) is = inr (line, refl)
 only_the_line_is_2 faults.NoText is = inl refl
-only_the_line_is_2 faults.Incomplete is = inr (inl refl)
-only_the_line_is_2 faults.Mark is = inr (inr (inl refl))
-only_the_line_is_2 faults.Grow is = inr (inr (inr (inl refl)))
-only_the_line_is_2 faults.Replicators is = inr (inr (inr (inr (inl refl))))
-only_the_line_is_2 faults.Idle is = inr (inr (inr (inr (inr (inl refl)))))
-only_the_line_is_2 faults.Line is = inr (inr (inr (inr (inr (inr (inl refl))))))
-only_the_line_is_2 faults.Shell is = inr (inr (inr (inr (inr (inr (inr (inl refl)))))))
-only_the_line_is_2 faults.Views is = inr (inr (inr (inr (inr (inr (inr (inr (inl refl))))))))
-only_the_line_is_2 faults.Crossed is = inr (inr (inr (inr (inr (inr (inr (inr (inr (inl refl)))))))))
-only_the_line_is_2 faults.SessionCycles is = inr (inr (inr (inr (inr (inr (inr (inr (inr (inr (inl refl))))))))))
-only_the_line_is_2 faults.Words is = inr (inr (inr (inr (inr (inr (inr (inr (inr (inr (inr (inl refl)))))))))))
-only_the_line_is_2 faults.Steps is = inr (inr (inr (inr (inr (inr (inr (inr (inr (inr (inr (inr (inl refl))))))))))))
 only_the_line_is_2 (faults.Program kind) is = absurd (omega (arith, is))
 only_the_line_is_2 faults.Stopped is = absurd (omega (arith, is))
 only_the_line_is_2 faults.NoLine is = absurd (omega (arith, is))
@@ -201,26 +158,22 @@ help_of_0 DisplayHelp is = inl refl
 help_of_0 DisplayVersion is = inr refl
 help_of_0 kind is = absurd (omega (arith, is))
 
--- a fault with 0 is help or the version
+-- a command line with 0 asks for help or the version
+line_of_0 : (line : CommandLineFault) → line_status line ≡ 0
+    → (error : ClapError) × (line ≡ line_faults.Arguments error) × ((kind_of error ≡ DisplayHelp) ⊎ (kind_of error ≡ DisplayVersion))
+line_of_0 (line_faults.Arguments error) is = (error, refl, help_of_0 (kind_of error) is)
+line_of_0 other is = absurd (omega (arith, is))
+
+-- a fault with 0 is such a one
 pub only_help_is_0 : (fault : LineFault) → status_of fault ≡ 0
-    → (error : ClapError) × (fault ≡ faults.Arguments error) × ((kind_of error ≡ DisplayHelp) ⊎ (kind_of error ≡ DisplayVersion))
-only_help_is_0 (faults.Arguments error) is = (error, refl, help_of_0 (kind_of error) is)
+    → (error : ClapError) × (fault ≡ faults.CommandLine (line_faults.Arguments error)) × ((kind_of error ≡ DisplayHelp) ⊎ (kind_of error ≡ DisplayVersion))
+only_help_is_0 (faults.CommandLine line) is =
+    let of = line_of_0 line is in
+    (of.0, ap faults.CommandLine of.1, of.2)
 only_help_is_0 faults.NoText is = absurd (omega (arith, is))
-only_help_is_0 faults.Incomplete is = absurd (omega (arith, is))
-only_help_is_0 faults.Mark is = absurd (omega (arith, is))
-only_help_is_0 faults.Grow is = absurd (omega (arith, is))
-only_help_is_0 faults.Replicators is = absurd (omega (arith, is))
-only_help_is_0 faults.Idle is = absurd (omega (arith, is))
-only_help_is_0 faults.Views is = absurd (omega (arith, is))
-only_help_is_0 faults.Crossed is = absurd (omega (arith, is))
-only_help_is_0 faults.SessionCycles is = absurd (omega (arith, is))
 only_help_is_0 faults.SameFile is = absurd (omega (arith, is))
-only_help_is_0 faults.Words is = absurd (omega (arith, is))
-only_help_is_0 faults.Steps is = absurd (omega (arith, is))
 only_help_is_0 (faults.Program kind) is = absurd (omega (arith, is))
 only_help_is_0 faults.Stopped is = absurd (omega (arith, is))
-only_help_is_0 faults.Shell is = absurd (omega (arith, is))
-only_help_is_0 faults.Line is = absurd (omega (arith, is))
 only_help_is_0 faults.NoLine is = absurd (omega (arith, is))
 only_help_is_0 (faults.Trace fault) is = absurd (omega (arith, is))
 only_help_is_0 (faults.History fault) is = absurd (omega (arith, is))

@@ -14,8 +14,8 @@ use Rattle.rh_replay.specs.Report.{report_text}
 use Rattle.rh_replay.specs.Spelling.{IsReadable, spelling}
 use Rattle.rh_shared_trace.specs.Run.{IsHistoryOf}
 use Rattle.rh_cli.specs.Drive.{Concludes}
-use Rattle.rh_cli.specs.Replay.{IsJudged}
-use Rattle.rh_cli.specs.declared.ask.Subcommand.TheVariants.{Replay, Threads}
+use Rattle.rh_commands.specs.Replay.{IsJudged}
+use Rattle.rh_command_line.specs.declared.ask.Subcommand.TheVariants.{Replay, Threads}
 use Rattle.rh_cli.proofs.SharedStatuses.{concludes_shared_0}
 use Rattle.rh_cli.proofs.StatusLaws.{concludes_4}
 

@@ -13,7 +13,7 @@ use Rattle.rh_replay.specs.Spelling.{spelling}
 use Rattle.rh_trace.specs.declared.summary.Summary.{Summary}
 use Rattle.rh_trace.specs.declared.run_fault.RunFault.{RunFault}
 use Rattle.rh_trace.specs.declared.run_fault.RunFault.TheVariants as run_faults
-use Rattle.rh_viewed_trace.specs.declared.telling.Telling.{Telling}
+use Rattle.rh_choices.specs.declared.telling.Telling.{Telling}
 use Rattle.rh_viewed_trace.specs.Cycles.{cycles_text}
 use Rattle.rh_viewed_trace.specs.Run.{Ends, IsRun, Written, run_cycles, run_history, view_of_run}
 use Rattle.rh_viewed_trace.specs.Ways.{EndsGrowing, EndsPaced, IsTold, growing_answered, growing_cycles, paced_answered, paced_cycles}
@@ -21,16 +21,17 @@ use Rattle.rh_pace.specs.declared.pace.Pace.{Pace}
 use Rattle.rh_paced_trace.specs.declared.fault.PacedFault.{PacedFault}
 use Rattle.rh_paced_trace.specs.Growing.{IsGrowingRun, growing_sum_of}
 use Rattle.rh_paced_trace.specs.Run.{IsRun as IsPacedRun, sum_of}
-use Rattle.rh_cli.specs.Drive.{IsRunStatus, run_status}
-use Rattle.rh_cli.specs.Paced.{IsPacedStatus, paced_status}
-use Rattle.rh_cli.specs.Fault.{IsLateStatus, status_of}
-use Rattle.rh_cli.specs.Replay.{IsJudged, IsReplayStatus}
-use Rattle.rh_cli.specs.ViewLog.{HasCause, ViewLogState}
-use Rattle.rh_cli.specs.Views.{ConcludesViewed, HasFailed, HasRunFault, ReportEnds, told_counts, told_report}
-use Rattle.rh_cli.specs.declared.ask.Subcommand.{Subcommand}
-use Rattle.rh_cli.specs.declared.ask.Subcommand.TheVariants.{Run, RunPaced, RunGrowing, Threads, Replay, Dump, Dot, Draw, Session, Lisp, LispSession, Completions}
-use Rattle.rh_cli.specs.declared.fault.LineFault.{LineFault}
-use Rattle.rh_cli.specs.declared.fault.LineFault.TheVariants as faults
+use Rattle.rh_commands.specs.Run.{IsRunStatus, run_status}
+use Rattle.rh_commands.specs.Paced.{IsPacedStatus, paced_status}
+use Rattle.rh_commands.specs.Fault.{IsLateStatus, status_of}
+use Rattle.rh_commands.specs.Replay.{IsJudged, IsReplayStatus}
+use Rattle.rh_commands.specs.ViewLog.{HasCause, ViewLogState}
+use Rattle.rh_cli.specs.Views.{ConcludesViewed, HasFailed, HasRunFault}
+use Rattle.rh_commands.specs.Views.{ReportEnds, told_counts, told_report}
+use Rattle.rh_command_line.specs.declared.ask.Subcommand.{Subcommand}
+use Rattle.rh_command_line.specs.declared.ask.Subcommand.TheVariants.{Run, RunPaced, RunGrowing, Threads, Replay, Dump, Dot, Draw, Session, Lisp, LispSession, Completions}
+use Rattle.rh_commands.specs.declared.fault.LineFault.{LineFault}
+use Rattle.rh_commands.specs.declared.fault.LineFault.TheVariants as faults
 use Rattle.rh_cli.proofs.StatusLaws.{concludes_late, count_is_0, count_is_0_1_or_3, late_of_four, late_of_three, paced_fault_is_1_or_3, paced_is_0_1_or_3, run_fault_is_1_or_3, run_is_0_1_or_3}
 
 run_fault_is_not_0 : (fault : RunFault) → 0 ≡ run_status fault → ⊥

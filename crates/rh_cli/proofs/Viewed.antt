@@ -1,14 +1,15 @@
 -- How a subcommand without views of its own is viewed.
-use Rattle.std.proofs.Common.{◌≡◌, ◌≢◌, ℕ, List, Option, refl, sym, subst}
-use Rattle.rh_text.specs.IoLog.{no_calls}
+use Rattle.std.proofs.Common.{◌≡◌, ◌≢◌, ℕ, List, Option, refl, sym, subst, arith}
+use Rattle.rh_text.specs.IoLog.{CountsDown, IoLogState, no_calls}
 use Rattle.rh_text.specs.lemmas.Appends.{Keeps-same}
 use Rattle.rh_viewed_trace.specs.Run.{Written}
-use Rattle.rh_viewed_trace.specs.declared.telling.Telling.{Telling}
+use Rattle.rh_choices.specs.declared.telling.Telling.{Telling}
 use Rattle.rh_cli.specs.Drive.{Concludes}
-use Rattle.rh_cli.specs.ViewLog.{ViewLogState}
-use Rattle.rh_cli.specs.Views.{ConcludesCounts, ConcludesReport, ConcludesViewed, KeepsOthers, reads_given}
-use Rattle.rh_cli.specs.declared.ask.Subcommand.{Subcommand}
-use Rattle.rh_cli.specs.declared.ask.Subcommand.TheVariants.{Run, RunPaced, RunGrowing, Threads, Replay, Dump, Dot, Draw, Session, Lisp, LispSession, Completions}
+use Rattle.rh_commands.specs.ViewLog.{FlushedSince, ViewLogState}
+use Rattle.rh_commands.specs.Views.{ConcludesCounts, ConcludesReport}
+use Rattle.rh_cli.specs.Views.{ConcludesViewed, KeepsOthers, reads_given, viewed_texts}
+use Rattle.rh_command_line.specs.declared.ask.Subcommand.{Subcommand}
+use Rattle.rh_command_line.specs.declared.ask.Subcommand.TheVariants.{Run, RunPaced, RunGrowing, Threads, Replay, Dump, Dot, Draw, Session, Lisp, LispSession, Completions}
 
 -- where the first writer was and is, and nothing was written to the others
 abbrev pub told_alone : Option (List ℕ) → Option (List ℕ) → Option (List ℕ) → Option (List ℕ) → Written
@@ -56,3 +57,17 @@ unviewed telling (Lisp limits) status log old new history cycles run paced growi
 unviewed telling (LispSession limits) status log old new history cycles run paced growing replay dump input ends = (ends, others_kept old new history cycles)
 unviewed telling Session status log old new history cycles run paced growing replay dump input ends = (ends, others_kept old new history cycles)
 unviewed telling (Completions shell) status log old new history cycles run paced growing replay dump input ends = (ends, others_kept old new history cycles)
+
+-- what has no views flushes nothing
+pub none_flushed : (subcommand : Subcommand) (log : ViewLogState) → subcommand ≢ Run → ((mark : Option ℕ) → subcommand ≢ RunPaced mark) → ((at_most : ℕ) → subcommand ≢ RunGrowing at_most) → subcommand ≢ Replay → subcommand ≢ Dump
+    → FlushedSince (viewed_texts subcommand) log log
+none_flushed Run log run paced growing replay dump = absurd (run refl)
+none_flushed (RunPaced mark) log run paced growing replay dump = absurd (paced mark refl)
+none_flushed (RunGrowing at_most) log run paced growing replay dump = absurd (growing at_most refl)
+none_flushed Replay log run paced growing replay dump = absurd (replay refl)
+none_flushed Dump log run paced growing replay dump = absurd (dump refl)
+none_flushed other log run paced growing replay dump = λ few. omega arith
+
+-- no read was made
+pub none_counted : (log : IoLogState) → CountsDown log.left log log
+none_counted log = (omega arith, λ few. omega arith)

@@ -11,9 +11,9 @@ use Rattle.rh_dump.specs.declared.reading.fault.DumpFault.{DumpFault}
 use Rattle.rh_dump.specs.Dump.{GraphState}
 use Rattle.rh_dump.specs.texts.Part.{number_up_to, whole_of, small_root_of, object_head}
 use Rattle.rh_dump.specs.texts.Reading.{formed_parts, part_after, roots_of_parts, objects_of_parts, reference_or_fault, value_or_fault, values_or_fault, root_or_fault, root_of_parts, own_number, fields_or_fault, object_of_parts, plain_or_fault, whole_or_fault, version_or_fault, line_due, line_or_kind, lines_from, graph_within, graph_of_text}
-use Rattle.rh_cli.specs.Count.{counts_line}
+use Rattle.rh_commands.specs.Count.{counts_line}
 use Rattle.rh_cli.specs.Drive.{Concludes}
-use Rattle.rh_cli.specs.declared.ask.Subcommand.TheVariants.{Dump}
+use Rattle.rh_command_line.specs.declared.ask.Subcommand.TheVariants.{Dump}
 use Rattle.rh_cli.proofs.StatusLaws.{concludes_dump_0}
 
 same_graph_read : (read : Result GraphState DumpFault) (a b : GraphState) → read ≡ Ok a → read ≡ Ok b → a ≡ b

@@ -1,50 +1,16 @@
 -- How what was asked ends the program.
-use Rattle.std.specs.Prelude.{◌≡◌, ℕ, ◌⊎◌, Option, List, Result, Ok, Err}
-use Rattle.rh_trace.specs.declared.summary.Summary.{Summary}
-use Rattle.rh_trace.specs.declared.run_fault.RunFault.{RunFault}
-use Rattle.rh_trace.specs.declared.run_fault.RunFault.TheVariants as faults
-use Rattle.rh_trace.specs.Run.{Ends, run_of}
-use Rattle.rh_cli.specs.declared.fault.LineFault.{LineFault}
-use Rattle.rh_cli.specs.declared.fault.LineFault.TheVariants as line_faults
-use Rattle.rh_cli.specs.declared.ask.Subcommand.{Subcommand}
-use Rattle.rh_cli.specs.declared.ask.Subcommand.TheVariants.{Run, RunPaced, RunGrowing, Threads, Replay, Dump, Dot, Draw, Session, Lisp, LispSession, Completions}
-use Rattle.rh_cli.specs.Count.{ConcludesCount, ConcludesDot}
-use Rattle.rh_cli.specs.Draw.{ConcludesDraw, ConcludesSent}
+use Rattle.std.specs.Prelude.{ℕ, Option, List}
+use Rattle.rh_trace.specs.Run.{run_of}
+use Rattle.rh_command_line.specs.declared.ask.Subcommand.{Subcommand}
+use Rattle.rh_command_line.specs.declared.ask.Subcommand.TheVariants.{Run, RunPaced, RunGrowing, Threads, Replay, Dump, Dot, Draw, Session, Lisp, LispSession, Completions}
+use Rattle.rh_commands.specs.Count.{ConcludesCount, ConcludesDot}
+use Rattle.rh_commands.specs.Draw.{ConcludesDraw, ConcludesSent}
+use Rattle.rh_commands.specs.Paced.{ConcludesGrowing, ConcludesPaced}
+use Rattle.rh_commands.specs.Replay.{ConcludesReplay}
+use Rattle.rh_commands.specs.Run.{ConcludesRun}
+use Rattle.rh_commands.specs.Session.{ConcludesSession}
+use Rattle.rh_commands.specs.Shared.{ConcludesShared}
 use Rattle.rh_cli.specs.Lisp.{ConcludesLisp, ConcludesLispSession}
-use Rattle.rh_cli.specs.Paced.{ConcludesGrowing, ConcludesPaced}
-use Rattle.rh_cli.specs.Replay.{ConcludesReplay}
-use Rattle.rh_cli.specs.Session.{ConcludesSession}
-use Rattle.rh_cli.specs.Shared.{ConcludesShared}
-
--- the status after a fault of the run: 3 for want of memory, else 1
-abbrev pub run_status : RunFault → ℕ
-run_status faults.Read = 1
-run_status faults.Long = 1
-run_status (faults.Trace fault) = 1
-run_status (faults.New fault) = 1
-run_status faults.Write = 1
-run_status faults.OutOfMemory = 3
-
--- the fault of the program that a run's is told as
-abbrev pub run_told_as : RunFault → LineFault
-run_told_as faults.Read = line_faults.Read
-run_told_as faults.Long = line_faults.TooLong
-run_told_as (faults.Trace fault) = line_faults.Trace fault
-run_told_as (faults.New fault) = line_faults.Heap fault
-run_told_as faults.Write = line_faults.Write
-run_told_as faults.OutOfMemory = line_faults.OutOfMemory
-
--- the status after a run: 0 where it is done, or 1 where the last flush failed
-abbrev pub IsRunStatus : Result Summary RunFault → ℕ → Type 0
-IsRunStatus (Ok summary) status = (status ≡ 0) ⊎ (status ≡ 1)
-IsRunStatus (Err fault) status = status ≡ run_status fault
-
--- the run ended in a way that fits what is due for its input and what was written, and the status
--- is that ending's
-abbrev pub ConcludesRun : Result (List ℕ × Summary) RunFault → ℕ → Option (List ℕ) → Option (List ℕ)
-    → Type 0
-ConcludesRun due status old new =
-    (outcome : Result Summary RunFault) × Ends due outcome old new × IsRunStatus outcome status
 
 -- what a subcommand does with this input ended with this status, and with these bytes written
 abbrev pub Concludes : Subcommand → List ℕ → ℕ → Option (List ℕ) → Option (List ℕ) → Type 0

@@ -1,13 +1,5 @@
-pub mod Ask
-pub mod Count
-pub mod Draw
+pub mod Arguments
 pub mod Drive
-pub mod Fault
 pub mod Lisp
 pub mod Outputs
-pub mod Paced
-pub mod Replay
-pub mod Session
-pub mod Shared
-pub mod ViewLog
 pub mod Views

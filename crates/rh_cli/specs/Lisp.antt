@@ -7,9 +7,9 @@ use Rattle.rh_lisp_run.specs.Run.{LispEnds}
 use Rattle.rh_lisp_run.specs.Session.{SessionEnds}
 use Rattle.rh_lisp_run.specs.declared.fault.LispFault.{LispFault}
 use Rattle.rh_lisp_run.specs.declared.fault.LispFault.TheVariants as lisp_faults
-use Rattle.rh_lisp_run.specs.declared.limits.Limits.{Limits}
-use Rattle.rh_cli.specs.declared.fault.LineFault.{LineFault}
-use Rattle.rh_cli.specs.declared.fault.LineFault.TheVariants as faults
+use Rattle.rh_choices.specs.declared.limits.Limits.{Limits}
+use Rattle.rh_commands.specs.declared.fault.LineFault.{LineFault}
+use Rattle.rh_commands.specs.declared.fault.LineFault.TheVariants as faults
 
 -- the status after a fault of such a run: 3 for want of memory, else 1
 abbrev pub lisp_status : LispFault → ℕ

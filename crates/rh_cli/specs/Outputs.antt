@@ -2,7 +2,7 @@
 use Rattle.std.specs.Prelude.{◌≡◌, ◌≢◌, ⊤, ℕ, List, Option, Some, None, codes, if◌then◌else◌}
 use Rattle.either.specs.declared.Either.{Either}
 use Rattle.either.specs.declared.Either.TheVariants.{Left, Right}
-use Rattle.rh_cli.specs.Ask.{is_output}
+use Rattle.rh_command_line.specs.Ask.{is_output}
 
 -- A text for which this file is given goes to standard output, to a file, or nowhere.
 abbrev pub GoesTo : {P F S : Type 0} → Option (List ℕ) → Either P (Either F S) → Type 0

@@ -3,28 +3,21 @@
 ghost use Rattle.std.specs.Prelude.{◌≡◌, ◌≢◌, ◌⊎◌, List, ℕ, IfSome, IfErr};
 ghost use Rattle.std.specs.Io.KnownBytes.{Consumes, IsAtEnd, Keeps};
 ghost use Rattle.rh_cli.specs.Drive.{Concludes};
-ghost use Rattle.rh_cli.specs.Fault.{status_of, status_after, IsLateFault, IsLateStatus};
-ghost use Rattle.rh_cli.specs.declared.ask.Subcommand.TheVariants.{LispSession, Replay};
-ghost use Rattle.rh_cli.specs.declared.fault.LineFault.TheVariants as faults;
-ghost use Rattle.rh_lisp_run.specs.declared.limits.Limits.{Limits as LimitsOf};
+ghost use Rattle.rh_commands.specs.Fault.{status_of, status_after, IsLateFault, IsLateStatus};
+ghost use Rattle.rh_command_line.specs.declared.ask.Subcommand.TheVariants.{LispSession, Replay};
+ghost use Rattle.rh_choices.specs.declared.limits.Limits.{Limits as LimitsOf};
 
-use crate::ask::{Ask, Subcommand};
-use crate::completing::print_completions;
-use crate::conversing::{Alone, converse};
-use crate::counting::count;
-use crate::drawing::draw;
-use crate::ending::Ending;
-use crate::fault::LineFault;
-use crate::graphing::print_graph;
 use crate::lisp::run_program;
 use crate::lisp_session::play_entries;
-use crate::pacing::{run_by_growth, run_by_mark};
-use crate::replaying::replay;
-use crate::running::run;
-use crate::sharing::play_shared;
+use crate::prompting::Alone;
+use rh_command_line::{Ask, Subcommand};
+use rh_commands::{
+    Ending, LineFault, converse, count, draw, play_shared, print_completions, print_graph, replay,
+    run, run_by_growth, run_by_mark, tell,
+};
 use rh_shared_trace::RunOptions;
 use std::alloc::Allocator;
-use std::io::{self, Read, Write};
+use std::io::{Read, Write};
 use std::sync::Wait;
 use std::thread::Threads;
 
@@ -113,42 +106,5 @@ where
             play_entries(alloc, reader, out, limits, &mut Alone)
         }
         Subcommand::Completions { shell } => print_completions(shell, out),
-    }
-}
-
-/// Tells the fault of what ended with one, and answers the status after it.
-pub(crate) fn tell_ending<E: Write>(ended: Result<Ending, LineFault>, err: &mut E) -> u8
-    ensures { result ≡ status_after ended }
-{
-    match ended {
-        Ok(ending) => ending.status(),
-        Err(fault) => tell(&fault, err),
-    }
-}
-
-/// Writes a fault's text, and answers its status. A fault that can't be told still has its status.
-pub fn tell<E: Write>(fault: &LineFault, err: &mut E) -> u8
-    ensures { result ≡ status_of fault.now }
-{
-    let _ = write_text(fault, err);
-    fault.status()
-}
-
-/// Writes the text of help or the version, and answers its status; where that fails, it is told as
-/// a failed write.
-pub(crate) fn show<O: Write, E: Write>(fault: &LineFault, out: &mut O, err: &mut E) -> u8
-    ensures { (result ≡ status_of fault.now) ⊎ (result ≡ status_of faults.Write) }
-{
-    match write_text(fault, out) {
-        Ok(()) => fault.status(),
-        Err(_) => tell(&LineFault::Write, err),
-    }
-}
-
-/// Writes a fault's text: one line, or clap's.
-fn write_text<W: Write>(fault: &LineFault, writer: &mut W) -> io::Result<()> {
-    match fault {
-        LineFault::Arguments(error) => write!(writer, "{error}"),
-        _ => writeln!(writer, "{fault}"),
     }
 }

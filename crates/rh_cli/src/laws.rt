@@ -32,18 +32,19 @@ ghost use Rattle.rh_paced_trace.specs.declared.fault.PacedFault.{PacedFault as P
 ghost use Rattle.rh_paced_trace.specs.Growing.{IsGrowingRun, growing_sum_of, growing_text_of};
 ghost use Rattle.rh_paced_trace.specs.Run.{IsPlainRun, IsRun, AreSumsOf, output_of, sum_of, text_of};
 ghost use Rattle.rh_shared_trace.specs.Run.{IsHistoryOf, IsSharedRun};
-ghost use Rattle.rh_cli.specs.Ask.{command_and_file_of, explains_of, has_options, is_taken, viewed_of};
-ghost use Rattle.rh_cli.specs.Count.{counts_line};
-ghost use Rattle.rh_cli.specs.Drive.{Concludes, run_status};
-ghost use Rattle.rh_cli.specs.Fault.{ending_status, status_of, IsLateStatus};
+ghost use Rattle.rh_commands.specs.Count.{counts_line};
+ghost use Rattle.rh_cli.specs.Drive.{Concludes};
+ghost use Rattle.rh_commands.specs.Run.{run_status};
+ghost use Rattle.rh_commands.specs.Fault.{ending_status, status_of, IsLateStatus};
 ghost use Rattle.rh_cli.specs.Lisp.{ConcludesLispCycles};
-ghost use Rattle.rh_cli.specs.Paced.{paced_status};
-ghost use Rattle.rh_cli.specs.Replay.{IsJudged};
+ghost use Rattle.rh_commands.specs.Paced.{paced_status};
+ghost use Rattle.rh_commands.specs.Replay.{IsJudged};
 ghost use Rattle.rh_text.specs.RawLine.{lines_of};
 ghost use Rattle.rh_shell.specs.Session.{IsSession};
-ghost use Rattle.rh_cli.specs.ViewLog.{ViewLogState};
-ghost use Rattle.rh_cli.specs.Views.{told_counts, told_report, ConcludesViewed, HasFailed, HasRunFault};
-ghost use Rattle.rh_viewed_trace.specs.declared.telling.Telling.{Telling as TellingOf};
+ghost use Rattle.rh_commands.specs.ViewLog.{ViewLogState};
+ghost use Rattle.rh_commands.specs.Views.{told_counts, told_report};
+ghost use Rattle.rh_cli.specs.Views.{ConcludesViewed, HasFailed, HasRunFault};
+ghost use Rattle.rh_choices.specs.declared.telling.Telling.{Telling as TellingOf};
 ghost use Rattle.rh_viewed_trace.specs.Cycles.{cycles_text};
 ghost use Rattle.rh_viewed_trace.specs.Run.{run_cycles, run_history, view_of_run, IsRun as IsViewedRun, Written};
 ghost use Rattle.rh_viewed_trace.specs.Ways.{IsTold, growing_answered, growing_cycles, paced_answered, paced_cycles};
@@ -54,13 +55,14 @@ ghost use Rattle.rh_lisp.specs.declared.outcome.Outcome.TheVariants.{Finished};
 ghost use Rattle.rh_lisp_run.specs.Cycling.{RunsWithCycles};
 ghost use Rattle.rh_lisp_run.specs.Run.{IsNewMachine, IsRun as IsLispRun};
 ghost use Rattle.rh_lisp_run.specs.Session.{GoesOn};
-ghost use Rattle.rh_lisp_run.specs.declared.limits.Limits.{Limits as LimitsOf};
-ghost use Rattle.rh_lisp_run.specs.declared.limits.HeapWords.{HeapWords as HeapWordsOf};
-ghost use Rattle.rh_cli.specs.declared.ask.Shell.{Shell as ShellOf};
-ghost use Rattle.rh_cli.specs.declared.ask.Subcommand.{Subcommand as SubcommandOf};
-ghost use Rattle.rh_cli.specs.declared.ending.Ending.{Ending as EndingOf};
-ghost use Rattle.rh_cli.specs.declared.fault.LineFault.{LineFault as FaultOf};
+ghost use Rattle.rh_choices.specs.declared.limits.Limits.{Limits as LimitsOf};
+ghost use Rattle.rh_command_line.specs.declared.ask.Shell.{Shell as ShellOf};
+ghost use Rattle.rh_command_line.specs.declared.ask.Subcommand.{Subcommand as SubcommandOf};
+ghost use Rattle.rh_commands.specs.declared.ending.Ending.{Ending as EndingOf};
+ghost use Rattle.rh_command_line.specs.declared.fault.CommandLineFault.{CommandLineFault as LineOf};
+ghost use Rattle.rh_commands.specs.declared.fault.LineFault.{LineFault as FaultOf};
 
+pub use rh_command_line::laws::worked_command_lines;
 use rh_core::laws::heaps_answer_as_plain_heaps;
 use rh_core::laws::holds::what_collectors_do_adds_up;
 use rh_core::laws::runs::{
@@ -130,7 +132,7 @@ pub fn status_0_says_done()
     ensures ending { (ending : EndingOf) → (ending_status ending ≡ 0) ↔ (ending ≡ EndingOf.Done) }
     // No fault has 0, but help and the version, which clap tells as errors.
     ensures fault { (fault : FaultOf) → status_of fault ≡ 0
-        → (error : ClapError) × (fault ≡ FaultOf.Arguments error)
+        → (error : ClapError) × (fault ≡ FaultOf.CommandLine (LineOf.Arguments error))
         × ((kind_of error ≡ DisplayHelp) ⊎ (kind_of error ≡ DisplayVersion)) }
 {}
 
@@ -171,32 +173,28 @@ pub fn status_2_says_that_the_command_line_is_not_understood()
     ensures never { (subcommand : SubcommandOf) (input : List ℕ) (status : ℕ)
         (old new : Option (List ℕ)) → Concludes subcommand input status old new → status ≢ 2 }
     ensures only { (fault : FaultOf) → status_of fault ≡ 2
-        → (fault ≡ FaultOf.NoText) ⊎ ((fault ≡ FaultOf.Incomplete) ⊎ ((fault ≡ FaultOf.Mark)
-        ⊎ ((fault ≡ FaultOf.Grow) ⊎ ((fault ≡ FaultOf.Replicators) ⊎ ((fault ≡ FaultOf.Idle)
-        ⊎ ((fault ≡ FaultOf.Line) ⊎ ((fault ≡ FaultOf.Shell) ⊎ ((fault ≡ FaultOf.Views)
-        ⊎ ((fault ≡ FaultOf.Crossed) ⊎ ((fault ≡ FaultOf.SessionCycles)
-        ⊎ ((fault ≡ FaultOf.Words) ⊎ ((fault ≡ FaultOf.Steps)
-        ⊎ ((error : ClapError) × (fault ≡ FaultOf.Arguments error)))))))))))))) }
+        → (fault ≡ FaultOf.NoText)
+        ⊎ ((line : LineOf) × (fault ≡ FaultOf.CommandLine line)) }
     ensures no_text { status_of FaultOf.NoText ≡ 2 }
-    ensures incomplete { status_of FaultOf.Incomplete ≡ 2 }
-    ensures mark { status_of FaultOf.Mark ≡ 2 }
-    ensures grow { status_of FaultOf.Grow ≡ 2 }
-    ensures replicators { status_of FaultOf.Replicators ≡ 2 }
-    ensures idle { status_of FaultOf.Idle ≡ 2 }
-    ensures line { status_of FaultOf.Line ≡ 2 }
-    ensures shell { status_of FaultOf.Shell ≡ 2 }
-    ensures views { status_of FaultOf.Views ≡ 2 }
-    ensures crossed { status_of FaultOf.Crossed ≡ 2 }
-    ensures session_cycles { status_of FaultOf.SessionCycles ≡ 2 }
-    ensures words { status_of FaultOf.Words ≡ 2 }
-    ensures steps { status_of FaultOf.Steps ≡ 2 }
+    ensures incomplete { status_of (FaultOf.CommandLine LineOf.Incomplete) ≡ 2 }
+    ensures mark { status_of (FaultOf.CommandLine LineOf.Mark) ≡ 2 }
+    ensures grow { status_of (FaultOf.CommandLine LineOf.Grow) ≡ 2 }
+    ensures replicators { status_of (FaultOf.CommandLine LineOf.Replicators) ≡ 2 }
+    ensures idle { status_of (FaultOf.CommandLine LineOf.Idle) ≡ 2 }
+    ensures line { status_of (FaultOf.CommandLine LineOf.Line) ≡ 2 }
+    ensures shell { status_of (FaultOf.CommandLine LineOf.Shell) ≡ 2 }
+    ensures views { status_of (FaultOf.CommandLine LineOf.Views) ≡ 2 }
+    ensures crossed { status_of (FaultOf.CommandLine LineOf.Crossed) ≡ 2 }
+    ensures session_cycles { status_of (FaultOf.CommandLine LineOf.SessionCycles) ≡ 2 }
+    ensures words { status_of (FaultOf.CommandLine LineOf.Words) ≡ 2 }
+    ensures steps { status_of (FaultOf.CommandLine LineOf.Steps) ≡ 2 }
     // What clap refuses has 2, unless it asks for help or the version, which is no mistake.
     ensures asked { (error : ClapError)
         → (kind_of error ≡ DisplayHelp) ⊎ (kind_of error ≡ DisplayVersion)
-        → status_of (FaultOf.Arguments error) ≡ 0 }
+        → status_of (FaultOf.CommandLine (LineOf.Arguments error)) ≡ 0 }
     ensures refused { (error : ClapError)
         → kind_of error ≢ DisplayHelp → kind_of error ≢ DisplayVersion
-        → status_of (FaultOf.Arguments error) ≡ 2 }
+        → status_of (FaultOf.CommandLine (LineOf.Arguments error)) ≡ 2 }
 {}
 
 /// 3 says that memory was refused, or a thread, and no other fault has it: a run has then written
@@ -300,164 +298,6 @@ pub fn a_viewed_run_that_ends_with_1_has_its_cause()
     ensures { (telling : TellingOf) (input : List ℕ) (log : ViewLogState) (w : Written)
         → ConcludesViewed telling SubcommandOf.Run input 1 log w
         → HasRunFault input ⊎ HasFailed log }
-{}
-
-/// Command lines, and what they ask: a subcommand and its file, where `-` is a file's name too. A
-/// line without a subcommand, without a file, with an unknown subcommand or with a part too many
-/// isn't taken.
-pub fn worked_command_lines()
-    // Where help is asked for, each command has its options.
-    ensures help { (name : List ℕ) → IsTrue (has_options (codes "help") name) }
-    ensures run { command_and_file_of (codes "rheap" ∷ codes "run" ∷ codes "x" ∷ [])
-        ≡ Ok (SubcommandOf.Run, codes "x") }
-    ensures replay { command_and_file_of (codes "rheap" ∷ codes "replay" ∷ codes "x" ∷ [])
-        ≡ Ok (SubcommandOf.Replay, codes "x") }
-    ensures dump { command_and_file_of (codes "rheap" ∷ codes "dump" ∷ codes "x" ∷ [])
-        ≡ Ok (SubcommandOf.Dump, codes "x") }
-    ensures dot { command_and_file_of
-        (codes "rheap" ∷ codes "dump" ∷ codes "--dot" ∷ codes "x" ∷ [])
-        ≡ Ok (SubcommandOf.Dot, codes "x") }
-    ensures dot_run { false
-        ≡ is_taken (codes "rheap" ∷ codes "run" ∷ codes "x" ∷ codes "--dot" ∷ []) }
-    ensures dot_twice { false ≡ is_taken (codes "rheap" ∷ codes "dump" ∷ codes "x"
-        ∷ codes "--dot" ∷ codes "--dot" ∷ []) }
-    ensures draw { command_and_file_of (codes "rheap" ∷ codes "draw" ∷ codes "x" ∷ [])
-        ≡ Ok (SubcommandOf.Draw None, codes "x") }
-    ensures draw_line { command_and_file_of
-        (codes "rheap" ∷ codes "draw" ∷ codes "x" ∷ codes "--line" ∷ codes "7" ∷ [])
-        ≡ Ok (SubcommandOf.Draw (Some 7), codes "x") }
-    ensures draw_line_0 { command_and_file_of
-        (codes "rheap" ∷ codes "draw" ∷ codes "x" ∷ codes "--line=0" ∷ []) ≡ Err FaultOf.Line }
-    ensures draw_run { false
-        ≡ is_taken (codes "rheap" ∷ codes "run" ∷ codes "x" ∷ codes "--line=7" ∷ []) }
-    ensures session { command_and_file_of (codes "rheap" ∷ codes "shell" ∷ [])
-        ≡ Ok (SubcommandOf.Session, codes "-") }
-    ensures lisp { command_and_file_of (codes "rheap" ∷ codes "lisp" ∷ codes "x" ∷ [])
-        ≡ Ok (
-          SubcommandOf.Lisp (record {
-            heap = HeapWordsOf.UpTo 16777216;
-            steps = 2 ^ 64 - 1;
-          }),
-          codes "x",
-        ) }
-    ensures lisp_heap { command_and_file_of (codes "rheap" ∷ codes "lisp" ∷ codes "--heap"
-        ∷ codes "9000" ∷ codes "--steps=7" ∷ codes "x" ∷ [])
-        ≡ Ok (SubcommandOf.Lisp (record { heap = HeapWordsOf.Just 9000; steps = 7 }), codes "x") }
-    ensures lisp_grow { command_and_file_of
-        (codes "rheap" ∷ codes "lisp" ∷ codes "--grow=9000" ∷ codes "x" ∷ [])
-        ≡ Ok (
-          SubcommandOf.Lisp (record { heap = HeapWordsOf.UpTo 9000; steps = 2 ^ 64 - 1 }),
-          codes "x",
-        ) }
-    ensures lisp_heaps { command_and_file_of (codes "rheap" ∷ codes "lisp" ∷ codes "x"
-        ∷ codes "--heap=9000" ∷ codes "--grow=9000" ∷ []) ≡ Err FaultOf.Words }
-    ensures lisp_steps { command_and_file_of (codes "rheap" ∷ codes "lisp" ∷ codes "x"
-        ∷ codes "--steps=many" ∷ []) ≡ Err FaultOf.Steps }
-    ensures lisp_session { command_and_file_of (codes "rheap" ∷ codes "lisp"
-        ∷ codes "--grow=9000" ∷ []) ≡ Ok (
-          SubcommandOf.LispSession (record { heap = HeapWordsOf.UpTo 9000; steps = 2 ^ 64 - 1 }),
-          codes "-",
-        ) }
-    ensures lisp_cycles { command_and_file_of (codes "rheap" ∷ codes "lisp" ∷ codes "x"
-        ∷ codes "--heap=9000" ∷ codes "--cycles=-" ∷ []) ≡ Ok (
-          SubcommandOf.Lisp (record { heap = HeapWordsOf.Just 9000; steps = 2 ^ 64 - 1 }),
-          codes "x",
-        ) }
-    ensures lisp_viewed { viewed_of (codes "rheap" ∷ codes "lisp" ∷ codes "x"
-        ∷ codes "--cycles=c" ∷ []) ≡ record {
-          telling = TellingOf.Answers;
-          cycles = Some (codes "c");
-          history = None;
-        } }
-    ensures lisp_session_cycles { command_and_file_of (codes "rheap" ∷ codes "lisp"
-        ∷ codes "--cycles=c" ∷ []) ≡ Err FaultOf.SessionCycles }
-    ensures lisp_crossed { command_and_file_of (codes "rheap" ∷ codes "lisp" ∷ codes "x"
-        ∷ codes "--cycles=x" ∷ []) ≡ Err FaultOf.Crossed }
-    ensures lisp_mark { false
-        ≡ is_taken (codes "rheap" ∷ codes "lisp" ∷ codes "x" ∷ codes "--mark=7" ∷ []) }
-    ensures session_file { false ≡ is_taken (codes "rheap" ∷ codes "shell" ∷ codes "x" ∷ []) }
-    ensures plain { viewed_of (codes "rheap" ∷ codes "run" ∷ codes "x" ∷ [])
-        ≡ record { telling = TellingOf.Answers; cycles = None; history = None } }
-    ensures viewed { viewed_of (codes "rheap" ∷ codes "run" ∷ codes "x" ∷ codes "--json"
-        ∷ codes "--history=h" ∷ codes "--cycles" ∷ codes "c" ∷ []) ≡ record {
-          telling = TellingOf.Json;
-          cycles = Some (codes "c");
-          history = Some (codes "h");
-        } }
-    ensures echo_json { command_and_file_of (codes "rheap" ∷ codes "replay" ∷ codes "x"
-        ∷ codes "--echo" ∷ codes "--json" ∷ []) ≡ Err FaultOf.Views }
-    ensures dot_json { command_and_file_of (codes "rheap" ∷ codes "dump" ∷ codes "x"
-        ∷ codes "--dot" ∷ codes "--json" ∷ []) ≡ Err FaultOf.Views }
-    ensures echo_output { command_and_file_of (codes "rheap" ∷ codes "run" ∷ codes "x"
-        ∷ codes "--echo" ∷ codes "--cycles=-" ∷ []) ≡ Err FaultOf.Views }
-    ensures crossed { command_and_file_of (codes "rheap" ∷ codes "run" ∷ codes "x"
-        ∷ codes "--history=x" ∷ []) ≡ Err FaultOf.Crossed }
-    ensures crossed_texts { command_and_file_of (codes "rheap" ∷ codes "run" ∷ codes "x"
-        ∷ codes "--history=h" ∷ codes "--cycles=h" ∷ []) ≡ Err FaultOf.Crossed }
-    ensures piped { command_and_file_of (codes "rheap" ∷ codes "run" ∷ codes "-"
-        ∷ codes "--history=-" ∷ []) ≡ Ok (SubcommandOf.Run, codes "-") }
-    ensures echo_dump { false
-        ≡ is_taken (codes "rheap" ∷ codes "dump" ∷ codes "x" ∷ codes "--echo" ∷ []) }
-    ensures completions { command_and_file_of
-        (codes "rheap" ∷ codes "completions" ∷ codes "zsh" ∷ [])
-        ≡ Ok (SubcommandOf.Completions ShellOf.Zsh, codes "-") }
-    ensures no_shell { command_and_file_of
-        (codes "rheap" ∷ codes "completions" ∷ codes "sh" ∷ []) ≡ Err FaultOf.Shell }
-    ensures completions_bare { is_taken (codes "rheap" ∷ codes "completions" ∷ []) ≡ false }
-    ensures explain { IsTrue (explains_of
-        (codes "rheap" ∷ codes "run" ∷ codes "x" ∷ codes "--explain" ∷ [])) }
-    ensures unexplained { explains_of (codes "rheap" ∷ codes "run" ∷ codes "x" ∷ []) ≡ false }
-    ensures input { command_and_file_of (codes "rheap" ∷ codes "run" ∷ codes "-" ∷ [])
-        ≡ Ok (SubcommandOf.Run, codes "-") }
-    ensures paced { command_and_file_of
-        (codes "rheap" ∷ codes "run" ∷ codes "x" ∷ codes "--paced" ∷ [])
-        ≡ Ok (SubcommandOf.RunPaced None, codes "x") }
-    ensures mark { command_and_file_of (codes "rheap" ∷ codes "run" ∷ codes "--paced"
-        ∷ codes "--mark" ∷ codes "7" ∷ codes "x" ∷ [])
-        ≡ Ok (SubcommandOf.RunPaced (Some 7), codes "x") }
-    ensures mark_0 { command_and_file_of
-        (codes "rheap" ∷ codes "run" ∷ codes "x" ∷ codes "--paced" ∷ codes "--mark=0" ∷ [])
-        ≡ Ok (SubcommandOf.RunPaced (Some 0), codes "x") }
-    ensures mark_alone { command_and_file_of
-        (codes "rheap" ∷ codes "run" ∷ codes "x" ∷ codes "--mark=7" ∷ []) ≡ Err FaultOf.Mark }
-    ensures no_number { command_and_file_of
-        (codes "rheap" ∷ codes "run" ∷ codes "x" ∷ codes "--paced" ∷ codes "--mark=07" ∷ [])
-        ≡ Err FaultOf.Mark }
-    ensures grow { command_and_file_of (codes "rheap" ∷ codes "run" ∷ codes "--paced"
-        ∷ codes "--grow" ∷ codes "9000" ∷ codes "x" ∷ [])
-        ≡ Ok (SubcommandOf.RunGrowing 9000, codes "x") }
-    ensures grow_alone { command_and_file_of
-        (codes "rheap" ∷ codes "run" ∷ codes "x" ∷ codes "--grow=9000" ∷ []) ≡ Err FaultOf.Grow }
-    ensures grow_mark { command_and_file_of (codes "rheap" ∷ codes "run" ∷ codes "x"
-        ∷ codes "--paced" ∷ codes "--mark=7" ∷ codes "--grow=9000" ∷ []) ≡ Err FaultOf.Grow }
-    ensures grow_no_number { command_and_file_of
-        (codes "rheap" ∷ codes "run" ∷ codes "x" ∷ codes "--paced" ∷ codes "--grow=-1" ∷ [])
-        ≡ Err FaultOf.Grow }
-    ensures grow_twice { false ≡ is_taken (codes "rheap" ∷ codes "run" ∷ codes "x"
-        ∷ codes "--paced" ∷ codes "--grow=8" ∷ codes "--grow=8" ∷ []) }
-    ensures grow_threads { false
-        ≡ is_taken (codes "rheap" ∷ codes "threads" ∷ codes "x" ∷ codes "--grow=8" ∷ []) }
-    ensures paced_replay { false
-        ≡ is_taken (codes "rheap" ∷ codes "replay" ∷ codes "x" ∷ codes "--paced" ∷ []) }
-    ensures threads { command_and_file_of (codes "rheap" ∷ codes "threads" ∷ codes "x" ∷ [])
-        ≡ Ok (SubcommandOf.Threads 2 0, codes "x") }
-    ensures replicators { command_and_file_of (codes "rheap" ∷ codes "threads" ∷ codes "x"
-        ∷ codes "--idle=65535" ∷ codes "--replicators" ∷ codes "8" ∷ [])
-        ≡ Ok (SubcommandOf.Threads 8 65535, codes "x") }
-    ensures nine { command_and_file_of
-        (codes "rheap" ∷ codes "threads" ∷ codes "x" ∷ codes "--replicators=9" ∷ [])
-        ≡ Err FaultOf.Replicators }
-    ensures too_idle { command_and_file_of
-        (codes "rheap" ∷ codes "threads" ∷ codes "x" ∷ codes "--idle=65536" ∷ [])
-        ≡ Err FaultOf.Idle }
-    ensures run_replicators { false
-        ≡ is_taken (codes "rheap" ∷ codes "run" ∷ codes "x" ∷ codes "--replicators=1" ∷ []) }
-    ensures taken { IsTrue (is_taken (codes "rheap" ∷ codes "run" ∷ codes "x" ∷ [])) }
-    ensures bare { is_taken (codes "rheap" ∷ []) ≡ false }
-    ensures no_file { is_taken (codes "rheap" ∷ codes "run" ∷ []) ≡ false }
-    ensures unknown { is_taken (codes "rheap" ∷ codes "grow" ∷ codes "x" ∷ []) ≡ false }
-    ensures two_files { false
-        ≡ is_taken (codes "rheap" ∷ codes "run" ∷ codes "x" ∷ codes "y" ∷ []) }
 {}
 
 /// What a paced run prints, where it ends with 0, is what a heap answers that never moves its

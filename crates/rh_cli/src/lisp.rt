@@ -2,16 +2,15 @@
 
 ghost use Rattle.std.specs.Prelude.{◌≡◌, ◌⊎◌, List, ℕ, Ok, IfErr, IfOk, IfSome, codes};
 ghost use Rattle.std.specs.Io.KnownBytes.{Consumes, Keeps};
-ghost use Rattle.rh_cli.specs.Fault.{status_of, status_after, IsLateStatus, IsUsualFault};
+ghost use Rattle.rh_commands.specs.Fault.{status_of, status_after, IsLateStatus, IsUsualFault};
 ghost use Rattle.rh_cli.specs.Lisp.{ConcludesLisp, IsLispStatus, lisp_status, lisp_told_as, outcome_in};
 
-use crate::driving::tell;
-use crate::ending::Ending;
-use crate::fault::LineFault;
 use crate::keeping::KeptReader;
 use crate::lisp_explaining::show_kept;
 use crate::program::{gathering, is_standard_input, kept_if, opened};
-use rh_lisp_run::{Ended, Fault, Limits, LispFault, Outcome, Source, Stop, run_lisp};
+use rh_choices::Limits;
+use rh_commands::{Ending, LineFault, tell};
+use rh_lisp_run::{Ended, Fault, LispFault, Outcome, Source, Stop, run_lisp};
 use std::alloc::Allocator;
 use std::io::{self, Read, Write};
 use std::rt::Files;

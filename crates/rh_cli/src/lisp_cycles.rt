@@ -2,17 +2,17 @@
 
 ghost use Rattle.std.specs.Prelude.{◌≡◌, ◌⊎◌, List, ℕ, IfErr, IfOk, IfSome, codes};
 ghost use Rattle.std.specs.Io.KnownBytes.{Consumes, Keeps};
-ghost use Rattle.rh_cli.specs.Fault.{IsLateStatus};
+ghost use Rattle.rh_commands.specs.Fault.{IsLateStatus};
 ghost use Rattle.rh_cli.specs.Lisp.{ConcludesLispCycles};
 
-use crate::ask::Ask;
-use crate::driving::tell;
-use crate::fault::LineFault;
 use crate::keeping::KeptReader;
 use crate::lisp::tell_run;
 use crate::outputs::outputs_of;
 use crate::program::{gathering, is_standard_input, kept_if, opened};
-use rh_lisp_run::{Limits, run_lisp_with_cycles};
+use rh_choices::Limits;
+use rh_command_line::Ask;
+use rh_commands::{LineFault, tell};
+use rh_lisp_run::run_lisp_with_cycles;
 use std::alloc::Allocator;
 use std::io::{Read, Write};
 use std::rt::Files;

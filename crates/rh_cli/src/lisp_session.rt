@@ -2,17 +2,16 @@
 
 ghost use Rattle.std.specs.Prelude.{◌≡◌, List, ℕ, Ok, IfErr, IfOk, IfSome};
 ghost use Rattle.std.specs.Io.KnownBytes.{Consumes, IsAtEnd};
-ghost use Rattle.rh_cli.specs.Fault.{IsLateStatus, IsUsualFault, status_after};
+ghost use Rattle.rh_commands.specs.Fault.{IsLateStatus, IsUsualFault, status_after};
 ghost use Rattle.rh_cli.specs.Lisp.{ConcludesLispSession, IsLispSessionStatus};
 
-use crate::conversing::{Alone, Prompter};
-use crate::driving::tell_ending;
-use crate::ending::Ending;
-use crate::fault::LineFault;
 use crate::lisp::fault_of_lisp;
 use crate::lisp_explaining::show_stop;
 use crate::program::gathering;
-use rh_lisp_run::{Console, Limits, Stop, run_session};
+use crate::prompting::{Alone, Prompter};
+use rh_choices::Limits;
+use rh_commands::{Ending, LineFault, tell_ending};
+use rh_lisp_run::{Console, Stop, run_session};
 use std::alloc::Allocator;
 use std::io::{self, Read, Write};
 use std::rt::Files;

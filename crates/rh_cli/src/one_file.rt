@@ -1,7 +1,7 @@
 //! Whether names are those of one file.
 
-use crate::ask::Views;
 use crate::program::is_standard_input;
+use rh_command_line::Views;
 use std::fs::metadata;
 use std::os::unix::fs::MetadataExt;
 use std::rt::Files;

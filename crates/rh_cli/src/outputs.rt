@@ -3,12 +3,11 @@
 ghost use Rattle.std.specs.Prelude.{◌≡◌, ◌⊎◌, option_map, IfOk, IfErr};
 ghost use Rattle.rh_cli.specs.Outputs.{GoesTo, answers_file};
 
-use crate::arguments::is_output;
-use crate::ask::Views;
-use crate::fault::LineFault;
 use crate::one_file::are_crossed;
 use crate::output_file::{OutputFile, output_file};
 use either::{Either, Left, Right};
+use rh_command_line::{Views, is_output};
+use rh_commands::LineFault;
 use std::io::{self, Printer, Sink};
 use std::rt::Files;
 

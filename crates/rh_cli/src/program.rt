@@ -5,23 +5,24 @@ ghost use Rattle.std.specs.Io.Buffered.{writer_inner};
 ghost use Rattle.std.specs.IoError.{error_kind};
 ghost use Rattle.std.specs.String.{string_bytes};
 ghost use Rattle.std.specs.Vec.Iter.{into_iter_items};
-ghost use Rattle.rh_cli.specs.Ask.{command_and_file, command_and_file_of, is_taken};
-ghost use Rattle.rh_cli.specs.Fault.{IsEarlyFault, IsLateStatus, IsUsualFault};
-ghost use Rattle.rh_cli.specs.declared.ask.Ask.{Ask as AskOf};
+ghost use Rattle.rh_command_line.specs.Ask.{command_and_file, command_and_file_of, is_taken};
+ghost use Rattle.rh_cli.specs.Arguments.{IsEarlyFault};
+ghost use Rattle.rh_commands.specs.Fault.{IsLateStatus, IsUsualFault};
+ghost use Rattle.rh_command_line.specs.declared.ask.Ask.{Ask as AskOf};
 
 use crate::arguments::read_words;
-use crate::ask::{Ask, Subcommand};
-use crate::conversing::{Prompter, converse};
-use crate::driving::{drive, show, tell, tell_ending};
+use crate::driving::drive;
 use crate::explaining::drive_explained;
-use crate::fault::LineFault;
 use crate::keeping::KeptReader;
 use crate::lisp::play_lisp;
 use crate::lisp_cycles::play_lisp_with_cycles;
 use crate::lisp_session::hold_entries;
 use crate::outputs::outputs_of;
-use crate::viewed_driving::{drive_viewed, tell_as};
-use rh_lisp_run::Limits;
+use crate::prompting::Prompter;
+use crate::viewed_driving::drive_viewed;
+use rh_choices::{Limits, Telling};
+use rh_command_line::{Ask, Subcommand, Views};
+use rh_commands::{LineFault, converse, show, tell, tell_as, tell_ending};
 use std::alloc::Global;
 use std::env::{self, Args};
 use std::fs::File;
@@ -182,7 +183,7 @@ where
     if let Subcommand::LispSession { limits } = ask.subcommand {
         return hold_entries(rt, limits, err, terminals.input, explains);
     }
-    if !ask.views.is_plain() {
+    if !is_plain(&ask.views) {
         return Ok(view(rt, threads, ask, err, explains));
     }
     let mut out = gathering(rt.alloc(), io::writer(rt))?;
@@ -191,6 +192,12 @@ where
     }
     let file = opened(rt, ask.file)?;
     Ok(carried_out(threads, rt.alloc(), ask, file, &mut out, err, explains))
+}
+
+/// Whether there are answers or a report alone.
+fn is_plain(views: &Views<'_>) -> bool {
+    let is_told = matches!(views.telling, Telling::Answers);
+    is_told && views.cycles.is_none() && views.history.is_none()
 }
 
 /// Runs the program of a file, and writes its cycles where that is asked.

@@ -2,26 +2,23 @@
 
 ghost use Rattle.std.specs.Prelude.{◌≡◌, ◌≢◌, ◌⊎◌, List, ℕ, false, IfSome, IfErr, IsOk};
 ghost use Rattle.std.specs.Io.KnownBytes.{Consumes, IsAtEnd, Keeps};
-ghost use Rattle.rh_cli.specs.Fault.{status_of, status_after, IsLateFault, IsLateStatus};
+ghost use Rattle.rh_commands.specs.Fault.{status_of, status_after, IsLateFault, IsLateStatus};
 ghost use Rattle.rh_text.specs.IoLog.{CountsDown};
-ghost use Rattle.rh_cli.specs.ViewLog.{FlushedSince, ViewLogState};
+ghost use Rattle.rh_commands.specs.ViewLog.{FlushedSince, ViewLogState};
 ghost use Rattle.rh_cli.specs.Views.{ConcludesViewed, reads_given, viewed_texts};
-ghost use Rattle.rh_cli.specs.declared.ask.Subcommand.TheVariants.{LispSession, Replay};
-ghost use Rattle.rh_lisp_run.specs.declared.limits.Limits.{Limits as LimitsOf};
+ghost use Rattle.rh_command_line.specs.declared.ask.Subcommand.TheVariants.{LispSession, Replay};
+ghost use Rattle.rh_choices.specs.declared.limits.Limits.{Limits as LimitsOf};
 
-use crate::ask::{Ask, Subcommand};
-use crate::driving::{act, tell};
-use crate::ending::Ending;
-use crate::explaining::explain;
-use crate::fault::LineFault;
-use crate::fault_object::tell_object;
+use crate::driving::act;
 use crate::keeping::KeptReader;
-use crate::reporting::{view_count, view_report};
-use crate::view_log::ViewLog;
-use crate::viewing::{view_run, view_run_by_growth, view_run_by_mark};
+use rh_choices::Telling;
+use rh_command_line::{Ask, Subcommand};
+use rh_commands::{
+    Ending, LineFault, ViewLog, explain, tell_as, view_count, view_report, view_run,
+    view_run_by_growth, view_run_by_mark,
+};
 use rh_dump::limits::MAX_DUMP_READS;
 use rh_text::IoLog;
-use rh_viewed_trace::Telling;
 use std::alloc::Allocator;
 use std::io::{Read, Write};
 use std::sync::Wait;
@@ -179,21 +176,6 @@ where
             }
             status
         }
-    }
-}
-
-/// Tells a fault as it is to be told, and answers its status.
-pub(crate) fn tell_as<A: Allocator + Copy, E: Write>(
-    alloc: A,
-    telling: Telling,
-    fault: &LineFault,
-    err: &mut E,
-) -> u8
-    ensures { result ≡ status_of fault.now }
-{
-    match telling {
-        Telling::Json => tell_object(alloc, fault, err),
-        _ => tell(fault, err),
     }
 }
 

@@ -18,7 +18,8 @@ mod with_cycles;
 
 pub use console::Console;
 pub use fault::LispFault;
-pub use limits::{HeapWords, Limits, MAX_OUTPUT, MAX_TEXT_BYTES, MOST_STEPS};
+pub use limits::{MAX_OUTPUT, MAX_TEXT_BYTES};
+pub use rh_choices::{HeapWords, Limits, MOST_STEPS};
 pub use rh_lisp::{Fault, FaultKind, Outcome, Program, Source};
 pub use running::{Ended, program_of, run_lisp, run_lisp_logged, run_program};
 pub use session::run_session;

@@ -20,7 +20,7 @@ use Rattle.rh_paced_trace.specs.Growing.{growing_answers_of, growing_sum_of, gro
 use Rattle.rh_paced_trace.specs.Lines.{Commands, commands_in, other_fault}
 use Rattle.rh_paced_trace.specs.Playing.{replies_by}
 use Rattle.rh_paced_trace.specs.Run as paced
-use Rattle.rh_viewed_trace.specs.declared.telling.Telling.TheVariants.{Answers}
+use Rattle.rh_choices.specs.declared.telling.Telling.TheVariants.{Answers}
 use Rattle.rh_viewed_trace.specs.Run.{told_of, view_of_run}
 use Rattle.rh_viewed_trace.specs.Views.{numbered, views_text}
 use Rattle.rh_viewed_trace.specs.Ways.{answered_by, growing_answered, paced_answered}

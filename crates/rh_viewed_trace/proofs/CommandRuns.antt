@@ -21,7 +21,7 @@ use Rattle.rh_trace.proofs.CountsByHead.{count_by-head}
 use Rattle.rh_paced_trace.specs.Lines.{commands_in}
 use Rattle.rh_paced_trace.specs.Playing.{after_by, replies_by}
 use Rattle.rh_paced_trace.specs.Run as paced
-use Rattle.rh_viewed_trace.specs.declared.telling.Telling.{Telling}
+use Rattle.rh_choices.specs.declared.telling.Telling.{Telling}
 use Rattle.rh_viewed_trace.specs.Cycles.{cycles_by, cycles_text}
 use Rattle.rh_viewed_trace.specs.Runs.{CommandSteps, IsStoppedIn, Runs, Seen, answers_in, cycles_in, total_at}
 use Rattle.rh_viewed_trace.specs.Views.{numbered, view_text, views_text}

@@ -10,8 +10,8 @@ use Rattle.rh_syntax.specs.declared.request.Request.{Request}
 use Rattle.rh_trace.specs.declared.summary.Summary.{Summary}
 use Rattle.rh_trace.specs.Answers.{Answered}
 use Rattle.rh_trace.specs.Run.{answers_to, request_step}
-use Rattle.rh_viewed_trace.specs.declared.telling.Telling.{Telling}
-use Rattle.rh_viewed_trace.specs.declared.telling.Telling.TheVariants as tellings
+use Rattle.rh_choices.specs.declared.telling.Telling.{Telling}
+use Rattle.rh_choices.specs.declared.telling.Telling.TheVariants as tellings
 use Rattle.rh_viewed_trace.specs.Cycles.{cycles_text, entries_of, reading_after, readings_to}
 use Rattle.rh_viewed_trace.specs.Runs.{IsStoppedIn, Runs, Seen, answers_in, cycles_in}
 use Rattle.rh_viewed_trace.specs.Views.{numbered, total_text, view_text, views_text}

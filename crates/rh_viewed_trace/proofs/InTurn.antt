@@ -21,7 +21,7 @@ use Rattle.rh_trace.specs.Answers as answers
 use Rattle.rh_trace.specs.Answers.{Answered, is_answer, is_refused, is_flip, flip_of, words_of, root_words_of}
 use Rattle.rh_trace.specs.Run.{summary_of, summary_with}
 use Rattle.rh_trace.proofs.CountsByHead.{count_by-head}
-use Rattle.rh_viewed_trace.specs.declared.telling.Telling.{Telling}
+use Rattle.rh_choices.specs.declared.telling.Telling.{Telling}
 use Rattle.rh_viewed_trace.specs.History.{call_of, calls_of, kept_unless, with_calls}
 use Rattle.rh_viewed_trace.specs.Cycles.{cycle_lines, cycles_text, entries_of}
 use Rattle.rh_viewed_trace.specs.Runs.{IsStoppedIn, LineSteps, Runs, Seen, answers_in, cycles_in}

@@ -14,7 +14,7 @@ use Rattle.rh_trace.specs.declared.stop.Stop.TheVariants as stops
 use Rattle.rh_trace.specs.declared.summary.Summary.{Summary}
 use Rattle.rh_trace.specs.Answers.{Answered}
 use Rattle.rh_trace.specs.Run.{summary_of}
-use Rattle.rh_viewed_trace.specs.declared.telling.Telling.{Telling}
+use Rattle.rh_choices.specs.declared.telling.Telling.{Telling}
 use Rattle.rh_viewed_trace.specs.Cycles.{cycles_text}
 use Rattle.rh_viewed_trace.specs.History.{calls_of, with_calls}
 use Rattle.rh_viewed_trace.specs.Run.{Written}

@@ -15,7 +15,7 @@ use Rattle.rh_trace.specs.Answers.{Answered}
 use Rattle.rh_trace.specs.Run.{AreTransparent, IsPlainRun, answers_of, config_of, summary_of}
 use Rattle.rh_trace.proofs.PlainAnswers.{Begins, Dumps, StaysWellFormed, Steps, plain_run}
 use Rattle.rh_trace.specs.declared.run_fault.RunFault.{RunFault}
-use Rattle.rh_viewed_trace.specs.declared.telling.Telling.{Telling}
+use Rattle.rh_choices.specs.declared.telling.Telling.{Telling}
 use Rattle.rh_viewed_trace.specs.History.{history_of}
 use Rattle.rh_viewed_trace.specs.Run.{Ends, Written, history_with, told_of}
 use Rattle.rh_viewed_trace.specs.Views.{numbered}

@@ -25,7 +25,7 @@ use Rattle.rh_trace.specs.declared.summary.Summary.{Summary}
 use Rattle.rh_trace.specs.Answers.{Answered}
 use Rattle.rh_trace.specs.Run.{answers_of, answers_to, new_run, summary_of}
 use Rattle.rh_trace.specs.declared.run_fault.RunFault.TheVariants as faults
-use Rattle.rh_viewed_trace.specs.declared.telling.Telling.{Telling}
+use Rattle.rh_choices.specs.declared.telling.Telling.{Telling}
 use Rattle.rh_viewed_trace.specs.Cycles.{cycles_text, readings_to}
 use Rattle.rh_viewed_trace.specs.Run.{Ends, IsRun, KeepsAll, Written, history_with, lines_to, noted_text, run_cycles, run_history, told_of, viewed_of}
 use Rattle.rh_viewed_trace.specs.Runs.{IsStoppedIn, LinesEnd, Runs, Seen, answers_in, cycles_in}

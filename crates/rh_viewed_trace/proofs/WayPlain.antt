@@ -19,7 +19,7 @@ use Rattle.rh_paced_trace.specs.Growing.{growing_answers_of, growth_of}
 use Rattle.rh_paced_trace.specs.Lines.{commands_in, other_fault}
 use Rattle.rh_paced_trace.specs.Run.{AreSumsOf, AreTransparent, IsCommandTrace, new_run}
 use Rattle.rh_paced_trace.proofs.PlainAnswers.{plain_run_of}
-use Rattle.rh_viewed_trace.specs.declared.telling.Telling.{Telling}
+use Rattle.rh_choices.specs.declared.telling.Telling.{Telling}
 use Rattle.rh_viewed_trace.specs.History.{history_of}
 use Rattle.rh_viewed_trace.specs.Run.{Written, history_with, told_of}
 use Rattle.rh_viewed_trace.specs.Views.{numbered}

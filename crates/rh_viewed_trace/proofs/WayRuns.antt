@@ -28,7 +28,7 @@ use Rattle.rh_paced_trace.specs.Playing.{after_by, replies_by}
 use Rattle.rh_paced_trace.specs.Run as paced
 use Rattle.rh_paced_trace.specs.Run.{IsCommandTrace, IsRun, new_run, sum_of, summary_to}
 use Rattle.rh_paced_trace.proofs.Played.{replies-unaided, summary-unaided, unaided_step}
-use Rattle.rh_viewed_trace.specs.declared.telling.Telling.{Telling}
+use Rattle.rh_choices.specs.declared.telling.Telling.{Telling}
 use Rattle.rh_viewed_trace.specs.Run.{Written, history_with, noted_text, told_of}
 use Rattle.rh_viewed_trace.specs.Cycles.{cycles_by, cycles_text, first_read}
 use Rattle.rh_viewed_trace.specs.Runs.{CommandSteps, IsStoppedIn, LinesEnd, Runs, Seen, answers_in, cycles_in, total_at}

@@ -17,7 +17,7 @@ use Rattle.rh_trace.specs.Answers.{Answered}
 use Rattle.rh_trace.specs.Run.{answers_of, answers_to, config_of, new_run, summary_of}
 use Rattle.rh_trace.specs.declared.run_fault.RunFault.{RunFault}
 use Rattle.rh_trace.specs.declared.run_fault.RunFault.TheVariants as faults
-use Rattle.rh_viewed_trace.specs.declared.telling.Telling.{Telling}
+use Rattle.rh_choices.specs.declared.telling.Telling.{Telling}
 use Rattle.rh_viewed_trace.specs.Cycles.{cycles_text, readings_to}
 use Rattle.rh_viewed_trace.specs.History.{calls_of, history_of, with_calls}
 use Rattle.rh_viewed_trace.specs.Views.{Viewed, numbered, total_text, views_text}

@@ -19,7 +19,7 @@ use Rattle.rh_trace.specs.declared.summary.Summary.{Summary}
 use Rattle.rh_trace.specs.Answers as answers
 use Rattle.rh_trace.specs.Answers.{Answered}
 use Rattle.rh_trace.specs.Run.{summary_of}
-use Rattle.rh_viewed_trace.specs.declared.telling.Telling.{Telling}
+use Rattle.rh_choices.specs.declared.telling.Telling.{Telling}
 use Rattle.rh_viewed_trace.specs.Cycles.{cycles_text, entries_of}
 use Rattle.rh_viewed_trace.specs.Run.{Written, noted_text, told_of}
 use Rattle.rh_viewed_trace.specs.Views.{numbered, views_text}

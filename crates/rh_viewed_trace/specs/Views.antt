@@ -12,8 +12,8 @@ use Rattle.rh_trace.specs.Answers as answers
 use Rattle.rh_trace.specs.Answers.{Answered, answered_text, total_line}
 use Rattle.rh_viewed_trace.specs.declared.sort.Sort.{Sort}
 use Rattle.rh_viewed_trace.specs.declared.sort.Sort.TheVariants as sorts
-use Rattle.rh_viewed_trace.specs.declared.telling.Telling.{Telling}
-use Rattle.rh_viewed_trace.specs.declared.telling.Telling.TheVariants as tellings
+use Rattle.rh_choices.specs.declared.telling.Telling.{Telling}
+use Rattle.rh_choices.specs.declared.telling.Telling.TheVariants as tellings
 
 -- a line that was run: its number in the trace, what it asks, and what it was answered
 pub record Viewed : Type 0 where

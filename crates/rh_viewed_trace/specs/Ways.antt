@@ -25,7 +25,7 @@ use Rattle.rh_paced_trace.specs.Growing.{IsGrowingRun, growing_answers_of, growi
 use Rattle.rh_paced_trace.specs.Lines.{commands_in, fault_in}
 use Rattle.rh_paced_trace.specs.Pacing.{IsPaceOf}
 use Rattle.rh_paced_trace.specs.Run.{AreSumsOf, IsCommandTrace, IsPlainRun, IsRun, new_run, sum_of}
-use Rattle.rh_viewed_trace.specs.declared.telling.Telling.{Telling}
+use Rattle.rh_choices.specs.declared.telling.Telling.{Telling}
 use Rattle.rh_viewed_trace.specs.Cycles.{cycles_by, cycles_text, first_read}
 use Rattle.rh_viewed_trace.specs.Run.{KeepsAll, Written, history_with, told_of}
 use Rattle.rh_viewed_trace.specs.Views.{numbered, views_text}

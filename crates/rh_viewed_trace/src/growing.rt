@@ -12,7 +12,7 @@ ghost use Rattle.rh_viewed_trace.specs.Ways.{EndsGrowing, IsToldPlainly};
 use crate::collecting::first_read;
 use crate::laws::the_history_of_plain_replies_is_legal;
 use crate::lines::run_trace;
-use crate::telling::Telling;
+use rh_choices::Telling;
 use rh_growing::GrowingHeap;
 use rh_layout::limits::{MAX_INPUT_BYTES, MAX_LINES};
 use rh_paced_trace::laws::growing::growing_heaps_answer_traces_as_plain_heaps;

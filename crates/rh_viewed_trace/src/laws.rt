@@ -21,7 +21,7 @@ ghost use Rattle.rh_viewed_trace.specs.Kept.{is_kept, line_of_call};
 ghost use Rattle.rh_viewed_trace.specs.Lines.{request_text};
 ghost use Rattle.rh_viewed_trace.specs.Views.{numbered};
 
-use crate::telling::Telling;
+use rh_choices::Telling;
 
 /// Where the answers to requests are those of a plain heap that begins empty, but for limits, the
 /// history of the run is legal.

@@ -19,7 +19,6 @@ mod reports;
 mod request_text;
 mod running;
 mod sort;
-mod telling;
 mod viewing;
 
 pub use echo::report_echo;
@@ -27,7 +26,7 @@ pub use growing::{run_viewed_growing, run_viewed_growing_logged};
 pub use paced::{run_viewed_paced, run_viewed_paced_logged};
 pub use reports::{fault_json, put_json_dump, put_json_string, report_json};
 pub use request_text::put_request_text;
+pub use rh_choices::Telling;
 pub use rh_paced_trace::PacedFault;
 pub use rh_trace::{RunFault, Summary};
 pub use running::{run_viewed, run_viewed_logged};
-pub use telling::Telling;

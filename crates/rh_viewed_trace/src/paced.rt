@@ -13,7 +13,7 @@ ghost use Rattle.rh_viewed_trace.specs.Ways.{EndsPaced, IsToldPlainly};
 use crate::collecting::first_read;
 use crate::laws::the_history_of_plain_replies_is_legal;
 use crate::lines::run_trace;
-use crate::telling::Telling;
+use rh_choices::Telling;
 use rh_core::HeapError;
 use rh_core::laws::heaps_answer_as_plain_heaps;
 use rh_core::laws::holds::what_collectors_do_adds_up;

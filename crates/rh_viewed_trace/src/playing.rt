@@ -17,8 +17,8 @@ ghost use Rattle.rh_viewed_trace.specs.Views.{numbered, told_text, views_text};
 
 use crate::answering::put_line;
 use crate::player::Player;
-use crate::telling::Telling;
 use crate::viewing::{is_structured, put_view};
+use rh_choices::Telling;
 use rh_cycles::{Cycle, EntryCounts, HEADER, put_cycle};
 use rh_layout::{Command, OutOfMemory, Refusal, Reply};
 use rh_replay::Recorder;

@@ -15,7 +15,7 @@ ghost use Rattle.rh_viewed_trace.specs.Run.{Ends, IsTrace, history_with, told_of
 
 use crate::laws::the_history_of_plain_answers_is_legal;
 use crate::lines::run_trace;
-use crate::telling::Telling;
+use rh_choices::Telling;
 use rh_core::laws::heaps_answer_as_plain_heaps;
 use rh_core::laws::runs::{
     a_new_heap_is_well_formed, an_event_answers_as_the_plain_heap,

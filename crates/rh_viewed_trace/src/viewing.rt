@@ -7,7 +7,7 @@ use crate::buffer::{put, put_part};
 use crate::json::put_json_total;
 use crate::request_text::put_request_text;
 use crate::sort::{Sort, sort_of};
-use crate::telling::Telling;
+use rh_choices::Telling;
 use rh_layout::OutOfMemory;
 use rh_syntax::Request;
 use rh_text::{LineText, first_line};

@@ -2,7 +2,9 @@
 
 use crate::expectations::{Row, expect_bytes, expect_equal, expect_prefix};
 use crate::texts::{CROSSED_FAULT, SESSION_FAULT, VIEWS_FAULT, WITHOUT_FIELDS_ECHO};
-use rh_cli::{Ask, LineFault, PLAIN, Subcommand, Terminals, play, read_words, tell};
+use rh_cli::{
+    Ask, CommandLineFault, LineFault, PLAIN, Subcommand, Terminals, play, read_words, tell,
+};
 use samples::terminal::Terminal;
 use samples::texts::{COLUMNS, WITHOUT_FIELDS, WITHOUT_FIELDS_ANSWERS};
 use std::cell::RefCell;
@@ -96,8 +98,13 @@ fn expect_played(
 
 /// Calls of each command.
 const CALLS: &[Call<'static>] = &[
-    (&[b"rheap", b"--version"], 0, b"rheap 0.1.0\n", b""),
-    (&[b"rheap", b"--help"], 0, b"A managed heap", b""),
+    (
+        &[b"rheap", b"--version"],
+        0,
+        b"rheap 0.1.0\nproved here\n",
+        b"",
+    ),
+    (&[b"rheap", b"--help"], 0, b"A garbage-collected heap", b""),
     (&[b"rheap", b"run", b"--help"], 0, b"Runs a trace", b""),
     (&[b"rheap", b"run", b"-"], 0, WITHOUT_FIELDS_ANSWERS, b""),
     (&[b"rheap", b"shell"], 0, WITHOUT_FIELDS_ANSWERS, b""),
@@ -768,27 +775,71 @@ fn faults_before_a_run_are_told(rt: HostRuntime) {
             2,
             b"rheap: the command line is no text\n",
         ),
-        (LineFault::Incomplete, 2, b"rheap: no command and file\n"),
-        (LineFault::Mark, 2, MARK_FAULT),
-        (LineFault::Grow, 2, GROW_FAULT),
-        (LineFault::Replicators, 2, REPLICATORS_FAULT),
-        (LineFault::Idle, 2, IDLE_FAULT),
-        (LineFault::Line, 2, LINE_FAULT),
         (
-            LineFault::Shell,
+            LineFault::CommandLine(CommandLineFault::Incomplete),
+            2,
+            b"rheap: no command and file\n",
+        ),
+        (
+            LineFault::CommandLine(CommandLineFault::Mark),
+            2,
+            MARK_FAULT,
+        ),
+        (
+            LineFault::CommandLine(CommandLineFault::Grow),
+            2,
+            GROW_FAULT,
+        ),
+        (
+            LineFault::CommandLine(CommandLineFault::Replicators),
+            2,
+            REPLICATORS_FAULT,
+        ),
+        (
+            LineFault::CommandLine(CommandLineFault::Idle),
+            2,
+            IDLE_FAULT,
+        ),
+        (
+            LineFault::CommandLine(CommandLineFault::Line),
+            2,
+            LINE_FAULT,
+        ),
+        (
+            LineFault::CommandLine(CommandLineFault::Shell),
             2,
             b"rheap: completions needs a shell: bash, zsh or fish\n",
         ),
-        (LineFault::Views, 2, VIEWS_FAULT),
-        (LineFault::Crossed, 2, CROSSED_FAULT),
-        (LineFault::SessionCycles, 2, SESSION_FAULT),
+        (
+            LineFault::CommandLine(CommandLineFault::Views),
+            2,
+            VIEWS_FAULT,
+        ),
+        (
+            LineFault::CommandLine(CommandLineFault::Crossed),
+            2,
+            CROSSED_FAULT,
+        ),
+        (
+            LineFault::CommandLine(CommandLineFault::SessionCycles),
+            2,
+            SESSION_FAULT,
+        ),
         (
             LineFault::SameFile,
             1,
             b"rheap: OUT is FILE, another OUT, or where standard output or error goes\n",
         ),
-        (LineFault::Words, 2, WORDS_FAULT),
-        (LineFault::Steps, 2, STEPS_FAULT),
+        (
+            LineFault::CommandLine(CommandLineFault::Words),
+            2,
+            WORDS_FAULT,
+        ),
+        (
+            LineFault::CommandLine(CommandLineFault::Steps),
+            2,
+            STEPS_FAULT,
+        ),
         (LineFault::NoLine, 1, b"rheap: draw: NoLine\n"),
         (LineFault::HistoryDiffers, 4, b"rheap: history differs\n"),
     ];

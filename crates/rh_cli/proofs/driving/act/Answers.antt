@@ -1,4 +1,4 @@
-use Rattle.rh_cli.specs.Fault.{status_after}
+use Rattle.rh_commands.specs.Fault.{status_after}
 use Rattle.rh_cli.proofs.LispStatuses.{lisp_session_read, lisp_session_told}
 use Rattle.rh_cli.proofs.driving.act.Goals as goal
 

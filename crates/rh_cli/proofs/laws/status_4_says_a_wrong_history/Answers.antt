@@ -1,4 +1,4 @@
-use Rattle.rh_cli.proofs.Statuses.{fault_at_most_4}
+use Rattle.rh_commands.specs.lemmas.Statuses.{fault_at_most_4}
 use Rattle.rh_cli.proofs.StatusLaws.{concludes_4, concludes_late, differs_is_4, wrong_is_4}
 use Rattle.rh_cli.proofs.laws.status_4_says_a_wrong_history.Goals as goal
 

@@ -1,7 +1,7 @@
 use Rattle.std.proofs.Common.{Ok, Err}
 use Rattle.rh_lisp_run.specs.declared.running.Ended.{Ended}
-use Rattle.rh_cli.specs.Fault.{status_after, status_of}
-use Rattle.rh_cli.proofs.Counted.{known_so}
+use Rattle.rh_commands.specs.Fault.{status_after, status_of}
+use Rattle.rh_commands.specs.lemmas.Known.{known_so}
 use Rattle.rh_cli.proofs.LispStatuses.{lisp_concludes}
 use Rattle.rh_cli.proofs.lisp.run_program.Goals as goal
 

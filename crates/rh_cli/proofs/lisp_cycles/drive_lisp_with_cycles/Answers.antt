@@ -1,5 +1,5 @@
 use Rattle.rh_lisp_run.specs.declared.running.Ended.{Ended}
-use Rattle.rh_cli.proofs.Counted.{known_so}
+use Rattle.rh_commands.specs.lemmas.Known.{known_so}
 use Rattle.rh_cli.proofs.LispStatuses.{lisp_cycles_conclude}
 use Rattle.rh_cli.proofs.lisp_cycles.drive_lisp_with_cycles.Goals as goal
 

@@ -1,7 +1,7 @@
 use Rattle.std.proofs.Common.{Ok, Err, sym, ◌∙◌}
 use Rattle.std.specs.Io.KnownBytes.{IsAtEnd}
-use Rattle.rh_cli.specs.Fault.{status_after}
-use Rattle.rh_cli.proofs.Counted.{known_is}
+use Rattle.rh_commands.specs.Fault.{status_after}
+use Rattle.rh_commands.specs.lemmas.Known.{known_is}
 use Rattle.rh_cli.proofs.LispStatuses.{lisp_fault_is_not_0, lisp_session_ended}
 use Rattle.rh_cli.proofs.lisp_session.play_entries.Goals as goal
 

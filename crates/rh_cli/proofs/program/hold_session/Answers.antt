@@ -1,4 +1,4 @@
-use Rattle.rh_cli.proofs.Statuses.{late_after}
+use Rattle.rh_commands.specs.lemmas.Statuses.{late_after}
 use Rattle.rh_cli.proofs.program.hold_session.Goals as goal
 
 pub returns-clause-late : goal.returns-clause-late

@@ -1,7 +1,6 @@
-use Rattle.rh_cli.specs.Fault.{status_after}
-use Rattle.rh_cli.proofs.Causes.{none_counted, none_flushed}
-use Rattle.rh_cli.proofs.Counted.{known_so}
-use Rattle.rh_cli.proofs.Viewed.{unviewed, viewed_check, viewed_count}
+use Rattle.rh_commands.specs.Fault.{status_after}
+use Rattle.rh_commands.specs.lemmas.Known.{known_so}
+use Rattle.rh_cli.proofs.Viewed.{none_counted, none_flushed, unviewed, viewed_check, viewed_count}
 use Rattle.rh_cli.proofs.viewed_driving.act_viewed.Goals as goal
 
 pub returns-in-Replay-clause-told : goal.returns-in-Replay-clause-told

@@ -1,4 +1,4 @@
-use Rattle.rh_cli.proofs.Counted.{known_so}
+use Rattle.rh_commands.specs.lemmas.Known.{known_so}
 use Rattle.rh_cli.proofs.viewed_driving.drive_viewed.Goals as goal
 
 pub returns-clause-told : goal.returns-clause-told

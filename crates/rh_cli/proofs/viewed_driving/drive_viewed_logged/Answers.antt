@@ -1,8 +1,8 @@
 use Rattle.std.proofs.Common.{◌≡◌, ◌∙◌, refl, sym}
-use Rattle.rh_cli.specs.declared.ask.Subcommand.TheVariants.{Replay}
+use Rattle.rh_command_line.specs.declared.ask.Subcommand.TheVariants.{Replay}
 use Rattle.rh_text.specs.lemmas.Appends.{Keeps-same}
-use Rattle.rh_cli.specs.Fault.{status_of}
-use Rattle.rh_cli.proofs.Statuses.{late_is_told, late_of_ending, late_of_fault}
+use Rattle.rh_commands.specs.Fault.{status_of}
+use Rattle.rh_commands.specs.lemmas.Statuses.{late_is_told, late_of_ending, late_of_fault}
 use Rattle.rh_cli.proofs.viewed_driving.drive_viewed_logged.Goals as goal
 
 pub returns-in-Ok-clause-told : goal.returns-in-Ok-clause-told

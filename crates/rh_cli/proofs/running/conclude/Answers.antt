@@ -1,5 +1,0 @@
-use Rattle.std.proofs.Common.{rules}
-use Rattle.rh_cli.proofs.running.conclude.Goals as goal
-
-pub returns-in-Ok-2-clause-done : goal.returns-in-Ok-2-clause-done
-returns-in-Ok-2-clause-done g = search rules

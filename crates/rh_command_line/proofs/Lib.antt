@@ -1,0 +1,4 @@
+pub mod Added
+pub mod Chosen
+pub mod ClapMatches
+pub mod Wholes

@@ -1,0 +1,12 @@
+use Rattle.std.proofs.Common.{◌∙◌, ap}
+use Rattle.clap.specs.Simple.{app_of_fields}
+use Rattle.clap.specs.declared.builder.command.Command.{Command}
+use Rattle.clap.specs.declared.builder.command.Command.TheOpen.{Command-F}
+use Rattle.rh_command_line.proofs.commands.named_command.Goals as goal
+
+pub returns-clause-app : goal.returns-clause-app
+returns-clause-app c =
+    ap app_of_fields c.about.ensures ∙ c.new.ensures.app
+
+pub returns-clause-local : goal.returns-clause-local
+returns-clause-local c = ap (λ (fields : Command-F Command). fields.has_globals) c.about.ensures ∙ c.new.ensures.local

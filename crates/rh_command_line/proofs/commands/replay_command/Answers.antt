@@ -1,0 +1,19 @@
+use Rattle.std.proofs.Common.{◌∙◌, ap, codes, sym}
+use Rattle.rh_command_line.specs.Ask.{replay_app, told_app}
+use Rattle.rh_command_line.proofs.Added.{app-as}
+use Rattle.rh_command_line.proofs.Wholes.{bare-command_for, whole-command_for}
+use Rattle.rh_command_line.proofs.commands.replay_command.Goals as goal
+
+pub returns-then-not-has_options-clause-app : goal.returns-then-not-has_options-clause-app
+returns-then-not-has_options-clause-app c =
+    c.named_command.ensures.app ∙ bare-command_for c.args.word.now (codes "replay") replay_app (sym c.has_options.ensures ∙ c.if-not-has_options.true)
+
+pub returns-then-not-has_options-clause-local : goal.returns-then-not-has_options-clause-local
+returns-then-not-has_options-clause-local c = c.named_command.ensures.local
+
+pub returns-clause-app : goal.returns-clause-app
+returns-clause-app c =
+    app-as c.told_command.result _ _ c.told_command.ensures.app (ap told_app c.in_ok-plain.ensures.app ∙ whole-command_for c.args.word.now (codes "replay") replay_app (sym c.has_options.ensures ∙ c.if-not-has_options.false))
+
+pub returns-clause-local : goal.returns-clause-local
+returns-clause-local c = c.told_command.ensures.local c.in_ok-plain.ensures.local

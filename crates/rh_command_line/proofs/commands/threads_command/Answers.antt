@@ -1,0 +1,20 @@
+use Rattle.std.proofs.Common.{◌∙◌, ap, codes, sym}
+use Rattle.clap.specs.Words.{App, with_rule}
+use Rattle.rh_command_line.specs.Ask.{idle_rule, replicators_rule, threads_app}
+use Rattle.rh_command_line.proofs.Added.{app-as}
+use Rattle.rh_command_line.proofs.Wholes.{bare-command_for, whole-command_for}
+use Rattle.rh_command_line.proofs.commands.threads_command.Goals as goal
+
+pub returns-then-not-has_options-clause-app : goal.returns-then-not-has_options-clause-app
+returns-then-not-has_options-clause-app c =
+    c.named_command.ensures.app ∙ bare-command_for c.args.word.now (codes "threads") threads_app (sym c.has_options.ensures ∙ c.if-not-has_options.true)
+
+pub returns-then-not-has_options-clause-local : goal.returns-then-not-has_options-clause-local
+returns-then-not-has_options-clause-local c = c.named_command.ensures.local
+
+pub returns-clause-app : goal.returns-clause-app
+returns-clause-app c =
+    app-as c.with_option-2.result _ _ c.with_option-2.ensures.app (ap (λ (app : App). with_rule app idle_rule) (c.in_ok-replicating.ensures.app ∙ ap (λ (app : App). with_rule app replicators_rule) (c.in_ok-plain.ensures.app)) ∙ whole-command_for c.args.word.now (codes "threads") threads_app (sym c.has_options.ensures ∙ c.if-not-has_options.false))
+
+pub returns-clause-local : goal.returns-clause-local
+returns-clause-local c = c.with_option-2.ensures.local (c.in_ok-replicating.ensures.local c.in_ok-plain.ensures.local)

@@ -1,0 +1,12 @@
+use Rattle.std.proofs.Common.{◌∙◌, ap}
+use Rattle.clap.specs.Words.{App, with_rule}
+use Rattle.rh_command_line.specs.Ask.{heap_rule, program_rule}
+use Rattle.rh_command_line.proofs.Added.{app-as}
+use Rattle.rh_command_line.proofs.lisp_arguments.sized_command.Goals as goal
+
+pub returns-clause-app : goal.returns-clause-app
+returns-clause-app c =
+    app-as c.with_option.result _ _ c.with_option.ensures.app (ap (λ (app : App). with_rule app heap_rule) (c.in_ok-filed.ensures.app ∙ ap (λ (app : App). with_rule app program_rule) c.helped_command-plain.ensures.app))
+
+pub returns-clause-local : goal.returns-clause-local
+returns-clause-local c = c.with_option.ensures.local (c.in_ok-filed.ensures.local c.helped_command-plain.ensures.local)

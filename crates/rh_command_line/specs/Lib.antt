@@ -1,0 +1,3 @@
+pub mod Ask
+pub mod Fault
+pub mod lemmas

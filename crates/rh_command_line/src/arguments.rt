@@ -1,0 +1,543 @@
+//! The arguments of the program.
+
+ghost use Rattle.std.specs.Prelude.{◌≡◌, ◌≢◌, ◌≤◌, ◌⊎◌, [], map, option_map, Ok, Err, IsTrue, IfOk, IfErr};
+ghost use Rattle.clap.specs.Words.{kind_of, subcommand_rows_of};
+ghost use Rattle.rh_command_line.specs.Ask.{command_asked, is_output, output_texts, telling_of, viewed_in, viewed_of, command_and_file, command_and_file_in, command_and_file_of, command_named, completions_asked, completions_for, error_kinds, explains_in, explains_of, file_or_input, draw_asked, dump_asked, growing_asked, number_within, once, run_given, is_crossed, is_same_file, is_set, is_taken, run_asked, threads_asked};
+ghost use Rattle.rh_command_line.specs.Fault.{IsClapError, IsDue};
+ghost use Rattle.rh_command_line.specs.declared.ask.Ask.{Ask};
+
+use crate::ask::{Ask, Shell, Subcommand, Views};
+use crate::commands::{command_line, first_word};
+use crate::fault::{CommandLineError, CommandLineFault};
+use crate::lisp_arguments::lisp_asked;
+use clap::ArgMatches;
+use clap::error::ErrorKind;
+use rh_choices::Telling;
+use rh_text::read_number;
+use std::alloc::Global;
+
+/// The replicators of `threads` where it isn't said how many.
+const USUAL_REPLICATORS: u32 = 2;
+
+/// The most replicators that can be asked for.
+pub const MAX_REPLICATORS: u32 = 8;
+
+/// The most idle words of an increment that can be asked for.
+const MAX_IDLE: u32 = 65_535;
+
+/// The values of the options of all commands, as far as they are given.
+#[derive(Clone, Copy)]
+struct Options<'a> {
+    paced: Option<&'a str>,
+    mark: Option<&'a str>,
+    grow: Option<&'a str>,
+    replicators: Option<&'a str>,
+    idle: Option<&'a str>,
+    dot: Option<&'a str>,
+    explain: Option<&'a str>,
+    line: Option<&'a str>,
+    heap: Option<&'a str>,
+    steps: Option<&'a str>,
+    shell: Option<&'a str>,
+    cycles: Option<&'a str>,
+    history: Option<&'a str>,
+    echo: Option<&'a str>,
+    json: Option<&'a str>,
+    file: Option<&'a str>,
+}
+
+/// What the arguments ask for. The first one is the program's name. Clap takes its memory from the
+/// global allocator.
+///
+/// # Errors
+///
+/// `Arguments` where clap refuses them, or they ask for help or the version; `Incomplete` where
+/// clap takes them and they hold no command; `Mark` where `run` has `--mark` without
+/// `--paced`, or with a value that is no number below 2^32; `Grow` where it has `--grow` without
+/// `--paced` or beside `--mark`, or with a value that is no such number; `Replicators` and then
+/// `Idle` where `threads` has such an option with a value that is no number up to 8, or up to
+/// 65,535; `Words` and then `Steps` where `lisp` has both `--heap` and `--grow`, or such an option
+/// or `--steps` with a value that is no number below 2^32; `Line` where `draw` has `--line` with a
+/// value that is no number from 1 below 2^32;
+/// `Shell` where `completions` is asked for another shell than bash, zsh and fish; `Views` where
+/// two texts are for standard output, and then `Crossed` where two are for one file, or one for the
+/// file that is read; `SessionCycles` where `lisp` has `--cycles` and no file;
+/// `OutOfMemory` where memory was refused.
+pub fn read_command_line<'a>(
+    alloc: Global,
+    arguments: &'a [&'a str],
+) -> Result<Ask<'a>, CommandLineError>
+    // The request has the command and the file that clap's parse of the arguments holds.
+    ensures asked { IfOk result (λ ask.
+        command_and_file_of (map (λ a. a.now) arguments.now) ≡ Ok (command_and_file ask)) }
+    // It asks for explanations exactly where that parse has the flag for them.
+    ensures explained { IfOk result (λ ask.
+        ask.explain ≡ explains_of (map (λ a. a.now) arguments.now)) }
+    // What is done is viewed as that parse says.
+    ensures viewed { IfOk result (λ ask.
+        viewed_of (map (λ a. a.now) arguments.now) ≡ record {
+          telling = ask.views.telling;
+          cycles = option_map (λ t. t.now) ask.views.cycles;
+          history = option_map (λ t. t.now) ask.views.history;
+        }) }
+    // A request comes only where clap refuses nothing.
+    ensures taken { IfOk result (λ ask. error_kinds (map (λ a. a.now) arguments.now) ≡ []) }
+    // Arguments that clap takes, and that hold a request, are refused for want of memory alone.
+    ensures refused { IfErr result (λ error. IsTrue (is_taken (map (λ a. a.now) arguments.now))
+        → (ask : Ask)
+        → command_and_file_of (map (λ a. a.now) arguments.now) ≡ Ok (command_and_file ask)
+        → error ≡ CommandLineError.OutOfMemory) }
+    // What clap takes and is refused is told as what its parse holds instead, or memory was
+    // refused.
+    ensures due { IfErr result (λ error. IsTrue (is_taken (map (λ a. a.now) arguments.now))
+        → (error ≡ CommandLineError.OutOfMemory)
+        ⊎ IsDue (command_and_file_of (map (λ a. a.now) arguments.now)) error) }
+    // What clap refuses is told as its own error, or memory was refused.
+    ensures clap { IfErr result (λ error. error_kinds (map (λ a. a.now) arguments.now) ≢ []
+        → IsClapError (error_kinds (map (λ a. a.now) arguments.now)) error) }
+    // Whatever is told is that, or what the parse holds in place of a request.
+    ensures told { IfErr result (λ error.
+        IsClapError (error_kinds (map (λ a. a.now) arguments.now)) error
+        ⊎ IsDue (command_and_file_of (map (λ a. a.now) arguments.now)) error) }
+{
+    let matches = matches_of(alloc, arguments)?;
+    match ask_of(&matches) {
+        Ok(ask) => Ok(ask),
+        Err(fault) => Err(CommandLineError::Fault(fault)),
+    }
+}
+
+/// Clap's matches of the arguments.
+fn matches_of<'a>(
+    alloc: Global,
+    arguments: &'a [&'a str],
+) -> Result<ArgMatches<'a>, CommandLineError>
+    ensures held { IfOk result (λ matches.
+        command_and_file_of (map (λ a. a.now) arguments.now)
+        ≡ command_and_file_in (subcommand_rows_of matches)) }
+    ensures explained { IfOk result (λ matches. explains_of (map (λ a. a.now) arguments.now)
+        ≡ explains_in (subcommand_rows_of matches)) }
+    ensures viewed { IfOk result (λ matches. viewed_of (map (λ a. a.now) arguments.now)
+        ≡ viewed_in (subcommand_rows_of matches)) }
+    ensures taken { IfOk result (λ matches. error_kinds (map (λ a. a.now) arguments.now) ≡ []) }
+    ensures refused { IfErr result (λ error. IsTrue (is_taken (map (λ a. a.now) arguments.now))
+        → error ≡ CommandLineError.OutOfMemory) }
+    ensures told { IfErr result (λ error.
+        IsClapError (error_kinds (map (λ a. a.now) arguments.now)) error) }
+{
+    let command = command_line(alloc, first_word(arguments))?;
+    match command.try_get_matches_from(arguments) {
+        Ok(matches) => Ok(matches),
+        Err(error) => Err(error_of(error)),
+    }
+}
+
+/// The request that clap's matches hold, or the fault that they hold instead.
+fn ask_of<'a>(matches: &ArgMatches<'a>) -> Result<Ask<'a>, CommandLineFault>
+    ensures found { IfOk result (λ ask.
+        command_and_file_in (subcommand_rows_of matches.now) ≡ Ok (command_and_file ask)) }
+    ensures explained { IfOk result (λ ask.
+        explains_in (subcommand_rows_of matches.now) ≡ ask.explain) }
+    ensures viewed { IfOk result (λ ask.
+        viewed_in (subcommand_rows_of matches.now) ≡ record {
+          telling = ask.views.telling;
+          cycles = option_map (λ t. t.now) ask.views.cycles;
+          history = option_map (λ t. t.now) ask.views.history;
+        }) }
+    ensures none { IfErr result (λ fault.
+        command_and_file_in (subcommand_rows_of matches.now) ≡ Err fault) }
+{
+    let Some((name, values)) = matches.subcommand() else {
+        return Err(CommandLineFault::Incomplete);
+    };
+    let options = Options {
+        paced: values.get_str("paced"),
+        mark: values.get_str("mark"),
+        grow: values.get_str("grow"),
+        replicators: values.get_str("replicators"),
+        idle: values.get_str("idle"),
+        dot: values.get_str("dot"),
+        explain: values.get_str("explain"),
+        line: values.get_str("line"),
+        heap: values.get_str("heap"),
+        steps: values.get_str("steps"),
+        shell: values.get_str("SHELL"),
+        cycles: values.get_str("cycles"),
+        history: values.get_str("history"),
+        echo: values.get_str("echo"),
+        json: values.get_str("json"),
+        file: values.get_str("FILE"),
+    };
+    let file = file_or_input(options.file);
+    let subcommand = command_asked(name, options)?;
+    let explain = is_set(options.explain);
+    let telling = telling_of(is_set(options.echo), is_set(options.json));
+    let views = Views {
+        telling,
+        cycles: options.cycles,
+        history: options.history,
+    };
+    Ok(Ask {
+        subcommand,
+        file,
+        explain,
+        views,
+    })
+}
+
+/// The file, or standard input of a command that takes none.
+fn file_or_input<'a>(given: Option<&'a str>) -> &'a str
+    ensures { result.now ≡ file_or_input (option_map (λ t. t.now) given.entry) }
+{
+    match given {
+        Some(file) => file,
+        None => "-",
+    }
+}
+
+/// Whether the value of a flag says that it was set.
+fn is_set(value: Option<&str>) -> bool
+    ensures { result ≡ is_set (option_map (λ t. t.now) value.entry) }
+{
+    match value {
+        Some(text) => text == "true",
+        None => false,
+    }
+}
+
+/// How what is done is told, by the flags.
+fn telling_of(echo: bool, json: bool) -> Telling
+    ensures { result ≡ telling_of echo json }
+{
+    if json {
+        return Telling::Json;
+    }
+    if echo {
+        return Telling::Echo;
+    }
+    Telling::Answers
+}
+
+/// Whether the name of a file that is given says standard output.
+pub fn is_output(given: Option<&str>) -> bool
+    ensures { result ≡ is_output (option_map (λ t. t.now) given.entry) }
+{
+    match given {
+        Some(name) => name == "-",
+        None => false,
+    }
+}
+
+/// 1 where this holds.
+fn once(is: bool) -> u32
+    ensures value { result ≡ once is }
+    ensures few { result ≤ 1 }
+{
+    if is { 1 } else { 0 }
+}
+
+/// How many of the options would have standard output each for its own text.
+fn output_texts(given: &Options<'_>) -> u32
+    ensures texts { result ≡ output_texts (record {
+      paced = option_map (λ t. t.now) given.now.paced;
+      mark = option_map (λ t. t.now) given.now.mark;
+      grow = option_map (λ t. t.now) given.now.grow;
+      replicators = option_map (λ t. t.now) given.now.replicators;
+      idle = option_map (λ t. t.now) given.now.idle;
+      dot = option_map (λ t. t.now) given.now.dot;
+      explain = option_map (λ t. t.now) given.now.explain;
+      line = option_map (λ t. t.now) given.now.line;
+      heap = option_map (λ t. t.now) given.now.heap;
+      steps = option_map (λ t. t.now) given.now.steps;
+      shell = option_map (λ t. t.now) given.now.shell;
+      cycles = option_map (λ t. t.now) given.now.cycles;
+      history = option_map (λ t. t.now) given.now.history;
+      echo = option_map (λ t. t.now) given.now.echo;
+      json = option_map (λ t. t.now) given.now.json;
+      file = option_map (λ t. t.now) given.now.file;
+    }) }
+{
+    let flags = once(is_set(given.echo)) + (once(is_set(given.json)) + once(is_set(given.dot)));
+    once(is_output(given.cycles)) + (once(is_output(given.history)) + flags)
+}
+
+/// Whether two files that are given are one, other than standard input and output.
+fn is_same_file(one: Option<&str>, other: Option<&str>) -> bool
+    ensures { result ≡ is_same_file (option_map (λ t. t.now) one.entry)
+        (option_map (λ t. t.now) other.entry) }
+{
+    let Some(name) = one else {
+        return false;
+    };
+    let Some(other) = other else {
+        return false;
+    };
+    if name == "-" {
+        return false;
+    }
+    name == other
+}
+
+/// Whether a text would go to the file that is read, or two texts to one file.
+fn is_crossed(given: &Options<'_>) -> bool
+    ensures crossed { result ≡ is_crossed (record {
+      paced = option_map (λ t. t.now) given.now.paced;
+      mark = option_map (λ t. t.now) given.now.mark;
+      grow = option_map (λ t. t.now) given.now.grow;
+      replicators = option_map (λ t. t.now) given.now.replicators;
+      idle = option_map (λ t. t.now) given.now.idle;
+      dot = option_map (λ t. t.now) given.now.dot;
+      explain = option_map (λ t. t.now) given.now.explain;
+      line = option_map (λ t. t.now) given.now.line;
+      heap = option_map (λ t. t.now) given.now.heap;
+      steps = option_map (λ t. t.now) given.now.steps;
+      shell = option_map (λ t. t.now) given.now.shell;
+      cycles = option_map (λ t. t.now) given.now.cycles;
+      history = option_map (λ t. t.now) given.now.history;
+      echo = option_map (λ t. t.now) given.now.echo;
+      json = option_map (λ t. t.now) given.now.json;
+      file = option_map (λ t. t.now) given.now.file;
+    }) }
+{
+    if is_same_file(given.cycles, given.history) {
+        return true;
+    }
+    if is_same_file(given.cycles, given.file) {
+        return true;
+    }
+    is_same_file(given.history, given.file)
+}
+
+/// The command of this name with its options, where at most one text is for standard output, and no
+/// text for a file that has another.
+fn command_asked(name: &str, given: Options<'_>) -> Result<Subcommand, CommandLineFault>
+    ensures asked { result ≡ command_asked name.now (record {
+      paced = option_map (λ t. t.now) given.entry.paced;
+      mark = option_map (λ t. t.now) given.entry.mark;
+      grow = option_map (λ t. t.now) given.entry.grow;
+      replicators = option_map (λ t. t.now) given.entry.replicators;
+      idle = option_map (λ t. t.now) given.entry.idle;
+      dot = option_map (λ t. t.now) given.entry.dot;
+      explain = option_map (λ t. t.now) given.entry.explain;
+      line = option_map (λ t. t.now) given.entry.line;
+      heap = option_map (λ t. t.now) given.entry.heap;
+      steps = option_map (λ t. t.now) given.entry.steps;
+      shell = option_map (λ t. t.now) given.entry.shell;
+      cycles = option_map (λ t. t.now) given.entry.cycles;
+      history = option_map (λ t. t.now) given.entry.history;
+      echo = option_map (λ t. t.now) given.entry.echo;
+      json = option_map (λ t. t.now) given.entry.json;
+      file = option_map (λ t. t.now) given.entry.file;
+    }) }
+{
+    if output_texts(&given) > 1 {
+        return Err(CommandLineFault::Views);
+    }
+    if is_crossed(&given) {
+        return Err(CommandLineFault::Crossed);
+    }
+    command_named(name, given)
+}
+
+/// The command of this name with its options, of those that are given.
+fn command_named(name: &str, given: Options<'_>) -> Result<Subcommand, CommandLineFault>
+    ensures named { result ≡ command_named name.now (record {
+      paced = option_map (λ t. t.now) given.entry.paced;
+      mark = option_map (λ t. t.now) given.entry.mark;
+      grow = option_map (λ t. t.now) given.entry.grow;
+      replicators = option_map (λ t. t.now) given.entry.replicators;
+      idle = option_map (λ t. t.now) given.entry.idle;
+      dot = option_map (λ t. t.now) given.entry.dot;
+      explain = option_map (λ t. t.now) given.entry.explain;
+      line = option_map (λ t. t.now) given.entry.line;
+      heap = option_map (λ t. t.now) given.entry.heap;
+      steps = option_map (λ t. t.now) given.entry.steps;
+      shell = option_map (λ t. t.now) given.entry.shell;
+      cycles = option_map (λ t. t.now) given.entry.cycles;
+      history = option_map (λ t. t.now) given.entry.history;
+      echo = option_map (λ t. t.now) given.entry.echo;
+      json = option_map (λ t. t.now) given.entry.json;
+      file = option_map (λ t. t.now) given.entry.file;
+    }) }
+{
+    if name == "run" {
+        return run_given(is_set(given.paced), given.mark, given.grow);
+    }
+    if name == "threads" {
+        return threads_asked(given.replicators, given.idle);
+    }
+    if name == "replay" {
+        return Ok(Subcommand::Replay);
+    }
+    if name == "dump" {
+        return Ok(dump_asked(is_set(given.dot)));
+    }
+    if name == "draw" {
+        return draw_asked(given.line);
+    }
+    if name == "shell" {
+        return Ok(Subcommand::Session);
+    }
+    if name == "lisp" {
+        return lisp_asked(
+            given.heap,
+            given.grow,
+            given.steps,
+            given.cycles,
+            given.file,
+        );
+    }
+    if name == "completions" {
+        return completions_asked(given.shell);
+    }
+    Err(CommandLineFault::Incomplete)
+}
+
+/// What is written of a dump: its graph for Graphviz where that is asked, and else its counts.
+fn dump_asked(dot: bool) -> Subcommand
+    ensures { result ≡ dump_asked dot }
+{
+    if dot {
+        Subcommand::Dot
+    } else {
+        Subcommand::Dump
+    }
+}
+
+/// The completions that are asked for.
+fn completions_asked(shell: Option<&str>) -> Result<Subcommand, CommandLineFault>
+    ensures asked { result ≡ completions_asked (option_map (λ t. t.now) shell.entry) }
+{
+    match shell {
+        None => Err(CommandLineFault::Incomplete),
+        Some(name) => completions_for(name),
+    }
+}
+
+/// The completions for the shell of this name.
+fn completions_for(name: &str) -> Result<Subcommand, CommandLineFault>
+    ensures named { result ≡ completions_for name.now }
+{
+    if name == "bash" {
+        return Ok(Subcommand::Completions { shell: Shell::Bash });
+    }
+    if name == "zsh" {
+        return Ok(Subcommand::Completions { shell: Shell::Zsh });
+    }
+    if name == "fish" {
+        return Ok(Subcommand::Completions { shell: Shell::Fish });
+    }
+    Err(CommandLineFault::Shell)
+}
+
+/// The picture that is asked for: after the last line where none is given.
+fn draw_asked(line: Option<&str>) -> Result<Subcommand, CommandLineFault>
+    ensures asked { result ≡ draw_asked (option_map (λ t. t.now) line.entry) }
+{
+    match line {
+        None => Ok(Subcommand::Draw { line: None }),
+        Some(text) => match read_number(text.as_bytes()) {
+            Some(number) => {
+                if 1 <= number {
+                    return Ok(Subcommand::Draw { line: Some(number) });
+                }
+                Err(CommandLineFault::Line)
+            }
+            None => Err(CommandLineFault::Line),
+        },
+    }
+}
+
+/// The run that is asked for. A mark is for paced runs alone.
+fn run_asked(is_paced: bool, mark: Option<&str>) -> Result<Subcommand, CommandLineFault>
+    ensures asked { result ≡ run_asked is_paced (option_map (λ t. t.now) mark.entry) }
+{
+    match mark {
+        None if is_paced => Ok(Subcommand::RunPaced { mark: None }),
+        None => Ok(Subcommand::Run),
+        Some(text) if is_paced => match read_number(text.as_bytes()) {
+            Some(number) => Ok(Subcommand::RunPaced { mark: Some(number) }),
+            None => Err(CommandLineFault::Mark),
+        },
+        Some(_) => Err(CommandLineFault::Mark),
+    }
+}
+
+/// The run that is asked for, on a heap that grows where that is given.
+fn run_given(
+    is_paced: bool,
+    mark: Option<&str>,
+    grow: Option<&str>,
+) -> Result<Subcommand, CommandLineFault>
+    ensures asked { result ≡ run_given is_paced (option_map (λ t. t.now) mark.entry)
+        (option_map (λ t. t.now) grow.entry) }
+{
+    match grow {
+        None => run_asked(is_paced, mark),
+        Some(at_most) => growing_asked(mark, is_paced, at_most),
+    }
+}
+
+/// The run on a heap that grows to at most so many words. It has no mark, and is paced.
+fn growing_asked(
+    mark: Option<&str>,
+    is_paced: bool,
+    at_most: &str,
+) -> Result<Subcommand, CommandLineFault>
+    ensures asked { result ≡ growing_asked (option_map (λ t. t.now) mark.entry) is_paced
+        at_most.now }
+{
+    match mark {
+        None if is_paced => match read_number(at_most.as_bytes()) {
+            Some(number) => Ok(Subcommand::RunGrowing { at_most: number }),
+            None => Err(CommandLineFault::Grow),
+        },
+        None => Err(CommandLineFault::Grow),
+        Some(_) => Err(CommandLineFault::Grow),
+    }
+}
+
+/// The run in threads that is asked for.
+fn threads_asked(
+    replicators: Option<&str>,
+    idle: Option<&str>,
+) -> Result<Subcommand, CommandLineFault>
+    ensures asked { result ≡ threads_asked (option_map (λ t. t.now) replicators.entry)
+        (option_map (λ t. t.now) idle.entry) }
+{
+    let Some(replicators) = number_within(USUAL_REPLICATORS, MAX_REPLICATORS, replicators) else {
+        return Err(CommandLineFault::Replicators);
+    };
+    let Some(idle) = number_within(0, MAX_IDLE, idle) else {
+        return Err(CommandLineFault::Idle);
+    };
+    Ok(Subcommand::Threads { replicators, idle })
+}
+
+/// The number that is given, if it is no more than the most, or the usual one where none is given.
+fn number_within(usual: u32, most: u32, given: Option<&str>) -> Option<u32>
+    ensures { result ≡ number_within usual most (option_map (λ t. t.now) given.entry) }
+{
+    let Some(text) = given else {
+        return Some(usual);
+    };
+    match read_number(text.as_bytes()) {
+        Some(number) if number <= most => Some(number),
+        _ => None,
+    }
+}
+
+/// Why a command line isn't read of which clap tells this error.
+fn error_of(error: clap::Error) -> CommandLineError
+    ensures memory { kind_of error ≡ ErrorKind.OutOfMemory
+        → result ≡ CommandLineError.OutOfMemory }
+    // Else it is told as what clap says.
+    ensures told { kind_of error ≢ ErrorKind.OutOfMemory
+        → result ≡ CommandLineError.Fault (CommandLineFault.Arguments error) }
+{
+    if error.kind() == ErrorKind::OutOfMemory {
+        CommandLineError::OutOfMemory
+    } else {
+        CommandLineError::Fault(CommandLineFault::Arguments(error))
+    }
+}

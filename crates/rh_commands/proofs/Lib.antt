@@ -1,0 +1,9 @@
+pub mod Causes
+pub mod Counted
+pub mod Drawn
+pub mod Flushed
+pub mod Inputs
+pub mod Reported
+pub mod Sessions
+pub mod Statuses
+pub mod ViewsFlushed

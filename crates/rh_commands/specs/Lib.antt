@@ -1,0 +1,11 @@
+pub mod Count
+pub mod Draw
+pub mod Fault
+pub mod Paced
+pub mod Replay
+pub mod Run
+pub mod Session
+pub mod Shared
+pub mod ViewLog
+pub mod Views
+pub mod lemmas

@@ -1,0 +1,38 @@
+//! What the program does that needs no Scheme: each command from its reader to its writer, how it
+//! ends, and how that is told.
+#![tactic(auto)]
+
+mod completing;
+mod conversing;
+mod counting;
+mod drawing;
+mod ending;
+mod explaining;
+mod fault;
+mod fault_object;
+mod graphing;
+mod pacing;
+mod replaying;
+mod reporting;
+mod running;
+mod sharing;
+mod telling;
+mod view_log;
+mod viewing;
+
+pub use completing::print_completions;
+pub use conversing::converse;
+pub use counting::count;
+pub use drawing::draw;
+pub use ending::Ending;
+pub use explaining::explain;
+pub use fault::LineFault;
+pub use graphing::print_graph;
+pub use pacing::{run_by_growth, run_by_mark};
+pub use replaying::replay;
+pub use reporting::{view_count, view_report};
+pub use running::run;
+pub use sharing::play_shared;
+pub use telling::{show, tell, tell_as, tell_ending};
+pub use view_log::ViewLog;
+pub use viewing::{view_run, view_run_by_growth, view_run_by_mark};
