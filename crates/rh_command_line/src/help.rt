@@ -428,7 +428,7 @@ The text is a script of that shell. It completes the commands, their options and
   zsh   rheap completions zsh >_rheap, in a folder that $fpath has
   fish  rheap completions fish >~/.config/fish/completions/rheap.fish
 
-./rheap --install puts these texts where the shells look for them.
+./rheap install puts these texts where the shells look for them.
 
 Statuses:
   0  done
