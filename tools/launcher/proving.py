@@ -1,0 +1,97 @@
+"""Proving here: `rt ci` over a copy that has only what is due, side by side, the longest chain of crates first."""
+import re
+import shutil
+
+import building
+import toolchain
+from progress import minutes, pace_of_machine
+from tree import CRATES, PROVED, Sums, files_of, proved_by_turns, read_proofs, with_those_below, write_proofs
+from workshop import OUT, Trouble, Workshop, end_by_signals, processors, say
+
+# What was proved here, in the form of PROVED.
+HERE = OUT / "proved"
+LOG = OUT / "proving.log"
+# Processor seconds that a crate and each line of its code take to prove on the measured machine, and megabytes of disk that a line
+# takes meanwhile. The longest chain of crates keeps little more than two processors busy.
+SECONDS_A_CRATE = 25
+SECONDS_A_LINE = 0.08
+MEGABYTES_A_LINE = 0.07
+MOST_BUSY = 2.2
+
+
+def lines_of(crates):
+    """How many lines of code these crates have."""
+    return sum(open(file, "rb").read().count(b"\n") for it in crates for file in files_of(it) if file.endswith(".rt"))
+
+
+def due(crates, sums, logic):
+    """The crates of these and those below them that weren't proved here as they are now, by this logic."""
+    proofs = read_proofs(HERE)
+    return [it for it in with_those_below(*crates) if proofs.get(it) != (sums.of(it), logic)]
+
+
+def prove(crates):
+    """Proves what is due of these crates and those below them, writes PROVED, and returns what is told of it."""
+    sums, logic = Sums(), toolchain.logic()
+    wants_program = "rheap" in crates
+    sources = building.Sources()
+    if not due(crates, sums, logic) and not (wants_program and not building.PROVED.is_of(sources.state)):
+        return "nothing is due: all of it was proved here, as it is now"
+    end_by_signals()
+    names = with_those_below(*crates)
+    lines = lines_of(names)
+    with Workshop(LOG, int(lines * MEGABYTES_A_LINE) + 100) as shop:
+        copy = shop.folder / "copy"
+        building.copy_of_crates(copy, crates)
+        # rt ci wants the top of a repository.
+        (copy / ".git").mkdir()
+        seconds = (len(names) * SECONDS_A_CRATE + lines * SECONDS_A_LINE) * pace_of_machine()
+        about = minutes(seconds / min(processors(), MOST_BUSY, len(names)))
+        say(f"proving {crates_in(names)}, in about {about} where nothing else runs; log: {shop.log}")
+        progress = Told(len(names))
+        status = shop.all_of(progress.tick, lambda: shop.run(["rt", "ci"], cwd=copy))[0]
+        said = LOG.read_text(encoding="utf-8", errors="replace")
+        passed = [it for it in names if re.search(rf"^rt: {it} proved$", said, re.M) and not re.search(rf"^rt: {it}: its tests are NOT PROVED$", said, re.M)]
+        if any(Sums().of(it) != sums.of(it) for it in names):
+            raise Trouble("a source changed while this was proved; run it again")
+        note(passed, sums, logic)
+        if status:
+            raise shop.failed(f"{len(names) - len(passed)} of {crates_in(names)}", "proved")
+        if wants_program:
+            building.keep(shop, building.PROVED, copy / "crates/rheap/out/rheap", sources)
+    return f"proved {crates_in(names)}"
+
+
+def crates_in(names):
+    """How many crates these are, as it is said."""
+    return f"{len(names)} crate{'s' if len(names) > 1 else ''}"
+
+
+class Told:
+    """Tells how many crates are proved, as that changes."""
+
+    def __init__(self, count):
+        self.count, self.told = count, 0
+
+    def tick(self):
+        done = len(re.findall(r"^rt: \w+ proved$", LOG.read_text(encoding="utf-8", errors="replace"), re.M))
+        if done != self.told:
+            self.told = done
+            say(f"{done} of {self.count} proved")
+
+
+def note(crates, sums, logic):
+    """Notes that these crates were proved here, and in PROVED those that the gate proves each time."""
+    for file, leaves_out in ((HERE, set()), (PROVED, proved_by_turns())):
+        proofs = {name: it for name, it in read_proofs(file).items() if name in CRATES}
+        proofs.update({it: (sums.of(it), logic) for it in crates if it not in leaves_out})
+        write_proofs(file, proofs)
+
+
+def differences():
+    """Where PROVED isn't as the sources are: a line for each crate that the gate proves each time."""
+    sums, proofs = Sums(), read_proofs(PROVED)
+    names = [it for it in CRATES if it not in proved_by_turns()]
+    lines = [f"PROVED has no {it}" for it in names if it not in proofs]
+    lines += [f"PROVED has another checksum of {it}" for it in names if it in proofs and proofs[it][0] != sums.of(it)]
+    return lines + [f"PROVED has {it}, which the gate doesn't prove each time" for it in proofs if it not in names]

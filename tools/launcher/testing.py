@@ -1,0 +1,230 @@
+"""The tests: those of the crates without proof and with all checks, the examples, the programs in C and plain Rust, the pages."""
+import os
+import re
+import shutil
+import subprocess
+import threading
+
+import building
+import quick
+from progress import minutes, pace_of_machine
+from toolchain import Kit, UnknownToolchain
+from tree import CRATES, TOP, folder_of, has_tests
+from workshop import Trouble, print_out, processors, say
+
+# This crate's tests take longest, and begin first. All others are built as one program, so that what they use is built once.
+LONG = "long_tests"
+TOGETHER = "every_test"
+SECONDS = 600
+# What all of it takes of processors on the measured machine, and how many it keeps busy.
+SECONDS_OF_PROCESSORS = 1150
+MOST_BUSY = 4
+# The checks of pages and scripts, each a command with what it takes.
+PAGES = [
+    ("docs/make_headline", "--check"), ("bench/plots", "--check"), ("docs/check_pages",), ("examples/c/header",), (".ci/launcher",),
+]
+
+
+class Tally:
+    """What has passed and failed, told as it comes."""
+
+    def __init__(self):
+        self.passed = self.failed = 0
+        self.guard = threading.Lock()
+
+    def add(self, name, passed, failed, said=""):
+        """Counts what a part came to, and tells it: of what failed all that was said."""
+        with self.guard:
+            self.passed += passed
+            self.failed += failed
+            if failed:
+                print_out(said.rstrip())
+            print_out(f"{name}: {passed} passed" + (f", {failed} FAILED" if failed else ""))
+
+
+def moved(text, crate):
+    """The text of a file of the crate, as that of a module of the crate that has them all."""
+    return re.sub(r"\bcrate::", f"crate::{crate}::", text.replace(f"Rattle.{crate}.", f"Rattle.{TOGETHER}."))
+
+
+def put_together(crates, place):
+    """Makes a crate that has these as its modules, with the definitions that they name."""
+    for folder in ("src", "specs", "proofs"):
+        (place / folder).mkdir(parents=True)
+    (place / "proofs/Lib.antt").touch()
+    specs = {}
+    for crate in crates:
+        source = folder_of(crate) / "src"
+        for file in source.rglob("*.rt"):
+            text, to = moved(file.read_text(encoding="utf-8"), crate), place / "src" / crate / file.relative_to(source)
+            if file == source / "lib.rt":
+                text = text.replace("#![tactic(auto)]\n", "").replace("#[cfg(test)]\n", "")
+                to = place / "src" / f"{crate}.rt"
+            to.parent.mkdir(parents=True, exist_ok=True)
+            to.write_text(text, encoding="utf-8")
+        for file in (folder_of(crate) / "specs").glob("*.antt"):
+            specs[file.name] = specs.get(file.name, "") + moved(file.read_text(encoding="utf-8"), crate)
+    for name, text in {"Lib.antt": "", **specs}.items():
+        (place / "specs" / name).write_text(text, encoding="utf-8")
+    modules = "".join(f"#[cfg(test)]\nmod {crate};\n" for crate in crates)
+    (place / "src/lib.rt").write_text(f"//! The tests of several crates.\n#![tactic(auto)]\n\n{modules}", encoding="utf-8")
+
+
+def run_crates(shop, tally, crates, rank):
+    """Builds the tests of these crates as one program, and runs each in a process of its own."""
+    try:
+        kit = Kit()
+    except UnknownToolchain:
+        run_slowly(shop, tally, crates, rank)
+        return
+    room = shop.folder / f"tests.{crates[0]}"
+    room.mkdir()
+    crate, folder = crates[0], folder_of(crates[0])
+    if len(crates) > 1:
+        crate, folder = TOGETHER, room / "crate"
+        put_together(crates, folder)
+    words, _ = kit.libraries(crates, quick.labelled(room, quick.CHECKED))
+    program = quick.build_with_checks(shop, kit, room, crate, folder, words, rank, tests=True)
+    said = run_each(shop, kit, room, program, rank)
+    if len(said) != sum(count_of_tests(it) for it in crates):
+        raise Trouble(f"the program of {', '.join(crates)} has {len(said)} tests, and the sources have others")
+    for it in crates:
+        of_it = [name for name in said if len(crates) == 1 or name.split("::")[0] == it]
+        failed = [name for name in of_it if f"test {name} ... ok\n" not in said[name]]
+        tally.add(it, len(of_it) - len(failed), len(failed), "\n".join(said[name] for name in failed))
+
+
+def run_each(shop, kit, room, program, rank):
+    """Runs each test of a program, and returns what was said of it by its name."""
+    listed = subprocess.run([program, "--list"], capture_output=True, text=True, check=False).stdout
+    names = re.findall(r"^(\S+): test$", listed, re.M)
+
+    def run(name):
+        to = room / f"{name.replace('::', '.')}.out"
+        shop.run([kit.runner, "--seconds", SECONDS, "--filter", name, program], rank, output=to, cwd=room)
+        return to.read_text(errors="replace")
+
+    return dict(zip(names, shop.each_of([lambda it=it: run(it) for it in names])))
+
+
+def run_slowly(shop, tally, crates, rank):
+    """Runs the tests of each crate by the toolchain's own `rt try`, where its parts aren't known here."""
+
+    def run(crate):
+        to = shop.folder / f"{crate}.out"
+        shop.run(["rt", "try", "--test", "--seconds", 3600], rank, output=to, cwd=folder_of(crate))
+        said = to.read_text(errors="replace")
+        found = re.search(r"^test result: .*?(\d+) passed; (\d+) failed", said, re.M)
+        passed, failed = map(int, found.groups()) if found else (0, 1)
+        tally.add(crate, passed, max(failed, count_of_tests(crate) - passed), said)
+
+    shop.each_of([lambda it=it: run(it) for it in crates])
+
+
+def count_of_tests(crate):
+    """How many tests the sources of a crate have."""
+    files = (folder_of(crate) / "src").rglob("*.rt")
+    return sum(len(re.findall(r"^\s*#\[test\]", file.read_text(encoding="utf-8"), re.M)) for file in files)
+
+
+def run_script(shop, tally, rank, words, **how):
+    """Runs a script of the repository, and counts what it says that it ran: one, if it says nothing of that."""
+    to = shop.folder / f"{words[0].replace('/', '.')}.out"
+    status = shop.run([TOP / words[0], *words[1:]], rank, output=to, cwd=TOP, **how)
+    said = to.read_text(errors="replace")
+    counts = [re.findall(rf"\b(\d+) {word}\b", said) for word in ("passed", "failed")]
+    passed, failed = (sum(map(int, it)) for it in counts)
+    runs = re.search(r"all as written, in (\d+) runs", said)
+    passed = int(runs[1]) if runs else passed
+    for line in re.findall(r"^.*\bleft out\b.*$", said, re.M):
+        print_out(line)
+    if status:
+        tally.add(words[0], passed, max(failed, 1), said)
+    else:
+        tally.add(words[0], max(passed, 1), 0)
+
+
+class Program:
+    """The program that the examples run, which is built once for all that need it."""
+
+    def __init__(self, shop, rank):
+        self.shop, self.rank = shop, rank
+        self.guard, self.built = threading.Lock(), None
+
+    def words(self):
+        """The program's path, or nothing where the toolchain's parts aren't known here: that program is too slow for the examples."""
+        with self.guard:
+            self.built = self.built or building.program_in(self.shop, self.rank)
+        return () if self.built is building.TRIED else (self.built.file,)
+
+
+def run_examples(shop, tally, program, rank):
+    """Runs the examples, and compares the man page and the pictures with what the program says."""
+    file = program.words()
+    if not file:
+        print_out("left out, since this toolchain's parts aren't known here: the examples")
+        return
+    for words in (("examples/check", *file), ("share/make", "--check", *file), ("docs/pictures/make", "--check", *file)):
+        run_script(shop, tally, rank, words)
+
+
+def run_borders(shop, tally, program, rank):
+    """Builds the library, and runs the programs in C and plain Rust over it."""
+    lacking = [it for it in ("cc", "ar", "nm") if not shutil.which(it)]
+    if lacking:
+        print_out(f"left out, since {lacking[0]} isn't on the PATH: the programs in C and plain Rust")
+        return
+    try:
+        place = building.library_in(shop, rank)
+    except UnknownToolchain:
+        print_out("left out, since this toolchain's parts aren't known here: the programs in C and plain Rust")
+        return
+    how = {**os.environ, "RHEAP_LIB_DIR": str(place)}
+    shop.each_of([
+        lambda: run_script(shop, tally, rank, ("examples/c/check", *program.words()), env=how),
+        lambda: run_script(shop, tally, rank, ("bindings/rust/check",), env=how),
+    ])
+
+
+def test_all(shop):
+    """All tests, examples and programs, as many at once as there are processors."""
+    tally = Tally()
+    seconds = SECONDS_OF_PROCESSORS * pace_of_machine() / min(processors(), MOST_BUSY)
+    say(f"testing without proofs, in about {minutes(seconds)} where nothing else runs; log: {shop.log}")
+    others = [it for it in CRATES if has_tests(it) and it != LONG]
+    program = Program(shop, 2)
+    works = [
+        ("tests", lambda: run_crates(shop, tally, [LONG], 0)), ("tests", lambda: run_crates(shop, tally, others, 1)),
+        ("examples", lambda: run_examples(shop, tally, program, 2)),
+        ("programs in C and plain Rust", lambda: run_borders(shop, tally, program, 3)),
+        *((it[0], lambda it=it: run_script(shop, tally, 4, it)) for it in PAGES),
+    ]
+    do_works(shop, tally, works)
+    return tally
+
+
+def do_works(shop, tally, works):
+    """Does these works side by side. One that can't be done counts as failed, and the others go on."""
+
+    def do(name, work):
+        try:
+            work()
+        except Trouble as trouble:
+            tally.add(name, 0, 1, str(trouble))
+
+    shop.all_of(lambda: None, *(lambda it=it: do(*it) for it in works))
+
+
+def need_tests(crates):
+    """Ends where one of these crates has no tests."""
+    for it in crates:
+        if not has_tests(it):
+            users = [name for name in CRATES if has_tests(name) and it in CRATES[name].names]
+            raise Trouble(f"{it} has no tests of its own" + (f"; those of {', '.join(users)} use it" if users else ""), 2)
+
+
+def test_crates(shop, crates):
+    """The tests of these crates alone, each a program of its own."""
+    tally = Tally()
+    do_works(shop, tally, [(it, lambda it=it: run_crates(shop, tally, [it], 0)) for it in crates])
+    return tally
