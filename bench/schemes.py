@@ -54,10 +54,11 @@ def whole(word, least, most, what):
 
 
 def program_of(given):
-    """The program `rheap`: the one that is given, or else this repository's, built if a source has changed."""
-    if given is None and subprocess.run([ROOT / "rheap", "--build"]).returncode:
-        fail("./rheap --build failed")
-    program = pathlib.Path(given or ROOT / "crates/rheap/out/rheap").resolve()
+    """The program `rheap`: the one that is given, or else the one that the launcher builds."""
+    if given is None:
+        ran = subprocess.run([ROOT / "rheap", "build"], stdout=subprocess.PIPE, text=True)
+        given = ran.stdout.strip() if ran.returncode == 0 else fail("./rheap build failed")
+    program = pathlib.Path(given).resolve()
     if not os.access(program, os.X_OK):
         fail(f"no program {program}", 2)
     return program
@@ -65,7 +66,7 @@ def program_of(given):
 
 def c_parts():
     """What examples/lisp.c is linked with, or None, with a word about it, where that isn't there."""
-    folder = pathlib.Path(os.environ.get("RHEAP_LIB_DIR") or ROOT / "crates/rheap_c/out").resolve()
+    folder = pathlib.Path(os.environ.get("RHEAP_LIB_DIR") or ROOT / "out/quick").resolve()
     if not shutil.which("gcc"):
         tell("gcc isn't there, and lisp.c is left out")
     elif (folder / "librheap.a").exists():
@@ -73,7 +74,7 @@ def c_parts():
     elif (folder / "librheap_c.a").exists():
         return [ROOT / "include/rheap_memory.c", folder / "librheap_c.a"]
     else:
-        tell(f"{folder} has no library, and lisp.c is left out: run rt lib in crates/rheap_c")
+        tell(f"there is no library in {folder}, and lisp.c is left out: ./rheap install --library PREFIX makes it, in PREFIX/lib")
     return None
 
 

@@ -1,5 +1,5 @@
 /* How the libraries rheap_c and rheap_static take memory, and free it: the three functions that their
-   archives leave to the program, over malloc, realloc and free. `./rheap --install` compiles them
+   archives leave to the program, over malloc, realloc and free. `./rheap install` compiles them
    into librheap.a. Nothing here is proved: it is trusted to do what the comments say. To take memory
    elsewhere, define the three in a file of your own, and link that before librheap.a. */
 #include <stdbool.h>

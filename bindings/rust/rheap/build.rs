@@ -40,7 +40,7 @@ fn main() {
         eprintln!("    set RHEAP_LIB_DIR to the absolute path of its folder, or");
         eprintln!("    have `pkg-config --variable=libdir rheap` print that folder: set");
         eprintln!("    PKG_CONFIG_PATH to the folder of rheap.pc.");
-        eprintln!("  To make it: `./rheap --install PREFIX`, in a clone of rheap, leaves");
+        eprintln!("  To make it: `./rheap install --library PREFIX`, in a clone of rheap, leaves");
         eprintln!("  librheap.a and pkgconfig/rheap.pc below PREFIX/lib.");
         exit(1);
     }

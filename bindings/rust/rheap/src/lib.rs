@@ -86,7 +86,7 @@
 //! - `malloc`, `realloc` and `free` do what C says of them.
 //! - The three functions by which the library calls these pass on what they are asked: those of
 //!   `include/rheap_memory.c` in `librheap.a`, or those of this crate over the library's two parts.
-//! - `librheap.a` is the two parts and these functions, as `./rheap --install` joins them.
+//! - `librheap.a` is the two parts and these functions, as `./rheap install` builds and joins them.
 //! - The stack has room.
 
 #![deny(unsafe_op_in_unsafe_fn)]
