@@ -62,7 +62,7 @@ def prove(given):
     options, crates = words.own_words("prove", given, ["--all"], len(tree.CRATES))
     words.need_crates("prove", crates)
     if options and crates:
-        words.refuse("--all and names of crates don't stand together", "./rheap prove --help")
+        words.refuse("prove takes either --all or names of crates", "./rheap prove --help")
     every = [it for it in tree.CRATES if it not in tree.proved_by_turns()]
     say(proving.prove(every if options else crates or ["rheap"]))
 

@@ -63,7 +63,7 @@ class Sources:
         """Which crates aren't as they were proved."""
         names = self.changed
         listed = ", ".join(names[:3]) + (f" and {len(names) - 3} more" if len(names) > 3 else "")
-        return f"{listed} {'is' if len(names) == 1 else 'are'} not as the gate proved {'it' if len(names) == 1 else 'them'}"
+        return f"{listed} {'is' if len(names) == 1 else 'are'} not as PROVED has {'it' if len(names) == 1 else 'them'}"
 
     def are_as_before(self):
         """Whether nothing was changed since."""
@@ -98,6 +98,7 @@ def checked_program():
 
 def built_in_turn(sources, kind, there):
     """Builds the program, where another launcher hasn't built it meanwhile."""
+    toolchain.rt()
     end_by_signals()
     with Workshop(OUT / kind / "build.log", MEGABYTES) as shop:
         return there() or build(shop, sources, kind)

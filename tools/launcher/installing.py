@@ -101,6 +101,7 @@ def build_parts(with_program, is_proved):
     has_program = not with_program or building.QUICK.is_of(program.state)
     has_library = building.LIBRARY.is_of(library.state)
     if not (has_program and has_library):
+        toolchain.rt()
         with Workshop(OUT / "quick/install.log", 2 * building.MEGABYTES) as shop:
             build_quickly(shop, None if has_program else program, None if has_library else library)
     return building.QUICK.file if with_program else None, building.LIBRARY.file, quick.OF_PROVED

@@ -1,11 +1,12 @@
-"""Proving here: `rt ci` over a copy that has only what is due, side by side, the longest chain of crates first."""
+"""Proving here: `rt ci` over a copy that has what is named and what that stands on alone, side by side, the longest chain of crates
+first."""
 import re
 import shutil
 
 import building
 import toolchain
 from progress import minutes, pace_of_machine
-from tree import CRATES, PROVED, Sums, files_of, proved_by_turns, read_proofs, with_those_below, write_proofs
+from tree import CRATES, PROVED, Sums, files_of, own_libraries, proved_by_turns, read_proofs, with_those_below, write_proofs
 from workshop import OUT, Trouble, Workshop, end_by_signals, processors, say
 
 # What was proved here, in the form of PROVED.
@@ -31,7 +32,8 @@ def due(crates, sums, logic):
 
 
 def prove(crates):
-    """Proves what is due of these crates and those below them, writes PROVED, and returns what is told of it."""
+    """Proves these crates and those below them, if one of them wasn't proved here as it is now, writes PROVED, and returns what is told
+    of it."""
     sums, logic = Sums(), toolchain.logic()
     wants_program = "rheap" in crates
     sources = building.Sources()
@@ -52,7 +54,8 @@ def prove(crates):
         status = shop.all_of(progress.tick, lambda: shop.run(["rt", "ci"], cwd=copy))[0]
         said = LOG.read_text(encoding="utf-8", errors="replace")
         passed = [it for it in names if re.search(rf"^rt: {it} proved$", said, re.M) and not re.search(rf"^rt: {it}: its tests are NOT PROVED$", said, re.M)]
-        if any(Sums().of(it) != sums.of(it) for it in names):
+        after = Sums()
+        if any(after.of(it) != sums.of(it) for it in names):
             raise Trouble("a source changed while this was proved; run it again")
         note(passed, sums, logic)
         if status:
@@ -89,9 +92,13 @@ def note(crates, sums, logic):
 
 
 def differences():
-    """Where PROVED isn't as the sources are: a line for each crate that the gate proves each time."""
+    """Where PROVED isn't as the sources are: a line for each crate that was changed itself, of those that the gate proves each time, and
+    how many stand on these."""
     sums, proofs = Sums(), read_proofs(PROVED)
     names = [it for it in CRATES if it not in proved_by_turns()]
-    lines = [f"PROVED has no {it}" for it in names if it not in proofs]
-    lines += [f"PROVED has another checksum of {it}" for it in names if it in proofs and proofs[it][0] != sums.of(it)]
+    differ = [it for it in names if proofs.get(it, ("", ""))[0] != sums.of(it)]
+    own = [it for it in differ if not set(own_libraries(it)) & set(differ)]
+    lines = [f"{it} is not as PROVED has it" if it in proofs else f"PROVED has no {it}" for it in own]
+    if len(differ) > len(own):
+        lines.append(f"so {crates_in(differ[len(own):])} above {'it' if len(own) == 1 else 'them'} must be proved anew too")
     return lines + [f"PROVED has {it}, which the gate doesn't prove each time" for it in proofs if it not in names]

@@ -103,7 +103,7 @@ def build_program(shop, begin, label, rank=0):
 
 
 def build_checked(shop, begin, label, rank=0):
-    """Builds the program with all checks of `rt try`, compiled so that it is ten times as fast as there."""
+    """Builds the program with all checks of `rt try`, compiled so that it is many times as fast as there."""
     kit, room = Kit(), shop.folder / "checked"
     room.mkdir()
     begin("building with checks")
