@@ -1,4 +1,5 @@
 """Which program there is, and building it where none is there: proved, at full speed of proved sources, or with all checks."""
+import hashlib
 import os
 import shutil
 import subprocess
@@ -19,16 +20,26 @@ STEPS = {
 }
 
 
-class Built:
-    """A file that is built, with notes beside it: of what sources, how, and with which toolchain."""
+# What of this repository builds without proof, beside the toolchain: what it built is built anew where one of these was changed.
+BUILDERS = [*(f"tools/launcher/{name}.py" for name in ("building", "module", "parts", "quick", "toolchain")), "include/rheap_memory.c"]
 
-    def __init__(self, file, name):
-        self.file, self.notes = file, file.with_name(f"{name}.built")
+
+def builder():
+    """The checksum of what builds without proof."""
+    return hashlib.sha256(b"".join((TOP / it).read_bytes() for it in BUILDERS)).hexdigest()
+
+
+class Built:
+    """A file that is built, with notes beside it: of what sources, with which toolchain, and, without proof, by what of this repository."""
+
+    def __init__(self, file, name, by=""):
+        self.file, self.notes, self.by = file, file.with_name(f"{name}.built"), by
 
     def is_of(self, state):
         """Whether the file is there and of these sources. One that is newer than its notes was made by another command."""
         try:
-            return self.notes.read_text().split("\n")[0] == state and self.file.stat().st_mtime <= self.notes.stat().st_mtime
+            noted = self.notes.read_text().split("\n")
+            return [noted[0], *noted[2:3]] == [state, self.by] and self.file.stat().st_mtime <= self.notes.stat().st_mtime
         except OSError:
             return False
 
@@ -36,7 +47,7 @@ class Built:
         """Puts a file that was made into its place, and notes what it was made of."""
         self.notes.unlink(missing_ok=True)
         quick.put(made, self.file)
-        self.notes.write_text(f"{state}\n{with_version}\n")
+        self.notes.write_text(f"{state}\n{with_version}\n{self.by}")
 
     def toolchain(self):
         """The toolchain that it was built with."""
@@ -44,11 +55,14 @@ class Built:
 
 
 PROVED = Built(folder_of("rheap") / "out/rheap", "rheap")
-QUICK = Built(OUT / "quick/rheap", "rheap")
-CHECKED = Built(OUT / "checked/rheap", "rheap")
+BY = builder()
+QUICK = Built(OUT / "quick/rheap", "rheap", BY)
+CHECKED = Built(OUT / "checked/rheap", "rheap", BY)
 # One that the toolchain's own `rt try` built, whose parts aren't known here.
-TRIED = Built(OUT / "tried/rheap", "rheap")
-LIBRARY = Built(OUT / "quick/librheap.a", "librheap")
+TRIED = Built(OUT / "tried/rheap", "rheap", BY)
+LIBRARY = Built(OUT / "quick/librheap.a", "librheap", BY)
+# A library of sources that aren't those that were proved, for tests alone.
+CHANGED_LIBRARY = Built(OUT / "changed/librheap.a", "librheap", BY)
 
 
 class Sources:
@@ -72,7 +86,12 @@ class Sources:
 
 def current(sources):
     """The program that is there of these sources, or None: a proved one first."""
-    ours = [PROVED, CHECKED if sources.changed else QUICK, TRIED]
+    return PROVED if PROVED.is_of(sources.state) else unproved(sources)
+
+
+def unproved(sources):
+    """The program that is there of these sources and was built without proof, or None."""
+    ours = [CHECKED if sources.changed else QUICK, TRIED]
     return next((it for it in ours if it.is_of(sources.state)), None)
 
 
@@ -138,9 +157,10 @@ def keep(shop, built, made, sources):
 
 
 def program_in(shop, rank):
-    """The program for tests, in a workshop that is held already: as it is there, or else built."""
+    """The program for tests, in a workshop that is held already: one that is built without proof, as users get it. The gate tries the
+    proved one."""
     sources = Sources()
-    found = current(sources)
+    found = unproved(sources)
     if not found:
         built, work, label = QUICK, quick.build_program, quick.OF_PROVED
         if sources.changed:
@@ -157,10 +177,10 @@ def program_in(shop, rank):
 def library_in(shop, rank):
     """The folder of a library for tests, in such a workshop. One of sources that weren't proved says so, and isn't installed."""
     sources = Sources(*quick.LIBRARIES)
-    if not LIBRARY.is_of(sources.state):
-        label = quick.NOT_PROVED if sources.changed else quick.OF_PROVED
-        keep(shop, LIBRARY, build_library(shop, label, rank), sources)
-    return LIBRARY.file.parent
+    built, label = (CHANGED_LIBRARY, quick.NOT_PROVED) if sources.changed else (LIBRARY, quick.OF_PROVED)
+    if not built.is_of(sources.state):
+        keep(shop, built, build_library(shop, label, rank), sources)
+    return built.file.parent
 
 
 def build_library(shop, label, rank=0):
@@ -249,4 +269,4 @@ def copy_of_crates(place, crates, label=None):
     shutil.copy(TOP / "HANDLES", place)
     if label:
         file = place / quick.VERSION_FILE
-        file.write_text(file.read_text(encoding="utf-8").replace(f'{quick.PROVED_HERE}";', f'{label}";'), encoding="utf-8")
+        file.write_text(quick.with_label(file.read_text(encoding="utf-8"), label), encoding="utf-8")

@@ -38,6 +38,7 @@ def prove(crates):
     wants_program = "rheap" in crates
     sources = building.Sources()
     if not due(crates, sums, logic) and not (wants_program and not building.PROVED.is_of(sources.state)):
+        note(with_those_below(*crates), sums, logic)
         return "nothing is due: all of it was proved here, as it is now"
     end_by_signals()
     names = with_those_below(*crates)
@@ -53,7 +54,10 @@ def prove(crates):
         progress = Told(len(names))
         status = shop.all_of(progress.tick, lambda: shop.run(["rt", "ci"], cwd=copy))[0]
         said = LOG.read_text(encoding="utf-8", errors="replace")
-        passed = [it for it in names if re.search(rf"^rt: {it} proved$", said, re.M) and not re.search(rf"^rt: {it}: its tests are NOT PROVED$", said, re.M)]
+        # What rt ci names in this line failed, in its proof, its tests or its run.
+        failed = re.findall(r"^rt: FAILED: (.*)$", said, re.M)
+        failed = {word for line in failed for word in line.split()}
+        passed = [it for it in names if re.search(rf"^rt: {it} proved$", said, re.M) and it not in failed]
         after = Sums()
         if any(after.of(it) != sums.of(it) for it in names):
             raise Trouble("a source changed while this was proved; run it again")
@@ -86,7 +90,7 @@ class Told:
 def note(crates, sums, logic):
     """Notes that these crates were proved here, and in PROVED those that the gate proves each time."""
     for file, leaves_out in ((HERE, set()), (PROVED, proved_by_turns())):
-        proofs = {name: it for name, it in read_proofs(file).items() if name in CRATES}
+        proofs = {name: it for name, it in read_proofs(file).items() if name in CRATES and name not in leaves_out}
         proofs.update({it: (sums.of(it), logic) for it in crates if it not in leaves_out})
         write_proofs(file, proofs)
 

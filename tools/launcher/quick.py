@@ -39,13 +39,19 @@ def version():
     return re.search(r'^pub const VERSION: &str = "([^"\\]*)', text, re.M)[1]
 
 
+def with_label(text, label):
+    """The text of the file with the version, which says how the program was built."""
+    if text.count(f'{PROVED_HERE}";') != 1:
+        raise Trouble(f"{VERSION_FILE} doesn't say once that the program is {PROVED_HERE}")
+    return text.replace(f'{PROVED_HERE}";', f'{label}";')
+
+
 def labelled(room, label):
     """Says where the sources of a crate are read: those with the version from a copy in this folder, which has the label."""
     place = room / "labelled"
     shutil.copytree(folder_of(VERSION_CRATE) / "src", place / "src")
     file = place / "src/version.rt"
-    text = file.read_text(encoding="utf-8")
-    file.write_text(text.replace(f'{PROVED_HERE}";', f'{label}";'), encoding="utf-8")
+    file.write_text(with_label(file.read_text(encoding="utf-8"), label), encoding="utf-8")
     return lambda crate: place if crate == VERSION_CRATE else folder_of(crate)
 
 
@@ -155,6 +161,8 @@ def exported(name, path, params):
             outer.append(f"i64 %p{at}")
             code += f"  %lo{at} = trunc i64 %p{at} to i32\n  %s{at} = lshr i64 %p{at}, 32\n  %hi{at} = trunc i64 %s{at} to i32\n"
             inner += [f"i32 %lo{at}", f"i32 %hi{at}"]
+        elif kind not in TYPES:
+            raise Trouble(f"{name} takes {kind}, which isn't known here")
         else:
             outer += [f"{it} %p{at}" for it in TYPES[kind]]
             inner += [f"{it} %p{at}" for it in TYPES[kind]]

@@ -9,7 +9,7 @@ import building
 import quick
 from progress import minutes, pace_of_machine
 from toolchain import Kit, UnknownToolchain
-from tree import CRATES, TOP, folder_of, has_tests
+from tree import CRATES, TOP, count_of_tests, folder_of, has_tests
 from workshop import Trouble, print_out, processors, say
 
 # This crate's tests take longest, and begin first. All others are built as one program, so that what they use is built once.
@@ -86,11 +86,11 @@ def run_crates(shop, tally, crates, rank):
     words, _ = kit.libraries(crates, quick.labelled(room, quick.CHECKED))
     program = quick.build_with_checks(shop, kit, room, crate, folder, words, rank, tests=True)
     said = run_each(shop, kit, room, program, rank)
-    if len(said) != sum(count_of_tests(it) for it in crates):
-        raise Trouble(f"the program of {', '.join(crates)} has {len(said)} tests, and the sources have others")
     for it in crates:
         of_it = [name for name in said if len(crates) == 1 or name.split("::")[0] == it]
-        failed = [name for name in of_it if f"test {name} ... ok\n" not in said[name]]
+        if len(of_it) != count_of_tests(it):
+            raise Trouble(f"the program has {len(of_it)} tests of {it}, whose sources have {count_of_tests(it)}")
+        failed = [name for name in of_it if not re.search(rf"^test {re.escape(name)} \.\.\. ok$", said[name], re.M)]
         tally.add(it, len(of_it) - len(failed), len(failed), "\n".join(said[name] for name in failed))
 
 
@@ -100,9 +100,11 @@ def run_each(shop, kit, room, program, rank):
     names = re.findall(r"^(\S+): test$", listed, re.M)
 
     def run(name):
-        to = room / f"{name.replace('::', '.')}.out"
-        shop.run([kit.runner, "--seconds", SECONDS, "--filter", name, program], rank, output=to, cwd=room)
-        return to.read_text(errors="replace")
+        # A name may begin another one, whose test is run then too: so each has a folder of its own.
+        own = room / f"run.{name.replace('::', '.')}"
+        own.mkdir()
+        shop.run([kit.runner, "--seconds", SECONDS, "--filter", name, program], rank, output=own / "said", cwd=own)
+        return (own / "said").read_text(errors="replace")
 
     return dict(zip(names, shop.each_of([lambda it=it: run(it) for it in names])))
 
@@ -121,27 +123,22 @@ def run_slowly(shop, tally, crates, rank):
     shop.each_of([lambda it=it: run(it) for it in crates])
 
 
-def count_of_tests(crate):
-    """How many tests the sources of a crate have."""
-    files = (folder_of(crate) / "src").rglob("*.rt")
-    return sum(len(re.findall(r"^\s*#\[test\]", file.read_text(encoding="utf-8"), re.M)) for file in files)
-
-
 def run_script(shop, tally, rank, words, **how):
     """Runs a script of the repository, and counts what it says that it ran: one, if it says nothing of that."""
     to = shop.folder / f"{words[0].replace('/', '.')}.out"
     status = shop.run([TOP / words[0], *words[1:]], rank, output=to, cwd=TOP, **how)
     said = to.read_text(errors="replace")
-    counts = [re.findall(rf"\b(\d+) {word}\b", said) for word in ("passed", "failed")]
-    passed, failed = (sum(map(int, it)) for it in counts)
+    counts = re.findall(r"\b(\d+) passed, (\d+) failed\b", said) or [(0, 0)]
+    passed, failed = map(int, counts[-1])
     runs = re.search(r"all as written, in (\d+) runs", said)
     passed = int(runs[1]) if runs else passed
-    for line in re.findall(r"^.*\bleft out\b.*$", said, re.M):
+    for line in re.findall(r"^.*\b(?:left out|is built)\b.*$", said, re.M):
         print_out(line)
-    if status:
+    if status or failed:
         tally.add(words[0], passed, max(failed, 1), said)
     else:
-        tally.add(words[0], max(passed, 1), 0)
+        is_none = re.search(r"left out: no cargo|no program in C is built", said)
+        tally.add(words[0], 0 if is_none else max(passed, 1), 0)
 
 
 class Program:

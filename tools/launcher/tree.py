@@ -65,21 +65,30 @@ def files_of(crate):
     return sorted(found)
 
 
+def count_of_tests(crate):
+    """How many tests the crate has."""
+    sources = (pathlib.Path(file) for file in files_of(crate) if file.endswith(".rt"))
+    return sum(len(re.findall(r"^\s*#\[test\]", file.read_text(encoding="utf-8"), re.M)) for file in sources)
+
+
 def has_tests(crate):
     """Whether the crate has a test."""
-    sources = (pathlib.Path(file) for file in files_of(crate) if file.endswith(".rt"))
-    return any(re.search(r"^#\[test\]", file.read_text(encoding="utf-8"), re.M) for file in sources)
+    return count_of_tests(crate) > 0
+
+
+# What the crates may do is part of what is proved of them.
+HANDLES = (TOP / "HANDLES").read_text(encoding="utf-8")
 
 
 class Sums:
-    """The checksum of each crate: of its files, its line of crates.txt, and the checksums of those below it."""
+    """The checksum of each crate: of its files, its line of crates.txt, the handles, and the checksums of those below it."""
 
     def __init__(self):
         self.known = {}
 
     def of(self, crate):
         if crate not in self.known:
-            made = hashlib.sha256(CRATES[crate].text.encode())
+            made = hashlib.sha256(f"{HANDLES}{CRATES[crate].text}".encode())
             for file in files_of(crate):
                 with open(file, "rb") as opened:
                     data = opened.read()
@@ -92,12 +101,17 @@ class Sums:
 
 
 def read_proofs(file):
-    """The crates that a file says were proved, each with its checksum and the logic that proved it."""
+    """The crates that a file says were proved, each with its checksum and the logic that proved it. A line that reads otherwise, or a
+    second one of a crate, makes the crate one that wasn't."""
     try:
-        rows = [line.split() for line in file.read_text(encoding="utf-8").split("\n")]
+        lines = file.read_text(encoding="utf-8").split("\n")
     except FileNotFoundError:
         return {}
-    return {row[0]: (row[1], row[2]) for row in rows if len(row) == 3 and row[0] != "#"}
+    proofs = {}
+    for row in (line.split() for line in lines if line.strip() and not line.startswith("#")):
+        is_good = len(row) == 3 and row[0] not in proofs
+        proofs[row[0]] = (row[1], row[2]) if is_good else ("", "")
+    return proofs
 
 
 HEADING = """# What was proved: each crate with the checksum of its sources and of those below it, and the logic of the toolchain that
