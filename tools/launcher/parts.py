@@ -1,27 +1,30 @@
 """Stands for clang where `rt try` compiles a module with its checks: cuts the module into parts, and compiles these side by side
-at -O1, where `rt try` asks for -O0. Its arguments are clang's path and clang's arguments, which name module.bc and module.o."""
+at -O1, where `rt try` asks for -O0. Its arguments are how many parts, clang's path, and clang's arguments, which name module.bc and
+module.o."""
 import subprocess
 import sys
 
 import module
 
 
-def main(clang, words):
+def main(count, clang, words):
     source, made = words[words.index("ir") + 1], words[words.index("-o") + 1]
+    if count == 1:
+        return subprocess.run([clang, *({"-O0": "-O1"}.get(it, it) for it in words)], check=False).returncode
     disassembled = [clang, "-S", "-emit-llvm", "-Xclang", "-disable-llvm-passes", "-x", "ir", source, "-o", "module.ll"]
     if subprocess.run(disassembled, check=False).returncode:
         return 1
     running = []
-    for at, text in enumerate(module.Module("module.ll").parts(module.PARTS)):
+    for at, text in enumerate(module.Module("module.ll").parts(count)):
         with open(f"part{at}.ll", "w", encoding="utf-8") as part:
             part.write(text)
         changed = {source: f"part{at}.ll", made: f"part{at}.o", "-O0": "-O1"}
         running.append(subprocess.Popen([clang, *(changed.get(it, it) for it in words)]))
     if any([it.wait() for it in running]):
         return 1
-    parts = [f"part{at}.o" for at in range(module.PARTS)]
+    parts = [f"part{at}.o" for at in range(count)]
     return subprocess.run(["ld.lld", "-r", "-o", made, *parts], executable=clang, check=False).returncode
 
 
 if __name__ == "__main__":
-    sys.exit(main(sys.argv[1], sys.argv[2:]))
+    sys.exit(main(int(sys.argv[1]), sys.argv[2], sys.argv[3:]))

@@ -6,6 +6,7 @@ import subprocess
 import threading
 
 import building
+import module
 import quick
 from progress import minutes, pace_of_machine
 from toolchain import Kit, UnknownToolchain
@@ -84,7 +85,8 @@ def run_crates(shop, tally, crates, rank):
         crate, folder = TOGETHER, room / "crate"
         put_together(crates, folder)
     words, _ = kit.libraries(crates, quick.labelled(room, quick.CHECKED))
-    program = quick.build_with_checks(shop, kit, room, crate, folder, words, rank, tests=True)
+    parts = 1 if len(crates) == 1 else module.PARTS
+    program = quick.build_with_checks(shop, kit, room, crate, folder, words, rank, tests=True, parts=parts)
     said = run_each(shop, kit, room, program, rank)
     for it in crates:
         of_it = [name for name in said if len(crates) == 1 or name.split("::")[0] == it]

@@ -98,7 +98,7 @@ fn expect_played(
 
 /// Calls of each command.
 const CALLS: &[Call<'static>] = &[
-    (&[b"rheap", b"--version"], 0, b"rheap 0.1.0\n", b""),
+    (&[b"rheap", b"--version"], 0, b"rheap 0.1.0", b""),
     (&[b"rheap", b"--help"], 0, b"A garbage-collected heap", b""),
     (&[b"rheap", b"run", b"--help"], 0, b"Runs a trace", b""),
     (&[b"rheap", b"run", b"-"], 0, WITHOUT_FIELDS_ANSWERS, b""),
