@@ -15,8 +15,8 @@ from workshop import OUT, Trouble, Workshop, end_by_signals, processors, say
 MEGABYTES = 500
 # What the steps of a build take on the measured machine, in seconds: on four processors, and where there are fewer.
 STEPS = {
-    "quick": [("reading the sources", 69), ("making parts", 14), ("compiling", 45 if processors() > 3 else 75)],
-    "checked": [("building with checks", 160)],
+    "quick": [("reading the sources", 55), ("making parts", 10), ("compiling", 35 if processors() > 3 else 60)],
+    "checked": [("building with checks", 150)],
 }
 
 

@@ -37,7 +37,7 @@ Version: {version}
 Cflags: -I${{includedir}}
 Libs: -L${{libdir}} -lrheap
 """
-STEPS = [("reading the sources", 80), ("making parts", 14), ("compiling", 55 if processors() > 3 else 110)]
+STEPS = [("reading the sources", 65), ("making parts", 10), ("compiling", 45 if processors() > 3 else 90)]
 
 
 def cannot(why):

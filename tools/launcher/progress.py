@@ -7,7 +7,7 @@ from workshop import OUT, processors, say, tell
 
 TIMES = OUT / "build_times"
 # Seconds that a measured machine needs for the loop of `pace_of_machine`, which the steps' seconds go by.
-LOOP_SECONDS = 0.095
+LOOP_SECONDS = 0.21
 
 
 def pace_of_machine():

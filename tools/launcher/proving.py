@@ -14,8 +14,8 @@ HERE = OUT / "proved"
 LOG = OUT / "proving.log"
 # Processor seconds that a crate and each line of its code take to prove on the measured machine, and megabytes of disk that a line
 # takes meanwhile. The longest chain of crates keeps little more than two processors busy.
-SECONDS_A_CRATE = 25
-SECONDS_A_LINE = 0.08
+SECONDS_A_CRATE = 35
+SECONDS_A_LINE = 0.11
 MEGABYTES_A_LINE = 0.07
 MOST_BUSY = 2.2
 

@@ -18,7 +18,7 @@ LONG = "long_tests"
 TOGETHER = "every_test"
 SECONDS = 3600
 # What all of it takes of processors on the measured machine, and how many it keeps busy.
-SECONDS_OF_PROCESSORS = 1150
+SECONDS_OF_PROCESSORS = 1600
 MOST_BUSY = 4
 # The checks of pages and scripts, each a command with what it takes.
 PAGES = [
