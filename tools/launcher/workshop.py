@@ -10,12 +10,15 @@ import signal
 import subprocess
 import sys
 import threading
+import time
 
 from tree import TOP
 
 OUT = TOP / "out"
 ENDING = (signal.SIGINT, signal.SIGTERM, signal.SIGHUP)
 DISK_IS_FULL = "the disk is full: building needs {} MB below {}"
+# How long a command that is ended may take to end what it started, and to remove what it made for a while.
+SECONDS_TO_END = 2
 
 
 class Trouble(Exception):
@@ -86,6 +89,13 @@ class Turns:
                 self.changed.notify_all()
 
 
+def send(number, running):
+    """Sends a signal to these commands, and to what they started in their sessions."""
+    for ran in running:
+        with contextlib.suppress(ProcessLookupError):
+            os.killpg(ran.pid, number)
+
+
 class Workshop:
     """A place to work in. `folder` is empty when it is entered, and gone when it is left; what the commands say is in `log`."""
 
@@ -147,12 +157,16 @@ class Workshop:
         self.is_stopped = False
 
     def stop(self):
-        """Ends all commands that run, and lets none begin."""
+        """Ends all commands that run, and lets none begin. They are asked before they are killed: what `rt try` starts has a session of
+        its own, and ends only if `rt try` ends it."""
         with self.guard:
             self.is_stopped = True
-            for ran in self.running:
-                with contextlib.suppress(ProcessLookupError):
-                    os.killpg(ran.pid, signal.SIGKILL)
+            running = list(self.running)
+        send(signal.SIGTERM, running)
+        until = time.monotonic() + SECONDS_TO_END
+        while any(ran.poll() is None for ran in running) and time.monotonic() < until:
+            time.sleep(0.02)
+        send(signal.SIGKILL, running)
 
     def run(self, words, rank=0, output=None, **how):
         """Runs a command when it is its turn, and returns its status. What it says goes to the log, or to the file `output`."""
