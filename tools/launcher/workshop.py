@@ -207,8 +207,8 @@ class Workshop:
     def all_of(self, tick, *works):
         """As `each_of`, on the main thread: calls `tick` some times a second meanwhile, and ends all once one has failed."""
         with concurrent.futures.ThreadPoolExecutor(max(len(works), 1)) as pool:
-            futures = left = [pool.submit(work) for work in works]
             try:
+                futures = left = [pool.submit(work) for work in works]
                 while left:
                     done, left = concurrent.futures.wait(left, 0.3, concurrent.futures.FIRST_COMPLETED)
                     for it in done:
