@@ -2,7 +2,6 @@
 import os
 import re
 import shutil
-import subprocess
 import threading
 
 import building
@@ -98,8 +97,9 @@ def run_crates(shop, tally, crates, rank):
 
 def run_each(shop, kit, room, program, rank):
     """Runs each test of a program, and returns what was said of it by its name."""
-    listed = subprocess.run([program, "--list"], capture_output=True, text=True, check=False).stdout
-    names = re.findall(r"^(\S+): test$", listed, re.M)
+    listed = room / "listed"
+    shop.run([program, "--list"], rank, output=listed)
+    names = re.findall(r"^(\S+): test$", listed.read_text(errors="replace"), re.M)
 
     def run(name):
         # A name may begin another one, whose test is run then too: so each has a folder of its own.
