@@ -62,7 +62,7 @@ def prove(crates):
         if any(after.of(it) != sums.of(it) for it in names):
             raise Trouble("a source changed while this was proved; run it again")
         note(passed, sums, logic)
-        if status:
+        if status or len(passed) < len(names):
             raise shop.failed(f"{len(names) - len(passed)} of {crates_in(names)}", "proved")
         if wants_program:
             building.keep(shop, building.PROVED, copy / "crates/rheap/out/rheap", sources)
