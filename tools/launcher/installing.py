@@ -40,16 +40,11 @@ Libs: -L${{libdir}} -lrheap
 STEPS = [("reading the sources", 65), ("making parts", 10), ("compiling", 45 if processors() > 3 else 90)]
 
 
-def cannot(why):
-    """What is told where nothing can be installed."""
-    return Trouble(f"{why}; nothing was installed")
-
-
 def need_tools():
     """Ends where a tool is missing, before anything is built."""
     for tool in (building.compiler()[0], "ar", "nm"):
         if not shutil.which(tool):
-            raise cannot(f"{tool} isn't on the PATH, and install needs it")
+            raise Trouble(f"{tool} isn't on the PATH, and install needs it")
 
 
 def put_parts(stage, label, program, archive):
@@ -79,15 +74,15 @@ def try_parts(stage, room, program):
         words = [*building.compiler(), "-std=c99", "-I", stage / "include", TOP / f"examples/c/{name}.c", "-L", stage / "lib", "-lrheap", "-o", made]
         said = subprocess.run(words, capture_output=True, text=True, check=False)
         if said.returncode:
-            raise cannot(f"{said.stderr.strip()}\nrheap: what would be installed isn't whole")
+            raise Trouble(f"{said.stderr.strip()}\nrheap: what would be installed isn't whole")
         with open(TOP / given, "rb") as read:
             printed = subprocess.run([made], stdin=read, capture_output=True, check=False)
         if printed.returncode or printed.stdout != (TOP / due).read_bytes():
-            raise cannot("what would be installed isn't whole: a program that is linked with it prints something else than is due")
+            raise Trouble("what would be installed isn't whole: a program that is linked with it prints something else than is due")
     if program:
         ran = subprocess.run([stage / "bin/rheap", "--version"], capture_output=True, text=True, check=False)
         if ran.returncode:
-            raise cannot(f"{(ran.stderr or ran.stdout).strip()}\nrheap: what would be installed isn't whole: its program doesn't run")
+            raise Trouble(f"{(ran.stderr or ran.stdout).strip()}\nrheap: what would be installed isn't whole: its program doesn't run")
 
 
 def build_parts(with_program, is_proved):
@@ -96,7 +91,7 @@ def build_parts(with_program, is_proved):
         return build_proved(with_program)
     sources = building.Sources(*(["rheap"] if with_program else []), *quick.LIBRARIES)
     if sources.changed:
-        raise cannot(f"{sources.why()}: `./rheap install --proved PREFIX` proves what is due first")
+        raise Trouble(f"{sources.why()}: `./rheap install --proved PREFIX` proves what is due first")
     program, library = building.Sources(), building.Sources(*quick.LIBRARIES)
     has_program = not with_program or building.QUICK.is_of(program.state)
     has_library = building.LIBRARY.is_of(library.state)
@@ -122,7 +117,7 @@ def build_quickly(shop, program, library):
         made = shop.all_of(progress.tick, *works)
         is_done = True
     except toolchain.UnknownToolchain:
-        raise cannot("this toolchain's parts aren't known here, so nothing is built without proof: take `./rheap install --proved PREFIX`") from None
+        raise Trouble("this toolchain's parts aren't known here, so nothing is built without proof: take `./rheap install --proved PREFIX`") from None
     finally:
         progress.end(is_done)
     if program:
@@ -148,7 +143,7 @@ def build_proved(with_program):
             with open(objects[-1], "wb") as made:
                 archive = folder_of(crate) / f"out/lib{crate}.a"
                 if len(subprocess.run(["ar", "t", archive], capture_output=True, check=True).stdout.split()) != 1:
-                    raise cannot(f"{archive} isn't an archive of one object")
+                    raise Trouble(f"{archive} isn't an archive of one object")
                 subprocess.run(["ar", "p", archive], stdout=made, check=True)
         kept = OUT / "proved_library/librheap.a"
         quick.put(building.join(shop, objects, quick.PROVED_HERE), kept)
@@ -167,7 +162,7 @@ def made_folder(name):
     try:
         prefix.mkdir(parents=True, exist_ok=True)
     except OSError:
-        raise cannot(f"the folder {name} can't be made") from None
+        raise Trouble(f"the folder {name} can't be made") from None
     finally:
         os.umask(mask)
     return prefix, highest
@@ -179,34 +174,45 @@ def need_room(prefix, names):
         folders = [prefix, *(prefix / it for it in pathlib.PurePath(name).parents)]
         for folder in folders:
             if folder.exists() and not (folder.is_dir() and os.access(folder, os.W_OK | os.X_OK)):
-                raise cannot(f"{folder} is no folder that can be written to")
+                raise Trouble(f"{folder} is no folder that can be written to")
         if (prefix / name).is_dir():
-            raise cannot(f"{prefix / name} is a folder")
+            raise Trouble(f"{prefix / name} is a folder")
 
 
 def install(name, with_program=True, is_proved=False):
     """Installs below a folder, which is made. All is made and tried in a folder of its own there, and moved then."""
-    need_tools()
     end_by_signals()
-    prefix, highest = made_folder(name)
-    try:
-        names = [*FILES, "bin/rheap", "lib/librheap.a", "lib/pkgconfig/rheap.pc"]
-        need_room(prefix, names)
-        program, archive, label = build_parts(with_program, is_proved)
-        os.umask(0o022)
-        with tempfile.TemporaryDirectory(prefix=".rheap.", dir=prefix) as room:
-            stage = pathlib.Path(room) / "stage"
-            put_parts(stage, label, program, archive)
-            try_parts(stage, pathlib.Path(room), program)
-            need_room(prefix, names)
-            ignore_signals()
-            return put_into(stage, prefix)
-    finally:
-        # Of folders that were made here, those stay that have something in them.
-        if highest:
-            for at, _, _ in os.walk(highest, topdown=False):
-                with contextlib.suppress(OSError):
-                    os.rmdir(at)
+    with contextlib.ExitStack() as left:
+        try:
+            need_tools()
+            prefix, highest = made_folder(name)
+            left.callback(remove_empty, highest)
+            stage = staged(left, prefix, with_program, is_proved)
+        except Trouble as trouble:
+            raise Trouble(f"{trouble}; nothing was installed", trouble.status) from None
+        ignore_signals()
+        return put_into(stage, prefix)
+
+
+def staged(left, prefix, with_program, is_proved):
+    """Makes all that is to be installed in a folder below the prefix, and returns that. It is removed when `left` is closed."""
+    names = [*FILES, "bin/rheap", "lib/librheap.a", "lib/pkgconfig/rheap.pc"]
+    need_room(prefix, names)
+    program, archive, label = build_parts(with_program, is_proved)
+    os.umask(0o022)
+    room = pathlib.Path(left.enter_context(tempfile.TemporaryDirectory(prefix=".rheap.", dir=prefix)))
+    put_parts(room / "stage", label, program, archive)
+    try_parts(room / "stage", room, program)
+    need_room(prefix, names)
+    return room / "stage"
+
+
+def remove_empty(highest):
+    """Of the folders that were made from this one down, if one is named, removes those that have nothing in them."""
+    if highest:
+        for at, _, _ in os.walk(highest, topdown=False):
+            with contextlib.suppress(OSError):
+                os.rmdir(at)
 
 
 def put_into(stage, prefix):
