@@ -1,25 +1,35 @@
 """Stands for clang where `rt try` compiles a module with its checks: cuts the module into parts, and compiles these side by side
-at -O1, where `rt try` asks for -O0. Its arguments are how many parts, clang's path, and clang's arguments, which name module.bc and
-module.o."""
+at -O1, where `rt try` asks for -O0. Its arguments are how many parts, how much is inlined, clang's path, and clang's arguments, which
+name module.bc and module.o."""
 import subprocess
 import sys
 
 import module
 
 
-def main(count, clang, words):
+class Checked(module.Module):
+    """A module with its checks. That a new local is filled needs no check of the address, which would take most of the time."""
+
+    def function(self, first, lines):
+        made = super().function(first, lines)
+        for at, line in enumerate(made):
+            if module.is_fill(line, made[at - 1]):
+                made[at] = line[:-1] + ", !nosanitize !{}\n"
+        return made
+
+
+def main(count, inlined, clang, words):
     source, made = words[words.index("ir") + 1], words[words.index("-o") + 1]
-    if count == 1:
-        return subprocess.run([clang, *({"-O0": "-O1"}.get(it, it) for it in words)], check=False).returncode
     disassembled = [clang, "-S", "-emit-llvm", "-Xclang", "-disable-llvm-passes", "-x", "ir", source, "-o", "module.ll"]
     if subprocess.run(disassembled, check=False).returncode:
         return 1
     running = []
-    for at, text in enumerate(module.Module("module.ll").parts(count)):
+    for at, text in enumerate(Checked("module.ll").parts(count)):
         with open(f"part{at}.ll", "w", encoding="utf-8") as part:
             part.write(text)
         changed = {source: f"part{at}.ll", made: f"part{at}.o", "-O0": "-O1"}
-        running.append(subprocess.Popen([clang, *(changed.get(it, it) for it in words)]))
+        inlining = ["-mllvm", f"-inline-threshold={inlined}"]
+        running.append(subprocess.Popen([clang, *(changed.get(it, it) for it in words), *inlining]))
     if any([it.wait() for it in running]):
         return 1
     parts = [f"part{at}.o" for at in range(count)]
@@ -27,4 +37,4 @@ def main(count, clang, words):
 
 
 if __name__ == "__main__":
-    sys.exit(main(int(sys.argv[1]), sys.argv[2], sys.argv[3:]))
+    sys.exit(main(int(sys.argv[1]), sys.argv[2], sys.argv[3], sys.argv[4:]))

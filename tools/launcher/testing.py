@@ -5,7 +5,6 @@ import shutil
 import threading
 
 import building
-import module
 import quick
 from progress import minutes, pace_of_machine
 from toolchain import Kit, UnknownToolchain
@@ -17,11 +16,11 @@ LONG = "long_tests"
 TOGETHER = "every_test"
 SECONDS = 3600
 # What all of it takes of processors on the measured machine, and how many it keeps busy.
-SECONDS_OF_PROCESSORS = 1600
+SECONDS_OF_PROCESSORS = 1080
 MOST_BUSY = 4
 # The checks of pages and scripts, each a command with what it takes.
 PAGES = [
-    ("docs/make_headline", "--check"), ("bench/plots", "--check"), ("docs/check_pages",), ("examples/c/header",), (".ci/launcher",),
+    ("docs/make_headline", "--check"), ("bench/plots", "--check"), ("docs/check_pages",), ("examples/c/header",),
 ]
 
 
@@ -84,8 +83,8 @@ def run_crates(shop, tally, crates, rank):
         crate, folder = TOGETHER, room / "crate"
         put_together(crates, folder)
     words, _ = kit.libraries(crates, quick.labelled(room, quick.CHECKED))
-    parts = 1 if len(crates) == 1 else module.PARTS
-    program = quick.build_with_checks(shop, kit, room, crate, folder, words, rank, tests=True, parts=parts)
+    how = quick.TO_RUN_LONG if crate == LONG else quick.TO_RUN_ONCE
+    program = quick.build_with_checks(shop, kit, room, crate, folder, words, rank, tests=True, how=how)
     said = run_each(shop, kit, room, program, rank)
     for it in crates:
         of_it = [name for name in said if len(crates) == 1 or name.split("::")[0] == it]
@@ -124,10 +123,14 @@ def run_slowly(shop, tally, crates, rank):
     shop.each_of([lambda it=it: run(it) for it in crates])
 
 
-def run_script(shop, tally, rank, words, **how):
+def run_script(shop, tally, rank, words, **variables):
     """Runs a script of the repository, and counts what it says that it ran: one, if it says nothing of that."""
     to = shop.folder / f"{words[0].replace('/', '.')}.out"
-    status = shop.run([TOP / words[0], *words[1:]], rank, output=to, cwd=TOP, **how)
+    # What it makes aside is gone with the workshop, also where it is ended by a signal.
+    aside = to.with_suffix(".aside")
+    aside.mkdir()
+    env = {**os.environ, "TMPDIR": str(aside), **variables}
+    status = shop.run([TOP / words[0], *words[1:]], rank, output=to, cwd=TOP, env=env)
     said = to.read_text(errors="replace")
     counts = re.findall(r"\b(\d+) passed, (\d+) failed\b", said) or [(0, 0)]
     passed, failed = map(int, counts[-1])
@@ -177,10 +180,9 @@ def run_borders(shop, tally, program, rank):
     except UnknownToolchain:
         print_out("left out, since this toolchain's parts aren't known here: the programs in C and plain Rust")
         return
-    how = {**os.environ, "RHEAP_LIB_DIR": str(place)}
     shop.each_of([
-        lambda: run_script(shop, tally, rank, ("examples/c/check", *program.words()), env=how),
-        lambda: run_script(shop, tally, rank, ("bindings/rust/check",), env=how),
+        lambda: run_script(shop, tally, rank, ("examples/c/check", *program.words()), RHEAP_LIB_DIR=str(place)),
+        lambda: run_script(shop, tally, rank, ("bindings/rust/check",), RHEAP_LIB_DIR=str(place)),
     ])
 
 
