@@ -8,4 +8,5 @@ mod faults;
 mod growing;
 mod lisp;
 mod lisp_cycles;
+mod telling;
 mod viewing;

@@ -19,6 +19,30 @@ pub const CROSSED_FAULT: &[u8] = b"rheap: OUT is a file of its own, neither FILE
 
 pub const SESSION_FAULT: &[u8] = b"rheap: --cycles of lisp needs FILE: a session has none\n";
 
+/// What is told of a mark that can't be taken.
+pub const MARK_FAULT: &[u8] =
+    b"rheap: --mark needs --paced and a number of words, 0 to 4294967295\n";
+
+/// What is told of the most words of a heap that can't be taken.
+pub const GROW_FAULT: &[u8] =
+    b"rheap: --grow needs --paced, no --mark, and a number of words, 0 to 4294967295\n";
+
+/// What is told of a number of replicators, and of idle words, that can't be taken.
+pub const REPLICATORS_FAULT: &[u8] =
+    b"rheap: --replicators needs a number of replicators, 0 to 8\n";
+
+pub const IDLE_FAULT: &[u8] = b"rheap: --idle needs a number of words, 0 to 65535\n";
+
+/// What is told of a number that is no line's.
+pub const LINE_FAULT: &[u8] = b"rheap: --line needs the number of a line, 1 to 4294967295\n";
+
+/// What is told where `lisp` is asked for two heaps, or for one of no number of words.
+pub const WORDS_FAULT: &[u8] =
+    b"rheap: --heap or --grow needs a number of words, 0 to 4294967295, and not both stand\n";
+
+/// What is told where its steps are no number.
+pub const STEPS_FAULT: &[u8] = b"rheap: --steps needs a number of steps, 0 to 4294967295\n";
+
 /// What the trace without fields is told as with each line.
 pub const WITHOUT_FIELDS_ECHO: &[u8] =
     b"2\t1 alloc 1.0 0\tobject 0\n3\t1 load 1.1 1.0 0\trefused NoField\n\

@@ -1,10 +1,11 @@
 //! The program, from its arguments to its status.
 
 use crate::expectations::{Row, expect_bytes, expect_equal, expect_prefix};
-use crate::texts::{CROSSED_FAULT, SESSION_FAULT, VIEWS_FAULT, WITHOUT_FIELDS_ECHO};
-use rh_cli::{
-    Ask, CommandLineFault, LineFault, PLAIN, Subcommand, Terminals, play, read_words, tell,
+use crate::texts::{
+    CROSSED_FAULT, GROW_FAULT, IDLE_FAULT, LINE_FAULT, MARK_FAULT, REPLICATORS_FAULT,
+    SESSION_FAULT, STEPS_FAULT, VIEWS_FAULT, WITHOUT_FIELDS_ECHO, WORDS_FAULT,
 };
+use rh_cli::{Ask, PLAIN, Subcommand, Terminals, play, read_words};
 use samples::terminal::Terminal;
 use samples::texts::{COLUMNS, WITHOUT_FIELDS, WITHOUT_FIELDS_ANSWERS};
 use std::cell::RefCell;
@@ -163,9 +164,6 @@ const CALLS: &[Call<'static>] = &[
     ),
 ];
 
-/// What is told of a mark that can't be taken.
-const MARK_FAULT: &[u8] = b"rheap: --mark needs --paced and a number of words, 0 to 4294967295\n";
-
 /// What the options of a paced run come to: those that can't be taken, an empty trace, and one that
 /// has a pace at a mark alone.
 const PACED: &[Call<'static>] = &[
@@ -218,10 +216,6 @@ const PACED: &[Call<'static>] = &[
         b"rheap: line 1: Empty\n",
     ),
 ];
-
-/// What is told of the most words of a heap that can't be taken.
-const GROW_FAULT: &[u8] =
-    b"rheap: --grow needs --paced, no --mark, and a number of words, 0 to 4294967295\n";
 
 /// What the options of a growing run come to: one that is played, limits for which there is no
 /// heap, and options that can't be taken.
@@ -296,11 +290,6 @@ const GROWING: &[Call<'static>] = &[
     ),
 ];
 
-/// What is told of a number of replicators, and of idle words, that can't be taken.
-const REPLICATORS_FAULT: &[u8] = b"rheap: --replicators needs a number of replicators, 0 to 8\n";
-
-const IDLE_FAULT: &[u8] = b"rheap: --idle needs a number of words, 0 to 65535\n";
-
 /// The history of the calls of a trace without fields.
 const WITHOUT_FIELDS_HISTORY: &[u8] =
     b"history 2 2\n1 alloc 1.0 0 = object 0\n1 load 1.1 1.0 0 = refused NoField\nend 2\n";
@@ -344,9 +333,6 @@ const THREADS: &[Call<'static>] = &[
         b"error: unexpected",
     ),
 ];
-
-/// What is told of a number that is no line's.
-const LINE_FAULT: &[u8] = b"rheap: --line needs the number of a line, 1 to 4294967295\n";
 
 /// What a picture comes to: of a trace of three lines, after one of them and after one more, of what
 /// is no trace, and of options that can't be taken.
@@ -570,13 +556,6 @@ const VIEWED: &[Call<'static>] = &[
     (&[b"rheap", b"run", b"-", b"--cycles"], 2, b"", b"error: "),
 ];
 
-/// What is told where `lisp` is asked for two heaps, or for one of no number of words.
-const WORDS_FAULT: &[u8] =
-    b"rheap: --heap or --grow needs a number of words, 0 to 4294967295, and not both stand\n";
-
-/// What is told where its steps are no number.
-const STEPS_FAULT: &[u8] = b"rheap: --steps needs a number of steps, 0 to 4294967295\n";
-
 /// Programs of the small Scheme. The input is a word that no program knows.
 const PROGRAMS: &[Call<'static>] = &[
     (
@@ -749,94 +728,4 @@ fn a_session_shows_its_prompts(rt: HostRuntime) {
     expect_equal(&rt, status, 0);
     expect_prefix(&rt, &printed, b"object 2\ntotal ");
     expect_bytes(&rt, &told, b"> > > \n");
-}
-
-/// Expects each of these faults to have this status, and to be told so.
-fn expect_faults_told<R: AllocGlobal + Abort>(rt: &R, faults: &[(LineFault, u8, &[u8])]) {
-    for (row, (fault, status, text)) in faults.iter().enumerate() {
-        let rt = Row { rt, row };
-        let mut err = Vec::new(rt.alloc());
-        expect_equal(&rt, tell(fault, &mut err), *status);
-        expect_bytes(&rt, &err, text);
-    }
-}
-
-#[test]
-fn faults_before_a_run_are_told(rt: HostRuntime) {
-    let table: [(LineFault, u8, &[u8]); 17] = [
-        (LineFault::Open, 1, b"rheap: open failed\n"),
-        (
-            LineFault::NoText,
-            2,
-            b"rheap: the command line is no text\n",
-        ),
-        (
-            LineFault::CommandLine(CommandLineFault::Incomplete),
-            2,
-            b"rheap: no command and file\n",
-        ),
-        (
-            LineFault::CommandLine(CommandLineFault::Mark),
-            2,
-            MARK_FAULT,
-        ),
-        (
-            LineFault::CommandLine(CommandLineFault::Grow),
-            2,
-            GROW_FAULT,
-        ),
-        (
-            LineFault::CommandLine(CommandLineFault::Replicators),
-            2,
-            REPLICATORS_FAULT,
-        ),
-        (
-            LineFault::CommandLine(CommandLineFault::Idle),
-            2,
-            IDLE_FAULT,
-        ),
-        (
-            LineFault::CommandLine(CommandLineFault::Line),
-            2,
-            LINE_FAULT,
-        ),
-        (
-            LineFault::CommandLine(CommandLineFault::Shell),
-            2,
-            b"rheap: completions needs a shell: bash, zsh or fish\n",
-        ),
-        (
-            LineFault::CommandLine(CommandLineFault::Views),
-            2,
-            VIEWS_FAULT,
-        ),
-        (
-            LineFault::CommandLine(CommandLineFault::Crossed),
-            2,
-            CROSSED_FAULT,
-        ),
-        (
-            LineFault::CommandLine(CommandLineFault::SessionCycles),
-            2,
-            SESSION_FAULT,
-        ),
-        (
-            LineFault::SameFile,
-            1,
-            b"rheap: OUT is FILE, another OUT, or where standard output or error goes\n",
-        ),
-        (
-            LineFault::CommandLine(CommandLineFault::Words),
-            2,
-            WORDS_FAULT,
-        ),
-        (
-            LineFault::CommandLine(CommandLineFault::Steps),
-            2,
-            STEPS_FAULT,
-        ),
-        (LineFault::NoLine, 1, b"rheap: draw: NoLine\n"),
-        (LineFault::HistoryDiffers, 4, b"rheap: history differs\n"),
-    ];
-    expect_faults_told(&rt, &table);
 }
