@@ -15,7 +15,7 @@ from workshop import OUT, Trouble, Workshop, end_by_signals, processors, say
 MEGABYTES = 500
 # What the steps of a build take on the measured machine, in seconds: on four processors, and where there are fewer.
 STEPS = {
-    "quick": [("reading the sources", 55), ("making parts", 10), ("compiling", 35 if processors() > 3 else 60)],
+    "quick": [("reading the sources", 65), ("making parts", 15), ("compiling", 35 if processors() > 3 else 70)],
     "checked": [("building with checks", 150)],
 }
 

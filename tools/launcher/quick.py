@@ -26,16 +26,10 @@ TYPES = {"u8": ["i8"], "u32": ["i32"], "i64": ["i64"], "u64": ["i64"], "usize": 
 
 PARTS_SCRIPT = pathlib.Path(__file__).resolve().with_name("parts.py")
 
-# How a program with checks is compiled: in how many parts, and from which size on clang inlines no function, whose own measure is
-# 225. What runs for long is built slowly, so that it runs many times as fast; what runs once is built soon.
-NORMAL = (module.PARTS, 225)
-TO_RUN_LONG = (1, 500)
-TO_RUN_ONCE = (module.PARTS, 0)
-
 # The scripts that stand for clang and the linker: the module is kept and nothing compiled; or it is compiled in parts, and
 # the program kept and not run.
 KEEP_MODULE = 'case "$*" in *-fsanitize=address*) mv module.bc {room}/module.bc; exit 1 ;; esac\nexec {clang} "$@"'
-COMPILE_WELL = 'case "$*" in *-fsanitize=address*) exec {python} -B {script} {parts} {inlined} {clang} "$@" ;; esac\nexec {clang} "$@"'
+COMPILE_WELL = 'case "$*" in *-fsanitize=address*) exec {python} -B {script} {parts} {clang} "$@" ;; esac\nexec {clang} "$@"'
 KEEP_PROGRAM = 'for word in "$@"; do [ "$before" != -o ] || made=$word; before=$word; done\n(exec -a ld.lld {clang} "$@") && cp "$made" {room}/program\nexit 1'
 
 
@@ -123,10 +117,9 @@ def build_checked(shop, begin, label, rank=0):
     return build_with_checks(shop, kit, room, "rheap", folder_of("rheap"), words, rank)
 
 
-def build_with_checks(shop, kit, room, crate, folder, libraries, rank, tests=False, how=NORMAL):
+def build_with_checks(shop, kit, room, crate, folder, libraries, rank, tests=False):
     """Builds a program, or the tests of a crate, with all checks of `rt try`, and returns the file. It isn't run."""
-    parts, inlined = how
-    clang = script(COMPILE_WELL, clang=kit.clang, python=sys.executable, script=PARTS_SCRIPT, parts=parts, inlined=inlined)
+    clang = script(COMPILE_WELL, clang=kit.clang, python=sys.executable, script=PARTS_SCRIPT, parts=module.PARTS)
     tools = kit.tools(room, clang, script(KEEP_PROGRAM, room=room, clang=kit.clang))
     root = "src/main.rt" if (folder / "src/main.rt").exists() else "src/lib.rt"
     words = kit.try_words(tools, crate, root, libraries, tests)

@@ -11,12 +11,13 @@ from toolchain import Kit, UnknownToolchain
 from tree import CRATES, TOP, count_of_tests, folder_of, has_tests
 from workshop import Trouble, print_out, processors, say
 
-# This crate's tests take longest, and begin first. All others are built as one program, so that what they use is built once.
-LONG = "long_tests"
+# All tests are built as one crate of this name, so that what they use is built once.
 TOGETHER = "every_test"
+# The tests that take longest, longest first, begin before the others.
+LONGEST = ("long_tests::sessions::", "long_tests::")
 SECONDS = 3600
 # What all of it takes of processors on the measured machine, and how many it keeps busy.
-SECONDS_OF_PROCESSORS = 1080
+SECONDS_OF_PROCESSORS = 1350
 MOST_BUSY = 4
 # The checks of pages and scripts, each a command with what it takes.
 PAGES = [
@@ -83,8 +84,7 @@ def run_crates(shop, tally, crates, rank):
         crate, folder = TOGETHER, room / "crate"
         put_together(crates, folder)
     words, _ = kit.libraries(crates, quick.labelled(room, quick.CHECKED))
-    how = quick.TO_RUN_LONG if crate == LONG else quick.TO_RUN_ONCE
-    program = quick.build_with_checks(shop, kit, room, crate, folder, words, rank, tests=True, how=how)
+    program = quick.build_with_checks(shop, kit, room, crate, folder, words, rank, tests=True)
     said = run_each(shop, kit, room, program, rank)
     for it in crates:
         of_it = [name for name in said if len(crates) == 1 or name.split("::")[0] == it]
@@ -99,6 +99,7 @@ def run_each(shop, kit, room, program, rank):
     listed = room / "listed"
     shop.run([program, "--list"], rank, output=listed)
     names = re.findall(r"^(\S+): test$", listed.read_text(errors="replace"), re.M)
+    names.sort(key=lambda name: [not name.startswith(it) for it in LONGEST])
 
     def run(name):
         # A name may begin another one, whose test is run then too: so each has a folder of its own.
@@ -191,13 +192,13 @@ def test_all(shop):
     tally = Tally()
     seconds = SECONDS_OF_PROCESSORS * pace_of_machine() / min(processors(), MOST_BUSY)
     say(f"testing without proofs, in about {minutes(seconds)} where nothing else runs; log: {shop.log}")
-    others = [it for it in CRATES if has_tests(it) and it != LONG]
-    program = Program(shop, 2)
+    crates = [it for it in CRATES if has_tests(it)]
+    program = Program(shop, 1)
     works = [
-        ("tests", lambda: run_crates(shop, tally, [LONG], 0)), ("tests", lambda: run_crates(shop, tally, others, 1)),
-        ("examples", lambda: run_examples(shop, tally, program, 2)),
-        ("programs in C and plain Rust", lambda: run_borders(shop, tally, program, 3)),
-        *((it[0], lambda it=it: run_script(shop, tally, 4, it)) for it in PAGES),
+        ("tests", lambda: run_crates(shop, tally, crates, 0)),
+        ("examples", lambda: run_examples(shop, tally, program, 1)),
+        ("programs in C and plain Rust", lambda: run_borders(shop, tally, program, 1)),
+        *((it[0], lambda it=it: run_script(shop, tally, 2, it)) for it in PAGES),
     ]
     do_works(shop, tally, works)
     return tally

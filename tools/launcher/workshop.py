@@ -5,6 +5,7 @@ import errno
 import fcntl
 import heapq
 import os
+import pathlib
 import shutil
 import signal
 import subprocess
@@ -19,6 +20,8 @@ ENDING = (signal.SIGINT, signal.SIGTERM, signal.SIGHUP)
 DISK_IS_FULL = "the disk is full: building needs {} MB below {}"
 # How long a command that is ended may take to end what it started, and to remove what it made for a while.
 SECONDS_TO_END = 2
+# How nice those commands are for which nobody waits longest.
+NICE = 4
 
 
 class Trouble(Exception):
@@ -96,6 +99,14 @@ def send(number, running):
             os.killpg(ran.pid, number)
 
 
+def give_way(ran):
+    """Has a command, and what it starts, give way to others where there are too few processors. The system may share them among
+    sessions first, each of which has a number of its own for that."""
+    with contextlib.suppress(OSError):
+        os.setpriority(os.PRIO_PROCESS, ran.pid, NICE)
+        pathlib.Path(f"/proc/{ran.pid}/autogroup").write_text(str(NICE))
+
+
 class Workshop:
     """A place to work in. `folder` is empty when it is entered, and gone when it is left; what the commands say is in `log`."""
 
@@ -169,7 +180,8 @@ class Workshop:
         send(signal.SIGKILL, running)
 
     def run(self, words, rank=0, output=None, **how):
-        """Runs a command when it is its turn, and returns its status. What it says goes to the log, or to the file `output`."""
+        """Runs a command when it is its turn, and returns its status. What it says goes to the log, or to the file `output`. Those of
+        rank 0 have more of the processors."""
         with self.turns.one(rank), open(output or self.log, "ab") as said:
             with self.guard:
                 if self.is_stopped:
@@ -178,6 +190,8 @@ class Workshop:
                     [str(it) for it in words], stdin=subprocess.DEVNULL, stdout=said, stderr=subprocess.STDOUT,
                     start_new_session=True, **how)
                 self.running.add(ran)
+            if rank:
+                give_way(ran)
             status = ran.wait()
             with self.guard:
                 self.running.discard(ran)
