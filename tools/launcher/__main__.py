@@ -12,7 +12,7 @@ from workshop import OUT, Stopped, Trouble, Workshop, end_by_signals, print_out,
 
 
 def run_program(given):
-    """Runs one of the program's commands, and doesn't return where the program is there."""
+    """Runs one of the program's commands. It doesn't return where the program is one that checks nothing."""
     import building
 
     asks_help = any(it in ("-h", "--help") for it in given[1:given.index("--") if "--" in given else None])
@@ -23,7 +23,12 @@ def run_program(given):
     if given[0] == "completions" and not asks_help and not building.current(building.Sources()):
         file = tree.TOP / "share/completions" / words.SHELLS[given[1]]
         return print_out(file.read_text(encoding="utf-8").rstrip("\n"))
-    file = building.program().file
+    found = building.program()
+    file = found.file
+    if found in (building.CHECKED, building.TRIED):
+        import watching
+
+        return watching.run(file, given)
     # Python ignores these, and the program would inherit that.
     for it in (signal.SIGPIPE, signal.SIGXFSZ):
         signal.signal(it, signal.SIG_DFL)
