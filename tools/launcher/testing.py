@@ -21,7 +21,7 @@ SECONDS_OF_PROCESSORS = 1350
 MOST_BUSY = 4
 # The checks of pages and scripts, each a command with what it takes.
 PAGES = [
-    ("docs/make_headline", "--check"), ("bench/plots", "--check"), ("docs/check_pages",), ("examples/c/header",),
+    ("docs/make_headline", "--check"), ("docs/make_crates", "--check"), ("bench/plots", "--check"), ("docs/check_pages",), ("examples/c/header",),
 ]
 
 
