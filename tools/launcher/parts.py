@@ -18,8 +18,7 @@ class Checked(module.Module):
 
     def __init__(self, file):
         super().__init__(file)
-        plain = next(line for line in self.tail if line.startswith("attributes #0 = { "))
-        self.tail.append(plain.replace("#0 = {", f"#{GROUP} = {{ alwaysinline", 1))
+        self.tail += [it.replace("#0 = {", f"#{GROUP} = {{ alwaysinline", 1) for it in self.tail if it.startswith("attributes #0 = { ")]
 
     def function(self, first, lines):
         made = super().function(first, lines)

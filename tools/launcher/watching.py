@@ -8,9 +8,7 @@ import struct
 import subprocess
 import tempfile
 
-from workshop import ENDING, OUT, say
-
-REPORT = OUT / "checked/stopped.log"
+from workshop import ENDING, say
 
 
 def functions(file):
@@ -40,12 +38,13 @@ def place_of(report, file):
 
 
 def tell_place(report, file):
-    """Says where the program was stopped, and keeps what AddressSanitizer says."""
-    shutil.copyfile(report, REPORT)
+    """Says where the program was stopped, and keeps what AddressSanitizer says beside the program."""
+    kept = file.with_name("stopped.log")
+    shutil.copyfile(report, kept)
     place = place_of(report.read_text(errors="replace"), file)
     where = f" in {place[0]}, or in what is compiled into it" if place else ""
     callers = f", called by {', '.join(place[1:4])}" if place[1:] else ""
-    say(f"a check stopped the program{where}{callers}; {REPORT} has more")
+    say(f"a check stopped the program{where}{callers}; {kept} has more")
 
 
 def run(file, given):

@@ -1,5 +1,5 @@
-//! What is chosen of a run: how it is told, and what a program may take. Plain data, which the
-//! command line and the runs name.
+//! The options of a run as plain data: how it is reported, and how many words and steps a program
+//! may take. The command line and the runs both use them.
 #![tactic(auto)]
 
 mod limits;

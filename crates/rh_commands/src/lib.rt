@@ -1,5 +1,5 @@
-//! What the program does that needs no Scheme: each command from its reader to its writer, how it
-//! ends, and how that is told.
+//! The commands of `rheap` that need no Scheme, each from its input to its output, its status, and
+//! its message where it fails.
 #![tactic(auto)]
 
 mod completing;
