@@ -1,6 +1,6 @@
 //! Tests that take long: texts and histories of the greatest sizes, reads and writes that run out, and
-//! hundreds of programs on heaps that grow. They run as they are proved, since each step of a program
-//! without proof is checked.
+//! hundreds of programs on heaps that grow. They are a crate of their own since each gate proves them,
+//! and since they begin before all other tests where all are run.
 #![tactic(auto)]
 
 #[cfg(test)]

@@ -56,15 +56,28 @@ fn expect_refused<R: AllocGlobal + Abort + Threads + Wait + Sync>(rt: &R, nth: u
     assert!(rt; b"3\n".starts_with(&out), "allocation {nth}");
 }
 
-#[test]
-fn each_allocation_of_an_entry_is_refused_in_turn(rt: HostRuntime) {
-    let begun = asked(&rt, b"");
-    let all = asked(&rt, ENTRY);
+/// Expects that of each second allocation of the entry, of those whose number is even or odd. Both are
+/// a test each, since they take longer than any other one, and run side by side.
+fn expect_each_second_refused<R: AllocGlobal + Abort + Threads + Wait + Sync>(rt: &R, rest: u64) {
+    let begun = asked(rt, b"");
+    let all = asked(rt, ENTRY);
     assert!(rt;
         begun.saturating_add(10) < all,
         "{begun} and {all} allocations"
     );
     for nth in begun..all {
-        expect_refused(&rt, nth.saturating_add(1));
+        if nth % 2 == rest {
+            expect_refused(rt, nth.saturating_add(1));
+        }
     }
+}
+
+#[test]
+fn each_odd_allocation_of_an_entry_is_refused_in_turn(rt: HostRuntime) {
+    expect_each_second_refused(&rt, 0);
+}
+
+#[test]
+fn each_even_allocation_of_an_entry_is_refused_in_turn(rt: HostRuntime) {
+    expect_each_second_refused(&rt, 1);
 }
