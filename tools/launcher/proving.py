@@ -6,7 +6,7 @@ import shutil
 import building
 import toolchain
 from progress import minutes, pace_of_machine
-from tree import CRATES, PROVED, Sums, files_of, own_libraries, proved_by_turns, read_proofs, with_those_below, write_proofs
+from tree import CRATES, PROVED, Sums, files_of, has_tests, own_libraries, proved_by_turns, read_proofs, with_those_below, write_proofs
 from workshop import OUT, Trouble, Workshop, end_by_signals, processors, say
 
 # What was proved here, in the form of PROVED.
@@ -54,10 +54,7 @@ def prove(crates):
         progress = Told(len(names))
         status = shop.all_of(progress.tick, lambda: shop.run(["rt", "ci"], cwd=copy))[0]
         said = LOG.read_text(encoding="utf-8", errors="replace")
-        # What rt ci names in this line failed, in its proof, its tests or its run.
-        failed = re.findall(r"^rt: FAILED: (.*)$", said, re.M)
-        failed = {word for line in failed for word in line.split()}
-        passed = [it for it in names if re.search(rf"^rt: {it} proved$", said, re.M) and it not in failed]
+        passed = passed_of(names, said)
         after = Sums()
         if any(after.of(it) != sums.of(it) for it in names):
             raise Trouble("a source changed while this was proved; run it again")
@@ -67,6 +64,19 @@ def prove(crates):
         if wants_program:
             building.keep(shop, building.PROVED, copy / "crates/rheap/out/rheap", sources)
     return f"proved {crates_in(names)}"
+
+
+# What `rt ci` says of a crate that is proved: now, or by an earlier run of it over the same files.
+PASSED = r"^rt: {} (?:proved$|is kept: )"
+
+
+def passed_of(names, said):
+    """Which of these crates passed in all, by what `rt ci` said. What it names as failed at its end didn't, in its proof, its tests or its
+    run. Where it was ended before that, a crate that has tests didn't either, unless these are said to be proved."""
+    failed = {word for line in re.findall(r"^rt: FAILED: (.*)$", said, re.M) for word in line.split()}
+    is_whole = re.fullmatch(r"\d+ passed, \d+ failed", said.rstrip().rpartition("\n")[2])
+    tested = {it for it in names if is_whole or not has_tests(it) or re.search(rf"^rt: {it}: its tests are proved$", said, re.M)}
+    return [it for it in names if re.search(PASSED.format(it), said, re.M) and it in tested - failed]
 
 
 def crates_in(names):
@@ -81,7 +91,7 @@ class Told:
         self.count, self.told = count, 0
 
     def tick(self):
-        done = len(re.findall(r"^rt: \w+ proved$", LOG.read_text(encoding="utf-8", errors="replace"), re.M))
+        done = len(re.findall(PASSED.format(r"\w+"), LOG.read_text(encoding="utf-8", errors="replace"), re.M))
         if done != self.told:
             self.told = done
             say(f"{done} of {self.count} proved")
