@@ -151,12 +151,19 @@ class Program:
 
     def __init__(self, shop, rank):
         self.shop, self.rank = shop, rank
-        self.guard, self.built = threading.Lock(), None
+        self.guard, self.built, self.trouble = threading.Lock(), None, None
 
     def words(self):
-        """The program's path, or nothing where the toolchain's parts aren't known here: that program is too slow for the examples."""
+        """The program's path, or nothing where the toolchain's parts aren't known here: that program is too slow for the examples. Where
+        it can't be built, that is told to each that needs it, and isn't tried again."""
         with self.guard:
-            self.built = self.built or building.program_in(self.shop, self.rank)
+            if not self.built and not self.trouble:
+                try:
+                    self.built = building.program_in(self.shop, self.rank)
+                except Trouble as trouble:
+                    self.trouble = trouble
+        if self.trouble:
+            raise self.trouble
         return () if self.built is building.TRIED else (self.built.file,)
 
 
