@@ -6,6 +6,7 @@ import subprocess
 import sys
 
 import module
+from toolchain import UnknownToolchain
 
 # What is called for each read that is interrupted, of which one test makes 500 million. It is compiled into its callers, in each part:
 # what it returns is large, and AddressSanitizer takes its time to look at that.
@@ -38,8 +39,13 @@ def main(count, clang, words):
     disassembled = [clang, "-S", "-emit-llvm", "-Xclang", "-disable-llvm-passes", "-x", "ir", source, "-o", "module.ll"]
     if subprocess.run(disassembled, check=False).returncode:
         return 1
+    try:
+        texts = Checked("module.ll").parts(count)
+    except UnknownToolchain:
+        # Another toolchain's module is compiled as `rt try` asks for it.
+        return subprocess.run([clang, *words], check=False).returncode
     running = []
-    for at, text in enumerate(Checked("module.ll").parts(count)):
+    for at, text in enumerate(texts):
         with open(f"part{at}.ll", "w", encoding="utf-8") as part:
             part.write(text)
         changed = {source: f"part{at}.ll", made: f"part{at}.o", "-O0": "-O1"}
