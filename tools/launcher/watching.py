@@ -1,4 +1,5 @@
 """Runs a program that checks each step, and says in which function a check has stopped it."""
+import contextlib
 import os
 import pathlib
 import re
@@ -38,13 +39,15 @@ def place_of(report, file):
 
 
 def tell_place(report, file):
-    """Says where the program was stopped, and keeps what AddressSanitizer says beside the program."""
-    kept = file.with_name("stopped.log")
-    shutil.copyfile(report, kept)
+    """Says where the program was stopped, and keeps what AddressSanitizer says beside the program, where that can be written."""
+    kept, more = file.with_name("stopped.log"), ""
+    with contextlib.suppress(OSError):
+        shutil.copyfile(report, kept)
+        more = f"; {kept} has more"
     place = place_of(report.read_text(errors="replace"), file)
     where = f" in {place[0]}, or in what is compiled into it" if place else ""
     callers = f", called by {', '.join(place[1:4])}" if place[1:] else ""
-    say(f"a check stopped the program{where}{callers}; {kept} has more")
+    say(f"a check stopped the program{where}{callers}{more}")
 
 
 def run(file, given):
