@@ -31,19 +31,26 @@ def due(crates, sums, logic):
     return [it for it in with_those_below(*crates) if proofs.get(it) != (sums.of(it), logic)]
 
 
+def is_done(crates, sums, logic):
+    """Whether all of it was proved here, as it is now, and a proved program is there if it is one of them."""
+    return not due(crates, sums, logic) and ("rheap" not in crates or building.PROVED.is_of(building.Sources().state))
+
+
 def prove(crates):
     """Proves these crates and those below them, if one of them wasn't proved here as it is now, writes PROVED, and returns what is told
     of it."""
-    sums, logic = Sums(), toolchain.logic()
-    wants_program = "rheap" in crates
-    sources = building.Sources()
-    if not due(crates, sums, logic) and not (wants_program and not building.PROVED.is_of(sources.state)):
-        note(with_those_below(*crates), sums, logic)
-        return "nothing is due: all of it was proved here, as it is now"
+    sums, logic, names = Sums(), toolchain.logic(), with_those_below(*crates)
+    done = "nothing is due: all of it was proved here, as it is now"
+    if is_done(crates, sums, logic):
+        note(names, sums, logic)
+        return done
     end_by_signals()
-    names = with_those_below(*crates)
     lines = lines_of(names)
     with Workshop(LOG, int(lines * MEGABYTES_A_LINE) + 100) as shop:
+        # Another launcher may have proved it meanwhile, and the sources may be others.
+        sums, sources = Sums(), building.Sources()
+        if is_done(crates, sums, logic):
+            return done
         copy = shop.folder / "copy"
         building.copy_of_crates(copy, crates)
         # rt ci wants the top of a repository.
@@ -61,7 +68,7 @@ def prove(crates):
         note(passed, sums, logic)
         if status or len(passed) < len(names):
             raise shop.failed(f"{len(names) - len(passed)} of {crates_in(names)}", "proved")
-        if wants_program:
+        if "rheap" in crates:
             building.keep(shop, building.PROVED, copy / "crates/rheap/out/rheap", sources)
     return f"proved {crates_in(names)}"
 
