@@ -93,12 +93,14 @@ def build_parts(with_program, is_proved):
     if sources.changed:
         raise Trouble(f"{sources.why()}: `./rheap install --proved PREFIX` proves what is due first")
     program, library = building.Sources(), building.Sources(*quick.LIBRARIES)
-    has_program = not with_program or building.QUICK.is_of(program.state)
-    has_library = building.LIBRARY.is_of(library.state)
-    if not (has_program and has_library):
+    lacks_program = lambda: with_program and not building.QUICK.is_of(program.state)
+    lacks_library = lambda: not building.LIBRARY.is_of(library.state)
+    if lacks_program() or lacks_library():
         toolchain.rt()
         with Workshop(OUT / "quick/install.log", 2 * building.MEGABYTES) as shop:
-            build_quickly(shop, None if has_program else program, None if has_library else library)
+            # Another launcher may have built them meanwhile.
+            if lacks_program() or lacks_library():
+                build_quickly(shop, program if lacks_program() else None, library if lacks_library() else None)
     return building.QUICK.file if with_program else None, building.LIBRARY.file, quick.OF_PROVED
 
 
