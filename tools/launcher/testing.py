@@ -133,13 +133,14 @@ def run_script(shop, tally, rank, words, **variables):
     env = {**os.environ, "TMPDIR": str(aside), **variables}
     status = shop.run([TOP / words[0], *words[1:]], rank, output=to, cwd=TOP, env=env)
     said = to.read_text(errors="replace")
-    counts = re.findall(r"\b(\d+) passed, (\d+) failed\b", said) or [(0, 0)]
-    passed, failed = map(int, counts[-1])
+    counts = re.findall(r"\b(\d+) passed, (\d+) failed\b", said)
+    passed, failed = map(int, counts[-1]) if counts else (0, 0)
     runs = re.search(r"all as written, in (\d+) runs", said)
     passed = int(runs[1]) if runs else passed
     for line in re.findall(r"^.*\b(?:left out|is built)\b.*$", said, re.M):
         print_out(line)
-    if status or failed:
+    # A script that says that it ran nothing hasn't passed.
+    if status or failed or counts and not passed:
         tally.add(words[0], passed, max(failed, 1), said)
     else:
         is_none = re.search(r"left out: no cargo|no program in C is built", said)
