@@ -1,4 +1,5 @@
 """Which program there is, and building it where none is there: proved, at full speed of proved sources, or with all checks."""
+import contextlib
 import hashlib
 import os
 import shutil
@@ -242,10 +243,12 @@ def build_slowly(shop):
 
     def find():
         while not done and not made.exists():
-            for it in room.rglob("program"):
-                if it.is_file() and os.access(it, os.X_OK):
-                    os.link(it, made)
-                    return
+            # `rt try` makes and removes folders there meanwhile.
+            with contextlib.suppress(OSError):
+                for it in room.rglob("program"):
+                    if it.is_file() and os.access(it, os.X_OK):
+                        os.link(it, made)
+                        return
             time.sleep(0.1)
 
     def work():
