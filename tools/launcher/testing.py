@@ -16,7 +16,7 @@ TOGETHER = "every_test"
 # The tests that take longest, longest first, begin before the others.
 LONGEST = ("long_tests::sessions::", "long_tests::")
 SECONDS = 3600
-# What all of it takes of processors on the measured machine, and how many it keeps busy.
+# The processor seconds that all of it takes on the measured machine while that is slow, and how many processors it keeps busy.
 SECONDS_OF_PROCESSORS = 1350
 MOST_BUSY = 4
 # The checks of pages and scripts, each a command with what it takes.
