@@ -1,4 +1,2 @@
-pub mod Added
-pub mod Chosen
 pub mod ClapMatches
-pub mod Wholes
+pub mod Loops

@@ -1,10 +1,11 @@
--- The command line of the program, as clap knows it.
-use Rattle.std.specs.Prelude.{ℕ, ◌+◌, ◌-◌, ◌^◌, nat_le, nat_lt, List, [], ◌∷◌, Bool, true, false, if◌then◌else◌, Option, Some, None, Result, Ok, Err, codes}
+-- What the program is asked, by what clap takes of its arguments.
+use Rattle.std.specs.Prelude.{ℕ, ◌+◌, ◌-◌, ◌^◌, nat_le, nat_lt, List, Bool, true, false, if◌then◌else◌, Option, Some, None, Result, Ok, Err, codes}
 use Rattle.std.specs.Option.{option_map}
 use Rattle.std.specs.Str.{bytes_eq}
 use Rattle.rh_text.specs.Number.{number_of}
-use Rattle.clap.specs.declared.builder.action.ArgAction.TheVariants.{SetTrue}
-use Rattle.clap.specs.Words.{App, Kinds, Row, Rule, Text, new_app, new_rule, with_rule, with_subcommand, subcommand_of, fault_of, first_of, takes}
+use Rattle.clap.specs.Words.{Kinds, Row, Text, subcommand_of, fault_of, first_of, first_value, found_of, takes}
+use Rattle.clap.specs.declared.parser.matches.ArgMatches.{ArgMatches}
+use Rattle.rh_command_line.specs.Table.{rheap_app}
 use Rattle.rh_command_line.specs.declared.ask.Subcommand.{Subcommand}
 use Rattle.rh_command_line.specs.declared.ask.Subcommand.TheVariants.{Run, RunPaced, RunGrowing, Threads, Replay, Dump, Dot, Draw, Session, Lisp, LispSession, Completions}
 use Rattle.rh_choices.specs.declared.limits.HeapWords.{HeapWords}
@@ -16,190 +17,6 @@ use Rattle.rh_choices.specs.declared.telling.Telling.TheVariants.{Answers, Echo,
 use Rattle.rh_command_line.specs.declared.ask.Ask.{Ask}
 use Rattle.rh_command_line.specs.declared.fault.CommandLineFault.{CommandLineFault}
 use Rattle.rh_command_line.specs.declared.fault.CommandLineFault.TheVariants as faults
-
--- a word of this name, which is required or not
-abbrev pub word_rule : Text → Bool → Rule
-word_rule name is_required = record (new_rule name) { required = is_required }
-
--- an option of this name with a value
-abbrev pub option_rule : Text → Rule
-option_rule name = record (new_rule name) { long = Some name; value_names = 1 }
-
--- a flag of this name
-abbrev pub flag_rule : Text → Rule
-flag_rule name = record (new_rule name) { long = Some name; action = Some SetTrue }
-
--- the file, which is required
-abbrev pub file_rule : Rule
-file_rule = word_rule (codes "FILE") true
-
--- whether a fault is explained, a flag of each command that takes a file
-abbrev pub explain_rule : Rule
-explain_rule = flag_rule (codes "explain")
-
--- a command of this name that takes a file, as `run FILE`
-abbrev pub file_app : Text → App
-file_app name = with_rule (with_rule (new_app name) file_rule) explain_rule
-
--- the options of `run`: a flag, and two with a value
-abbrev pub paced_rule : Rule
-paced_rule = flag_rule (codes "paced")
-
-abbrev pub mark_rule : Rule
-mark_rule = option_rule (codes "mark")
-
-abbrev pub grow_rule : Rule
-grow_rule = option_rule (codes "grow")
-
--- the command `run`: a file, and these options, of which the last is for a heap that grows
-abbrev pub marked_app : App
-marked_app = with_rule (with_rule (file_app (codes "run")) paced_rule) mark_rule
-
-abbrev pub grown_app : App
-grown_app = with_rule marked_app grow_rule
-
--- the options that view what is done: two files, and two flags
-abbrev pub cycles_rule : Rule
-cycles_rule = option_rule (codes "cycles")
-
-abbrev pub history_rule : Rule
-history_rule = option_rule (codes "history")
-
-abbrev pub echo_rule : Rule
-echo_rule = flag_rule (codes "echo")
-
-abbrev pub json_rule : Rule
-json_rule = flag_rule (codes "json")
-
--- a command with both flags
-abbrev pub told_app : App → App
-told_app app = with_rule (with_rule app echo_rule) json_rule
-
--- the command `run` with all its options
-abbrev pub run_app : App
-run_app = told_app (with_rule (with_rule grown_app cycles_rule) history_rule)
-
--- the command `replay`: a file, and the flags
-abbrev pub replay_app : App
-replay_app = told_app (file_app (codes "replay"))
-
--- the options of `threads`, each with a value
-abbrev pub replicators_rule : Rule
-replicators_rule = option_rule (codes "replicators")
-
-abbrev pub idle_rule : Rule
-idle_rule = option_rule (codes "idle")
-
--- the command `threads`: a file, and these options
-abbrev pub threads_app : App
-threads_app = with_rule (with_rule (file_app (codes "threads")) replicators_rule) idle_rule
-
--- the option of `dump`, a flag
-abbrev pub dot_rule : Rule
-dot_rule = flag_rule (codes "dot")
-
--- the command `dump`: a file, this option, and one of the flags
-abbrev pub dump_app : App
-dump_app = with_rule (with_rule (file_app (codes "dump")) dot_rule) json_rule
-
--- the option of `draw`, with a value
-abbrev pub line_rule : Rule
-line_rule = option_rule (codes "line")
-
--- the command `draw`: a file, and this option
-abbrev pub draw_app : App
-draw_app = with_rule (file_app (codes "draw")) line_rule
-
--- the options of `lisp`, each with a value, beside that of a heap that grows
-abbrev pub heap_rule : Rule
-heap_rule = option_rule (codes "heap")
-
-abbrev pub steps_rule : Rule
-steps_rule = option_rule (codes "steps")
-
--- its file, without which a session is held
-abbrev pub program_rule : Rule
-program_rule = word_rule (codes "FILE") false
-
--- the command `lisp` with its file and the words of a heap that keeps them
-abbrev pub sized_app : App
-sized_app = with_rule (with_rule (new_app (codes "lisp")) program_rule) heap_rule
-
--- with these options
-abbrev pub bounded_app : App
-bounded_app = with_rule (with_rule sized_app grow_rule) steps_rule
-
--- the command `lisp`: that, the file of its cycles, and the flag
-abbrev pub lisp_app : App
-lisp_app = with_rule (with_rule bounded_app cycles_rule) explain_rule
-
--- the command `shell`: no file
-abbrev pub shell_app : App
-shell_app = new_app (codes "shell")
-
--- the shell of `completions`, which is required
-abbrev pub shell_rule : Rule
-shell_rule = word_rule (codes "SHELL") true
-
--- the command `completions`: a shell, and no file
-abbrev pub completions_app : App
-completions_app = with_rule (new_app (codes "completions")) shell_rule
-
--- the program: a version, and a command that is required
-abbrev pub rheap_top : App
-rheap_top =
-    let new = new_app (codes "rheap")
-    in record new { top = record new.top { has_version = true; subcommand_required = true } }
-
--- the first word after the program's name; empty where there is none
-abbrev pub first_word : List Text → Text
-first_word [] = []
-first_word (name ∷ []) = []
-first_word (name ∷ word ∷ words) = word
-
--- whether a word is the name of a command
-abbrev pub names_command : Text → Bool
-names_command word =
-    if bytes_eq word (codes "run") then true
-    else (if bytes_eq word (codes "threads") then true
-    else (if bytes_eq word (codes "replay") then true
-    else (if bytes_eq word (codes "dump") then true
-    else (if bytes_eq word (codes "draw") then true
-    else (if bytes_eq word (codes "shell") then true
-    else (if bytes_eq word (codes "lisp") then true
-    else bytes_eq word (codes "completions")))))))
-
--- whether the command of this name has its options where the word is the first: it names that
--- command, or none
-abbrev pub has_options : Text → Text → Bool
-has_options word name = if names_command word then bytes_eq word name else true
-
--- a command where the word is the first: whole, or its name alone
-abbrev pub command_for : Text → Text → App → App
-command_for word name whole = if has_options word name then whole else new_app name
-
--- the program with its commands, where the word is the first
-abbrev pub rheap_app_for : Text → App
-rheap_app_for word =
-    let run = command_for word (codes "run") run_app
-    in let threads = command_for word (codes "threads") threads_app
-    in let replay = command_for word (codes "replay") replay_app
-    in let dump = command_for word (codes "dump") dump_app
-    in let draw = command_for word (codes "draw") draw_app
-    in let lisp = command_for word (codes "lisp") lisp_app
-    in let completions = command_for word (codes "completions") completions_app
-    in let with_run = with_subcommand rheap_top run.top
-    in let with_threads = with_subcommand with_run threads.top
-    in let with_replay = with_subcommand with_threads replay.top
-    in let with_dump = with_subcommand with_replay dump.top
-    in let with_draw = with_subcommand with_dump draw.top
-    in let with_shell = with_subcommand with_draw shell_app.top
-    in let with_lisp = with_subcommand with_shell lisp.top
-    in with_subcommand with_lisp completions.top
-
--- the program with its commands, where these are the arguments
-abbrev pub rheap_app : List Text → App
-rheap_app arguments = rheap_app_for (first_word arguments)
 
 -- whether the value of the flag says that it was set
 abbrev pub is_set : Option Text → Bool
@@ -312,24 +129,17 @@ abbrev pub completions_asked : Option Text → Result Subcommand CommandLineFaul
 completions_asked None = Err faults.Incomplete
 completions_asked (Some name) = completions_for name
 
--- the values of the options of all commands, as far as they are given
-pub record Options : Type 0 where
-  pub paced : Option Text
-  pub mark : Option Text
-  pub grow : Option Text
-  pub replicators : Option Text
-  pub idle : Option Text
-  pub dot : Option Text
-  pub explain : Option Text
-  pub line : Option Text
-  pub heap : Option Text
-  pub steps : Option Text
-  pub shell : Option Text
-  pub cycles : Option Text
-  pub history : Option Text
-  pub echo : Option Text
-  pub json : Option Text
-  pub file : Option Text
+-- the first value of each argument, by its name, if it has one
+abbrev pub Given : Type 0
+Given = Text → Option Text
+
+-- those that the rows of a parse hold
+abbrev pub given_in : List Row → Given
+given_in rows name = first_of name rows
+
+-- those of clap's matches
+abbrev pub given_of : ArgMatches → Given
+given_of values name = first_value (found_of values) name
 
 -- what is written of a dump: its graph for Graphviz where that is asked, and else its counts
 abbrev pub dump_asked : Bool → Subcommand
@@ -337,18 +147,18 @@ dump_asked false = Dump
 dump_asked true = Dot
 
 -- the command of this name with its options, of those that are given
-abbrev pub command_named : Text → Options → Result Subcommand CommandLineFault
+abbrev pub command_named : Text → Given → Result Subcommand CommandLineFault
 command_named name given =
     if bytes_eq name (codes "run")
-    then run_given (is_set given.paced) given.mark given.grow
-    else (if bytes_eq name (codes "threads") then threads_asked given.replicators given.idle
+    then run_given (is_set (given (codes "paced"))) (given (codes "mark")) (given (codes "grow"))
+    else (if bytes_eq name (codes "threads") then threads_asked (given (codes "replicators")) (given (codes "idle"))
     else (if bytes_eq name (codes "replay") then Ok Replay
-    else (if bytes_eq name (codes "dump") then Ok (dump_asked (is_set given.dot))
-    else (if bytes_eq name (codes "draw") then draw_asked given.line
+    else (if bytes_eq name (codes "dump") then Ok (dump_asked (is_set (given (codes "dot"))))
+    else (if bytes_eq name (codes "draw") then draw_asked (given (codes "line"))
     else (if bytes_eq name (codes "shell") then Ok Session
     else (if bytes_eq name (codes "lisp")
-    then lisp_asked given.heap given.grow given.steps given.cycles given.file
-    else (if bytes_eq name (codes "completions") then completions_asked given.shell
+    then lisp_asked (given (codes "heap")) (given (codes "grow")) (given (codes "steps")) (given (codes "cycles")) (given (codes "FILE"))
+    else (if bytes_eq name (codes "completions") then completions_asked (given (codes "SHELL"))
     else Err faults.Incomplete)))))))
 
 -- 1 where this holds
@@ -361,10 +171,10 @@ is_output None = false
 is_output (Some name) = bytes_eq name (codes "-")
 
 -- how many of the options would have standard output each for its own text
-abbrev pub output_texts : Options → ℕ
+abbrev pub output_texts : Given → ℕ
 output_texts given =
-    once (is_output given.cycles) + (once (is_output given.history) + (once (is_set given.echo)
-    + (once (is_set given.json) + once (is_set given.dot))))
+    once (is_output (given (codes "cycles"))) + (once (is_output (given (codes "history"))) + (once (is_set (given (codes "echo")))
+    + (once (is_set (given (codes "json"))) + once (is_set (given (codes "dot"))))))
 
 -- whether two files that are given are one, other than standard input and output
 abbrev pub is_same_file : Option Text → Option Text → Bool
@@ -374,15 +184,15 @@ is_same_file (Some name) (Some other) =
     if bytes_eq name (codes "-") then false else bytes_eq name other
 
 -- whether a text would go to the file that is read, or two texts to one file
-abbrev pub is_crossed : Options → Bool
+abbrev pub is_crossed : Given → Bool
 is_crossed given =
-    if is_same_file given.cycles given.history then true
-    else (if is_same_file given.cycles given.file then true
-    else is_same_file given.history given.file)
+    if is_same_file (given (codes "cycles")) (given (codes "history")) then true
+    else (if is_same_file (given (codes "cycles")) (given (codes "FILE")) then true
+    else is_same_file (given (codes "history")) (given (codes "FILE")))
 
 -- the command of this name with its options, where at most one text is for standard output, and no
 -- text for a file that has another
-abbrev pub command_asked : Text → Options → Result Subcommand CommandLineFault
+abbrev pub command_asked : Text → Given → Result Subcommand CommandLineFault
 command_asked name given =
     if nat_lt 1 (output_texts given) then Err faults.Views
     else (if is_crossed given then Err faults.Crossed else command_named name given)
@@ -400,11 +210,11 @@ pub record Viewed : Type 0 where
   pub history : Option Text
 
 -- how it is, by the options
-abbrev pub viewed_by : Options → Viewed
+abbrev pub viewed_by : Given → Viewed
 viewed_by given = record {
-  telling = telling_of (is_set given.echo) (is_set given.json);
-  cycles = given.cycles;
-  history = given.history;
+  telling = telling_of (is_set (given (codes "echo"))) (is_set (given (codes "json")));
+  cycles = given (codes "cycles");
+  history = given (codes "history");
 }
 
 -- the file, or standard input of a command that takes none
@@ -418,39 +228,18 @@ abbrev pub with_file : Result Subcommand CommandLineFault → Option Text
 with_file (Err fault) file = Err fault
 with_file (Ok command) file = Ok (command, file_or_input file)
 
--- the options that the rows of a parse hold: of each the first value
-abbrev pub options_in : List Row → Options
-options_in rows = record {
-  paced = first_of (codes "paced") rows;
-  mark = first_of (codes "mark") rows;
-  grow = first_of (codes "grow") rows;
-  replicators = first_of (codes "replicators") rows;
-  idle = first_of (codes "idle") rows;
-  dot = first_of (codes "dot") rows;
-  explain = first_of (codes "explain") rows;
-  line = first_of (codes "line") rows;
-  heap = first_of (codes "heap") rows;
-  steps = first_of (codes "steps") rows;
-  shell = first_of (codes "SHELL") rows;
-  cycles = first_of (codes "cycles") rows;
-  history = first_of (codes "history") rows;
-  echo = first_of (codes "echo") rows;
-  json = first_of (codes "json") rows;
-  file = first_of (codes "FILE") rows;
-}
-
 -- the command and the file that a parse holds: the command that it found, with its options, and the
 -- first value of its file; or the fault of the options, or that one is missing
 abbrev pub command_and_file_in : Option (Text × List Row)
     → Result (Subcommand × Text) CommandLineFault
 command_and_file_in None = Err faults.Incomplete
 command_and_file_in (Some found) =
-    with_file (command_asked found.0 (options_in found.1)) (options_in found.1).file
+    with_file (command_asked found.0 (given_in found.1)) (given_in found.1 (codes "FILE"))
 
 -- whether a parse holds that a fault is to be explained
 abbrev pub explains_in : Option (Text × List Row) → Bool
 explains_in None = false
-explains_in (Some found) = is_set (options_in found.1).explain
+explains_in (Some found) = is_set (given_in found.1 (codes "explain"))
 
 -- whether clap's parse of the arguments does
 unfoldable pub explains_of : List Text → Bool
@@ -459,7 +248,7 @@ explains_of arguments = explains_in (subcommand_of (rheap_app arguments) argumen
 -- how a parse says that what is done is viewed
 abbrev pub viewed_in : Option (Text × List Row) → Viewed
 viewed_in None = record { telling = Answers; cycles = None; history = None }
-viewed_in (Some found) = viewed_by (options_in found.1)
+viewed_in (Some found) = viewed_by (given_in found.1)
 
 -- how clap's parse of the arguments does
 unfoldable pub viewed_of : List Text → Viewed

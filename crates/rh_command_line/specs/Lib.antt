@@ -1,3 +1,4 @@
 pub mod Ask
 pub mod Fault
+pub mod Table
 pub mod lemmas

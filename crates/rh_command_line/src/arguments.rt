@@ -2,7 +2,7 @@
 
 ghost use Rattle.std.specs.Prelude.{◌≡◌, ◌≢◌, ◌≤◌, ◌⊎◌, [], map, option_map, Ok, Err, IsTrue, IfOk, IfErr};
 ghost use Rattle.clap.specs.Words.{kind_of, subcommand_rows_of};
-ghost use Rattle.rh_command_line.specs.Ask.{command_asked, is_output, output_texts, telling_of, viewed_in, viewed_of, command_and_file, command_and_file_in, command_and_file_of, command_named, completions_asked, completions_for, error_kinds, explains_in, explains_of, file_or_input, draw_asked, dump_asked, growing_asked, number_within, once, run_given, is_crossed, is_same_file, is_set, is_taken, run_asked, threads_asked};
+ghost use Rattle.rh_command_line.specs.Ask.{command_asked, given_of, is_output, output_texts, telling_of, viewed_by, viewed_in, viewed_of, command_and_file, command_and_file_in, command_and_file_of, command_named, completions_asked, completions_for, error_kinds, explains_in, explains_of, file_or_input, draw_asked, dump_asked, growing_asked, number_within, once, run_given, is_crossed, is_same_file, is_set, is_taken, run_asked, threads_asked};
 ghost use Rattle.rh_command_line.specs.Fault.{IsClapError, IsDue};
 ghost use Rattle.rh_command_line.specs.declared.ask.Ask.{Ask};
 
@@ -24,27 +24,6 @@ pub const MAX_REPLICATORS: u32 = 8;
 
 /// The most idle words of an increment that can be asked for.
 const MAX_IDLE: u32 = 65_535;
-
-/// The values of the options of all commands, as far as they are given.
-#[derive(Clone, Copy)]
-struct Options<'a> {
-    paced: Option<&'a str>,
-    mark: Option<&'a str>,
-    grow: Option<&'a str>,
-    replicators: Option<&'a str>,
-    idle: Option<&'a str>,
-    dot: Option<&'a str>,
-    explain: Option<&'a str>,
-    line: Option<&'a str>,
-    heap: Option<&'a str>,
-    steps: Option<&'a str>,
-    shell: Option<&'a str>,
-    cycles: Option<&'a str>,
-    history: Option<&'a str>,
-    echo: Option<&'a str>,
-    json: Option<&'a str>,
-    file: Option<&'a str>,
-}
 
 /// What the arguments ask for. The first one is the program's name. Clap takes its memory from the
 /// global allocator.
@@ -150,39 +129,32 @@ fn ask_of<'a>(matches: &ArgMatches<'a>) -> Result<Ask<'a>, CommandLineFault>
     let Some((name, values)) = matches.subcommand() else {
         return Err(CommandLineFault::Incomplete);
     };
-    let options = Options {
-        paced: values.get_str("paced"),
-        mark: values.get_str("mark"),
-        grow: values.get_str("grow"),
-        replicators: values.get_str("replicators"),
-        idle: values.get_str("idle"),
-        dot: values.get_str("dot"),
-        explain: values.get_str("explain"),
-        line: values.get_str("line"),
-        heap: values.get_str("heap"),
-        steps: values.get_str("steps"),
-        shell: values.get_str("SHELL"),
-        cycles: values.get_str("cycles"),
-        history: values.get_str("history"),
-        echo: values.get_str("echo"),
-        json: values.get_str("json"),
-        file: values.get_str("FILE"),
-    };
-    let file = file_or_input(options.file);
-    let subcommand = command_asked(name, options)?;
-    let explain = is_set(options.explain);
-    let telling = telling_of(is_set(options.echo), is_set(options.json));
-    let views = Views {
-        telling,
-        cycles: options.cycles,
-        history: options.history,
-    };
+    let subcommand = command_asked(name, values)?;
     Ok(Ask {
         subcommand,
-        file,
-        explain,
-        views,
+        file: file_or_input(values.get_str("FILE")),
+        explain: is_set(values.get_str("explain")),
+        views: views_of(values),
     })
+}
+
+/// How what is done is viewed, by the options.
+fn views_of<'a>(values: &ArgMatches<'a>) -> Views<'a>
+    ensures { viewed_by (given_of values.now) ≡ record {
+      telling = result.telling;
+      cycles = option_map (λ t. t.now) result.cycles;
+      history = option_map (λ t. t.now) result.history;
+    } }
+{
+    let telling = telling_of(
+        is_set(values.get_str("echo")),
+        is_set(values.get_str("json")),
+    );
+    Views {
+        telling,
+        cycles: values.get_str("cycles"),
+        history: values.get_str("history"),
+    }
 }
 
 /// The file, or standard input of a command that takes none.
@@ -237,28 +209,12 @@ fn once(is: bool) -> u32
 }
 
 /// How many of the options would have standard output each for its own text.
-fn output_texts(given: &Options<'_>) -> u32
-    ensures texts { result ≡ output_texts (record {
-      paced = option_map (λ t. t.now) given.now.paced;
-      mark = option_map (λ t. t.now) given.now.mark;
-      grow = option_map (λ t. t.now) given.now.grow;
-      replicators = option_map (λ t. t.now) given.now.replicators;
-      idle = option_map (λ t. t.now) given.now.idle;
-      dot = option_map (λ t. t.now) given.now.dot;
-      explain = option_map (λ t. t.now) given.now.explain;
-      line = option_map (λ t. t.now) given.now.line;
-      heap = option_map (λ t. t.now) given.now.heap;
-      steps = option_map (λ t. t.now) given.now.steps;
-      shell = option_map (λ t. t.now) given.now.shell;
-      cycles = option_map (λ t. t.now) given.now.cycles;
-      history = option_map (λ t. t.now) given.now.history;
-      echo = option_map (λ t. t.now) given.now.echo;
-      json = option_map (λ t. t.now) given.now.json;
-      file = option_map (λ t. t.now) given.now.file;
-    }) }
+fn output_texts(given: &ArgMatches<'_>) -> u32
+    ensures texts { result ≡ output_texts (given_of given.now) }
 {
-    let flags = once(is_set(given.echo)) + (once(is_set(given.json)) + once(is_set(given.dot)));
-    once(is_output(given.cycles)) + (once(is_output(given.history)) + flags)
+    let flags = once(is_set(given.get_str("echo")))
+        + (once(is_set(given.get_str("json"))) + once(is_set(given.get_str("dot"))));
+    once(is_output(given.get_str("cycles"))) + (once(is_output(given.get_str("history"))) + flags)
 }
 
 /// Whether two files that are given are one, other than standard input and output.
@@ -279,116 +235,69 @@ fn is_same_file(one: Option<&str>, other: Option<&str>) -> bool
 }
 
 /// Whether a text would go to the file that is read, or two texts to one file.
-fn is_crossed(given: &Options<'_>) -> bool
-    ensures crossed { result ≡ is_crossed (record {
-      paced = option_map (λ t. t.now) given.now.paced;
-      mark = option_map (λ t. t.now) given.now.mark;
-      grow = option_map (λ t. t.now) given.now.grow;
-      replicators = option_map (λ t. t.now) given.now.replicators;
-      idle = option_map (λ t. t.now) given.now.idle;
-      dot = option_map (λ t. t.now) given.now.dot;
-      explain = option_map (λ t. t.now) given.now.explain;
-      line = option_map (λ t. t.now) given.now.line;
-      heap = option_map (λ t. t.now) given.now.heap;
-      steps = option_map (λ t. t.now) given.now.steps;
-      shell = option_map (λ t. t.now) given.now.shell;
-      cycles = option_map (λ t. t.now) given.now.cycles;
-      history = option_map (λ t. t.now) given.now.history;
-      echo = option_map (λ t. t.now) given.now.echo;
-      json = option_map (λ t. t.now) given.now.json;
-      file = option_map (λ t. t.now) given.now.file;
-    }) }
+fn is_crossed(given: &ArgMatches<'_>) -> bool
+    ensures crossed { result ≡ is_crossed (given_of given.now) }
 {
-    if is_same_file(given.cycles, given.history) {
+    if is_same_file(given.get_str("cycles"), given.get_str("history")) {
         return true;
     }
-    if is_same_file(given.cycles, given.file) {
+    if is_same_file(given.get_str("cycles"), given.get_str("FILE")) {
         return true;
     }
-    is_same_file(given.history, given.file)
+    is_same_file(given.get_str("history"), given.get_str("FILE"))
 }
 
 /// The command of this name with its options, where at most one text is for standard output, and no
 /// text for a file that has another.
-fn command_asked(name: &str, given: Options<'_>) -> Result<Subcommand, CommandLineFault>
-    ensures asked { result ≡ command_asked name.now (record {
-      paced = option_map (λ t. t.now) given.entry.paced;
-      mark = option_map (λ t. t.now) given.entry.mark;
-      grow = option_map (λ t. t.now) given.entry.grow;
-      replicators = option_map (λ t. t.now) given.entry.replicators;
-      idle = option_map (λ t. t.now) given.entry.idle;
-      dot = option_map (λ t. t.now) given.entry.dot;
-      explain = option_map (λ t. t.now) given.entry.explain;
-      line = option_map (λ t. t.now) given.entry.line;
-      heap = option_map (λ t. t.now) given.entry.heap;
-      steps = option_map (λ t. t.now) given.entry.steps;
-      shell = option_map (λ t. t.now) given.entry.shell;
-      cycles = option_map (λ t. t.now) given.entry.cycles;
-      history = option_map (λ t. t.now) given.entry.history;
-      echo = option_map (λ t. t.now) given.entry.echo;
-      json = option_map (λ t. t.now) given.entry.json;
-      file = option_map (λ t. t.now) given.entry.file;
-    }) }
+fn command_asked(name: &str, given: &ArgMatches<'_>) -> Result<Subcommand, CommandLineFault>
+    ensures asked { result ≡ command_asked name.now (given_of given.now) }
 {
-    if output_texts(&given) > 1 {
+    if output_texts(given) > 1 {
         return Err(CommandLineFault::Views);
     }
-    if is_crossed(&given) {
+    if is_crossed(given) {
         return Err(CommandLineFault::Crossed);
     }
     command_named(name, given)
 }
 
 /// The command of this name with its options, of those that are given.
-fn command_named(name: &str, given: Options<'_>) -> Result<Subcommand, CommandLineFault>
-    ensures named { result ≡ command_named name.now (record {
-      paced = option_map (λ t. t.now) given.entry.paced;
-      mark = option_map (λ t. t.now) given.entry.mark;
-      grow = option_map (λ t. t.now) given.entry.grow;
-      replicators = option_map (λ t. t.now) given.entry.replicators;
-      idle = option_map (λ t. t.now) given.entry.idle;
-      dot = option_map (λ t. t.now) given.entry.dot;
-      explain = option_map (λ t. t.now) given.entry.explain;
-      line = option_map (λ t. t.now) given.entry.line;
-      heap = option_map (λ t. t.now) given.entry.heap;
-      steps = option_map (λ t. t.now) given.entry.steps;
-      shell = option_map (λ t. t.now) given.entry.shell;
-      cycles = option_map (λ t. t.now) given.entry.cycles;
-      history = option_map (λ t. t.now) given.entry.history;
-      echo = option_map (λ t. t.now) given.entry.echo;
-      json = option_map (λ t. t.now) given.entry.json;
-      file = option_map (λ t. t.now) given.entry.file;
-    }) }
+fn command_named(name: &str, given: &ArgMatches<'_>) -> Result<Subcommand, CommandLineFault>
+    ensures named { result ≡ command_named name.now (given_of given.now) }
 {
     if name == "run" {
-        return run_given(is_set(given.paced), given.mark, given.grow);
+        return run_given(
+            is_set(given.get_str("paced")),
+            given.get_str("mark"),
+            given.get_str("grow"),
+        );
     }
     if name == "threads" {
-        return threads_asked(given.replicators, given.idle);
+        return threads_asked(given.get_str("replicators"), given.get_str("idle"));
     }
     if name == "replay" {
         return Ok(Subcommand::Replay);
     }
     if name == "dump" {
-        return Ok(dump_asked(is_set(given.dot)));
+        return Ok(dump_asked(is_set(given.get_str("dot"))));
     }
     if name == "draw" {
-        return draw_asked(given.line);
+        return draw_asked(given.get_str("line"));
     }
     if name == "shell" {
         return Ok(Subcommand::Session);
     }
     if name == "lisp" {
         return lisp_asked(
-            given.heap,
-            given.grow,
-            given.steps,
-            given.cycles,
-            given.file,
+            given.get_str("heap"),
+            given.get_str("grow"),
+            given.get_str("steps"),
+            given.get_str("cycles"),
+            given.get_str("FILE"),
         );
     }
     if name == "completions" {
-        return completions_asked(given.shell);
+        return completions_asked(given.get_str("SHELL"));
     }
     Err(CommandLineFault::Incomplete)
 }

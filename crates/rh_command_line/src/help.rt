@@ -1,43 +1,50 @@
-//! What the help of each command ends with. A function lends each text, so that no proof writes it
-//! out.
+//! What the help of each command ends with. A function lends each text, so that no other proof writes
+//! it out.
 
-/// Lends what the help of `run` ends with.
-pub(crate) fn run<'a>() -> &'a str {
+/// Lends what the help of the command of this name ends with.
+pub(crate) fn after<'a>(name: &str) -> &'a str {
+    match name {
+        "run" => run(),
+        "threads" => threads(),
+        "replay" => replay(),
+        "dump" => dump(),
+        "draw" => draw(),
+        "shell" => shell(),
+        "lisp" => lisp(),
+        "completions" => completions(),
+        _ => "",
+    }
+}
+
+fn run<'a>() -> &'a str {
     RUN
 }
 
-/// Lends what the help of `threads` ends with.
-pub(crate) fn threads<'a>() -> &'a str {
+fn threads<'a>() -> &'a str {
     THREADS
 }
 
-/// Lends what the help of `replay` ends with.
-pub(crate) fn replay<'a>() -> &'a str {
+fn replay<'a>() -> &'a str {
     REPLAY
 }
 
-/// Lends what the help of `dump` ends with.
-pub(crate) fn dump<'a>() -> &'a str {
+fn dump<'a>() -> &'a str {
     DUMP
 }
 
-/// Lends what the help of `draw` ends with.
-pub(crate) fn draw<'a>() -> &'a str {
+fn draw<'a>() -> &'a str {
     DRAW
 }
 
-/// Lends what the help of `shell` ends with.
-pub(crate) fn shell<'a>() -> &'a str {
+fn shell<'a>() -> &'a str {
     SHELL
 }
 
-/// Lends what the help of `lisp` ends with.
-pub(crate) fn lisp<'a>() -> &'a str {
+fn lisp<'a>() -> &'a str {
     LISP
 }
 
-/// Lends what the help of `completions` ends with.
-pub(crate) fn completions<'a>() -> &'a str {
+fn completions<'a>() -> &'a str {
     COMPLETIONS
 }
 

@@ -3,7 +3,8 @@
 ghost use Rattle.std.specs.Prelude.{◌≡◌, ◌-◌, ◌^◌, List, ℕ, [], ◌∷◌, Some, None, Ok, Err, IsTrue, false, codes};
 ghost use Rattle.rh_choices.specs.declared.limits.HeapWords.{HeapWords as HeapWordsOf};
 ghost use Rattle.rh_choices.specs.declared.telling.Telling.{Telling as TellingOf};
-ghost use Rattle.rh_command_line.specs.Ask.{command_and_file_of, explains_of, has_options, is_taken, viewed_of};
+ghost use Rattle.rh_command_line.specs.Ask.{command_and_file_of, explains_of, is_taken, viewed_of};
+ghost use Rattle.rh_command_line.specs.Table.{has_options};
 ghost use Rattle.rh_command_line.specs.declared.ask.Shell.{Shell as ShellOf};
 ghost use Rattle.rh_command_line.specs.declared.ask.Subcommand.{Subcommand as SubcommandOf};
 ghost use Rattle.rh_command_line.specs.declared.fault.CommandLineFault.{CommandLineFault as FaultOf};

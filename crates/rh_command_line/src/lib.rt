@@ -9,7 +9,7 @@ mod fault;
 mod help;
 pub mod laws;
 mod lisp_arguments;
-mod options;
+mod table;
 mod version;
 
 pub use arguments::{MAX_REPLICATORS, is_output, read_command_line};

@@ -1,6 +1,6 @@
 use Rattle.std.proofs.Common.{Ok, Err, ap, map, ◌≡◌, ◌∙◌}
 use Rattle.clap.specs.Words.{app_of}
-use Rattle.rh_command_line.specs.Ask.{rheap_app, rheap_app_for}
+use Rattle.rh_command_line.specs.Table.{rheap_app, rheap_app_for}
 use Rattle.rh_command_line.proofs.ClapMatches.{command_and_file_of-matches, explains_of-matches, viewed_of-matches, fails_by_error_kinds, taken-app, told_of_clap}
 use Rattle.rh_command_line.proofs.arguments.matches_of.Goals as goal
 
