@@ -1,2 +1,3 @@
 pub mod ClapMatches
 pub mod Loops
+pub mod Together

@@ -1,11 +1,13 @@
 -- What the program is asked, by what clap takes of its arguments.
-use Rattle.std.specs.Prelude.{ℕ, ◌+◌, ◌-◌, ◌^◌, nat_le, nat_lt, List, Bool, true, false, if◌then◌else◌, Option, Some, None, Result, Ok, Err, codes}
+use Rattle.std.specs.Prelude.{ℕ, ◌+◌, ◌-◌, ◌^◌, nat_le, nat_lt, List, Bool, true, false, if◌then◌else◌, Option, Some, None, is_some, Result, Ok, Err, codes, find, ◌&&◌}
 use Rattle.std.specs.Option.{option_map}
 use Rattle.std.specs.Str.{bytes_eq}
 use Rattle.rh_text.specs.Number.{number_of}
 use Rattle.clap.specs.Words.{Kinds, Row, Text, subcommand_of, fault_of, first_of, first_value, found_of, takes}
 use Rattle.clap.specs.declared.parser.matches.ArgMatches.{ArgMatches}
-use Rattle.rh_command_line.specs.Table.{rheap_app}
+use Rattle.clap.specs.declared.builder.action.ArgAction.{ArgAction}
+use Rattle.clap.specs.declared.builder.action.ArgAction.TheVariants.{SetTrue}
+use Rattle.rh_command_line.specs.Table.{Argument, CommandState, rheap_app}
 use Rattle.rh_command_line.specs.declared.ask.Subcommand.{Subcommand}
 use Rattle.rh_command_line.specs.declared.ask.Subcommand.TheVariants.{Run, RunPaced, RunGrowing, Threads, Replay, Dump, Dot, Draw, Session, Lisp, LispSession, Completions}
 use Rattle.rh_choices.specs.declared.limits.HeapWords.{HeapWords}
@@ -151,13 +153,15 @@ abbrev pub command_named : Text → Given → Result Subcommand CommandLineFault
 command_named name given =
     if bytes_eq name (codes "run")
     then run_given (is_set (given (codes "paced"))) (given (codes "mark")) (given (codes "grow"))
-    else (if bytes_eq name (codes "threads") then threads_asked (given (codes "replicators")) (given (codes "idle"))
+    else (if bytes_eq name (codes "threads")
+    then threads_asked (given (codes "replicators")) (given (codes "idle"))
     else (if bytes_eq name (codes "replay") then Ok Replay
     else (if bytes_eq name (codes "dump") then Ok (dump_asked (is_set (given (codes "dot"))))
     else (if bytes_eq name (codes "draw") then draw_asked (given (codes "line"))
     else (if bytes_eq name (codes "shell") then Ok Session
     else (if bytes_eq name (codes "lisp")
-    then lisp_asked (given (codes "heap")) (given (codes "grow")) (given (codes "steps")) (given (codes "cycles")) (given (codes "FILE"))
+    then lisp_asked (given (codes "heap")) (given (codes "grow")) (given (codes "steps"))
+    (given (codes "cycles")) (given (codes "FILE"))
     else (if bytes_eq name (codes "completions") then completions_asked (given (codes "SHELL"))
     else Err faults.Incomplete)))))))
 
@@ -173,8 +177,9 @@ is_output (Some name) = bytes_eq name (codes "-")
 -- how many of the options would have standard output each for its own text
 abbrev pub output_texts : Given → ℕ
 output_texts given =
-    once (is_output (given (codes "cycles"))) + (once (is_output (given (codes "history"))) + (once (is_set (given (codes "echo")))
-    + (once (is_set (given (codes "json"))) + once (is_set (given (codes "dot"))))))
+    once (is_output (given (codes "cycles"))) + (once (is_output (given (codes "history")))
+    + (once (is_set (given (codes "echo"))) + (once (is_set (given (codes "json")))
+    + once (is_set (given (codes "dot"))))))
 
 -- whether two files that are given are one, other than standard input and output
 abbrev pub is_same_file : Option Text → Option Text → Bool
@@ -269,3 +274,29 @@ error_kinds arguments = fault_of (rheap_app arguments) arguments
 -- the command and the file of a request
 abbrev pub command_and_file : Ask → Subcommand × Text
 command_and_file ask = (ask.subcommand, ask.file.now)
+
+-- whether an argument has such a value: a flag that it was set, and any other one at all
+abbrev pub is_held : Option ArgAction → Option Text → Bool
+is_held (Some SetTrue) value = is_set value
+is_held action value = is_some value
+
+-- whether the argument that was found is given
+abbrev pub is_given_as : Option Argument → Option Text → Bool
+is_given_as None value = false
+is_given_as (Some argument) value = is_held argument.rule.action value
+
+-- whether that of this name is, of these arguments
+abbrev pub is_given : List Argument → Text → Given → Bool
+is_given arguments name given =
+    is_given_as (find (λ argument. bytes_eq argument.rule.id name) arguments) (given name)
+
+-- whether a parse holds this command with an argument of this name
+abbrev pub stands_in : Option (Text × List Row) → CommandState → Text → Bool
+stands_in None command name = false
+stands_in (Some found) command name = bytes_eq found.0 command.name
+    && is_given command.arguments name (given_in found.1)
+
+-- whether clap's parse of the arguments does
+unfoldable pub stands_on : List Text → CommandState → Text → Bool
+stands_on arguments command name =
+    stands_in (subcommand_of (rheap_app arguments) arguments) command name

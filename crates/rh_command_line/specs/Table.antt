@@ -58,75 +58,101 @@ command_row row = record {
   arguments = map argument_row row.arguments.now;
 }
 
--- an argument that stands with or without any other
-abbrev pub alone : Rule → Argument
-alone rule = record { rule = rule; needs = []; not_with = [] }
-
--- the file, which is required; the flag that asks for explanations
-abbrev pub file_argument : Argument
-file_argument = alone (word_rule (codes "FILE") true)
-
-abbrev pub explain_argument : Argument
-explain_argument = alone (flag_rule (codes "explain"))
-
--- the flags that say how what is done is told, of which one can stand
-abbrev pub echo_argument : Argument
-echo_argument = record {
-  rule = flag_rule (codes "echo");
+-- a word, which stands with any other argument
+abbrev pub word_of : Text → Bool → Argument
+word_of name is_required = record {
+  rule = word_rule name is_required;
   needs = [];
-  not_with = codes "json" ∷ [];
+  not_with = [];
 }
 
+-- a flag, and an option with a value, which need these and don't stand with those
+abbrev pub flag_of : Text → List Text → List Text → Argument
+flag_of name needs not_with = record {
+  rule = flag_rule name;
+  needs = needs;
+  not_with = not_with;
+}
+
+abbrev pub option_of : Text → List Text → List Text → Argument
+option_of name needs not_with = record {
+  rule = option_rule name;
+  needs = needs;
+  not_with = not_with;
+}
+
+-- what several commands have: a file, which is required, explanations, and how what is done is told
+abbrev pub file_argument : Argument
+file_argument = word_of (codes "FILE") true
+
+abbrev pub explain_argument : Argument
+explain_argument = flag_of (codes "explain") [] []
+
+abbrev pub echo_argument : Argument
+echo_argument = flag_of (codes "echo") [] (codes "json" ∷ [])
+
 abbrev pub json_argument : Argument
-json_argument = alone (flag_rule (codes "json"))
+json_argument = flag_of (codes "json") [] []
 
--- the file of what is written of cycles
-abbrev pub cycles_rule : Rule
-cycles_rule = option_rule (codes "cycles")
-
--- what may stand behind `run`: a mark or a growth is for paced runs alone, and one of both can stand
+-- what may stand behind each command
 abbrev pub run_arguments : List Argument
-run_arguments = file_argument ∷ explain_argument ∷ alone (flag_rule (codes "paced"))
-    ∷ record {
-      rule = option_rule (codes "mark");
-      needs = codes "paced" ∷ [];
-      not_with = codes "grow" ∷ [];
-    } ∷ record { rule = option_rule (codes "grow"); needs = codes "paced" ∷ []; not_with = [] }
-    ∷ alone cycles_rule ∷ alone (option_rule (codes "history")) ∷ echo_argument
-    ∷ json_argument ∷ []
+run_arguments = file_argument
+    ∷ explain_argument
+    ∷ flag_of (codes "paced") [] []
+    ∷ option_of (codes "mark") (codes "paced" ∷ []) (codes "grow" ∷ [])
+    ∷ option_of (codes "grow") (codes "paced" ∷ []) []
+    ∷ option_of (codes "cycles") [] []
+    ∷ option_of (codes "history") [] []
+    ∷ echo_argument
+    ∷ json_argument
+    ∷ []
 
--- behind `dump`: its graph as a text is no JSON
+abbrev pub threads_arguments : List Argument
+threads_arguments = file_argument
+    ∷ explain_argument
+    ∷ option_of (codes "replicators") [] []
+    ∷ option_of (codes "idle") [] []
+    ∷ []
+
+abbrev pub replay_arguments : List Argument
+replay_arguments = file_argument ∷ explain_argument ∷ echo_argument ∷ json_argument ∷ []
+
 abbrev pub dump_arguments : List Argument
-dump_arguments = file_argument ∷ explain_argument
-    ∷ record { rule = flag_rule (codes "dot"); needs = []; not_with = codes "json" ∷ [] }
-    ∷ json_argument ∷ []
+dump_arguments = file_argument
+    ∷ explain_argument
+    ∷ flag_of (codes "dot") [] (codes "json" ∷ [])
+    ∷ json_argument
+    ∷ []
 
--- behind `lisp`: a heap of one size or one that grows, and a session, without a file, has no cycles
+abbrev pub draw_arguments : List Argument
+draw_arguments = file_argument ∷ explain_argument ∷ option_of (codes "line") [] [] ∷ []
+
 abbrev pub lisp_arguments : List Argument
-lisp_arguments = alone (word_rule (codes "FILE") false)
-    ∷ record { rule = option_rule (codes "heap"); needs = []; not_with = codes "grow" ∷ [] }
-    ∷ alone (option_rule (codes "grow")) ∷ alone (option_rule (codes "steps"))
-    ∷ record { rule = cycles_rule; needs = codes "FILE" ∷ []; not_with = [] }
-    ∷ explain_argument ∷ []
+lisp_arguments = word_of (codes "FILE") false
+    ∷ option_of (codes "heap") [] (codes "grow" ∷ [])
+    ∷ option_of (codes "grow") [] []
+    ∷ option_of (codes "steps") [] []
+    ∷ option_of (codes "cycles") (codes "FILE" ∷ []) []
+    ∷ explain_argument
+    ∷ []
 
--- a command with what may stand behind it
+abbrev pub completions_arguments : List Argument
+completions_arguments = word_of (codes "SHELL") true ∷ []
+
+-- a command with these arguments
 abbrev pub command_with : Text → List Argument → CommandState
 command_with name arguments = record { name = name; arguments = arguments }
 
 -- the commands
 abbrev pub table : List CommandState
 table = command_with (codes "run") run_arguments
-    ∷ command_with (codes "threads")
-    (file_argument ∷ explain_argument ∷ alone (option_rule (codes "replicators"))
-    ∷ alone (option_rule (codes "idle")) ∷ [])
-    ∷ command_with (codes "replay")
-    (file_argument ∷ explain_argument ∷ echo_argument ∷ json_argument ∷ [])
+    ∷ command_with (codes "threads") threads_arguments
+    ∷ command_with (codes "replay") replay_arguments
     ∷ command_with (codes "dump") dump_arguments
-    ∷ command_with (codes "draw")
-    (file_argument ∷ explain_argument ∷ alone (option_rule (codes "line")) ∷ [])
+    ∷ command_with (codes "draw") draw_arguments
     ∷ command_with (codes "shell") []
     ∷ command_with (codes "lisp") lisp_arguments
-    ∷ command_with (codes "completions") (alone (word_rule (codes "SHELL") true) ∷ [])
+    ∷ command_with (codes "completions") completions_arguments
     ∷ []
 
 -- a command with these arguments more

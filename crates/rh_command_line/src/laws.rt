@@ -1,10 +1,10 @@
 //! Laws of the definitions alone. The function does nothing: its contract is the law.
 
-ghost use Rattle.std.specs.Prelude.{◌≡◌, ◌-◌, ◌^◌, List, ℕ, [], ◌∷◌, Some, None, Ok, Err, IsTrue, false, codes};
+ghost use Rattle.std.specs.Prelude.{◌≡◌, ◌-◌, ◌^◌, List, ℕ, [], ◌∷◌, Some, None, Ok, Err, IsErr, IsFalse, IsTrue, Contains, false, codes};
 ghost use Rattle.rh_choices.specs.declared.limits.HeapWords.{HeapWords as HeapWordsOf};
 ghost use Rattle.rh_choices.specs.declared.telling.Telling.{Telling as TellingOf};
-ghost use Rattle.rh_command_line.specs.Ask.{command_and_file_of, explains_of, is_taken, viewed_of};
-ghost use Rattle.rh_command_line.specs.Table.{has_options};
+ghost use Rattle.rh_command_line.specs.Ask.{command_and_file_of, explains_of, is_taken, stands_on, viewed_of};
+ghost use Rattle.rh_command_line.specs.Table.{Argument, CommandState, command_with, has_options, run_arguments, table};
 ghost use Rattle.rh_command_line.specs.declared.ask.Shell.{Shell as ShellOf};
 ghost use Rattle.rh_command_line.specs.declared.ask.Subcommand.{Subcommand as SubcommandOf};
 ghost use Rattle.rh_command_line.specs.declared.fault.CommandLineFault.{CommandLineFault as FaultOf};
@@ -165,4 +165,24 @@ pub fn worked_command_lines()
     ensures unknown { is_taken (codes "rheap" ∷ codes "grow" ∷ codes "x" ∷ []) ≡ false }
     ensures two_files { false
         ≡ is_taken (codes "rheap" ∷ codes "run" ∷ codes "x" ∷ codes "y" ∷ []) }
+{}
+
+/// What the table says may not stand together is refused: an argument without one that it needs, and
+/// one beside another that it doesn't stand with.
+pub fn what_may_not_stand_together_is_refused()
+    ensures needs { (line : List (List ℕ)) (command : CommandState) (argument : Argument)
+        (name : List ℕ) → Contains table command → Contains command.arguments argument
+        → Contains argument.needs name → IsTrue (stands_on line command argument.rule.id)
+        → IsFalse (stands_on line command name) → IsErr (command_and_file_of line) }
+    ensures not_with { (line : List (List ℕ)) (command : CommandState) (argument : Argument)
+        (name : List ℕ) → Contains table command → Contains command.arguments argument
+        → Contains argument.not_with name → IsTrue (stands_on line command argument.rule.id)
+        → IsTrue (stands_on line command name) → IsErr (command_and_file_of line) }
+    // An option stands where it has a value, and a flag where it is set.
+    ensures option { IsTrue (stands_on
+        (codes "rheap" ∷ codes "run" ∷ codes "x" ∷ codes "--mark=7" ∷ [])
+        (command_with (codes "run") run_arguments) (codes "mark")) }
+    ensures flag { IsFalse (stands_on
+        (codes "rheap" ∷ codes "run" ∷ codes "x" ∷ codes "--mark=7" ∷ [])
+        (command_with (codes "run") run_arguments) (codes "paced")) }
 {}
