@@ -1,20 +1,40 @@
 /* Memory that is refused, each piece in turn, at both calls that open a heap, and at both that run a
    whole trace: the status tells it, and nothing is left taken. Each other call is made while all
-   memory is refused, and asks for none. It is linked with --wrap for malloc, realloc and free. Prints nothing where all is as it should be.
+   memory is refused, and asks for none. Then the functions by which the library takes memory give,
+   resize and refuse blocks that are small and large. It is linked with --wrap for malloc, realloc,
+   posix_memalign and free. Prints nothing where all is as it should be.
 
    With an argument, the system refuses the memory of the largest heap, as `ulimit -v` has it do: the
    status tells it, nothing is left taken, and a small heap can be opened then. */
 #include "rheap.h"
+#include <errno.h>
+#include <stdbool.h>
 #include <stddef.h>
 #include <stdio.h>
 #include <string.h>
 
 void *__real_malloc(size_t size);
 void *__real_realloc(void *block, size_t size);
+int __real_posix_memalign(void **block, size_t align, size_t size);
 void __real_free(void *block);
 void *__wrap_malloc(size_t size);
 void *__wrap_realloc(void *block, size_t size);
+int __wrap_posix_memalign(void **block, size_t align, size_t size);
 void __wrap_free(void *block);
+
+/* The functions of include/rheap_memory.c. */
+struct rheap_tried {
+    bool ok;
+    void *at;
+};
+
+struct rheap_tried rattle_alloc(size_t size, size_t align);
+struct rheap_tried rattle_realloc(void *at, size_t kept, size_t size, size_t align);
+void rattle_dealloc(void *at);
+
+/* A block of so many bytes or more is large there, and begins at a multiple of the second. */
+#define LARGE ((size_t)4 << 20)
+#define HUGE_PAGE ((size_t)2 << 20)
 
 static int counting = 0;
 static long taken = 0;
@@ -59,6 +79,18 @@ void *__wrap_realloc(void *block, size_t size) {
     return moved;
 }
 
+int __wrap_posix_memalign(void **block, size_t align, size_t size) {
+    int status;
+    if (!counting) {
+        return __real_posix_memalign(block, align, size);
+    }
+    status = is_refused() ? ENOMEM : __real_posix_memalign(block, align, size);
+    if (status == 0) {
+        taken++;
+    }
+    return status;
+}
+
 void __wrap_free(void *block) {
     if (counting && block != NULL) {
         taken--;
@@ -84,9 +116,12 @@ static uint8_t asks_nothing(int line, uint8_t status) {
 #define QUIET(call) asks_nothing(__LINE__, call)
 #define IS(call, status) is(__LINE__, QUIET(call), RHEAP_##status)
 
+/* The words of the heap that is opened. */
+static uint32_t words = 4096;
+
 static uint8_t opening(rheap *heap, int sized) {
-    return sized ? rheap_open_sized(heap, 4096, 4, 32, 1, 5)
-                 : rheap_open(heap, 4096, 2000, 4, 32, 1, 5);
+    return sized ? rheap_open_sized(heap, words, 4, 32, 1, 5)
+                 : rheap_open(heap, words, 2000, 4, 32, 1, 5);
 }
 
 /* Opens the heap where each piece of memory is refused once. Whether it is open. */
@@ -121,7 +156,7 @@ static void each_call(rheap *heap) {
     rheap_stats stats;
     rheap_did did;
     rheap_pacing pacing;
-    rheap_words words;
+    rheap_words room;
     int64_t numbers[2] = {1, 2};
     char text[14] = "thirteen here";
     uint32_t fields;
@@ -156,7 +191,7 @@ static void each_call(rheap *heap) {
         IS(rheap_fields(heap, a, &fields), DONE);
         IS(rheap_field(heap, a, 1, &value), DONE);
         IS(rheap_peek(heap, 0, b, 1, &value), DONE);
-        IS(rheap_room(heap, 2, &words), DONE);
+        IS(rheap_room(heap, 2, &room), DONE);
         IS(rheap_increment(heap), DONE);
         IS(rheap_stat(heap, &stats), DONE);
         IS(rheap_last_did(heap, &did), DONE);
@@ -180,6 +215,84 @@ static void each_call(rheap *heap) {
     IS(rheap_alloc(heap, 0, a, 2), SPACE_FULL);
     IS(rheap_insist_alloc_raw(heap, 0, a, 2), SPACE_FULL);
     IS(rheap_collect(heap), DONE);
+}
+
+/* Opens and closes the heap where its spaces are large blocks, each refused once. */
+static void large_spaces(rheap *heap, int sized) {
+    const uint32_t before = words;
+    words = 300000;
+    if (opened(heap, sized)) {
+        IS(rheap_close(heap), DONE);
+    }
+    if (taken != 0) {
+        printf("%ld pieces of large spaces are left after the close\n", taken);
+        wrong++;
+    }
+    words = before;
+}
+
+/* The byte that is put at this place of a block. */
+static unsigned char byte_at(size_t place) {
+    return (unsigned char)(place % 251);
+}
+
+/* Whether a block of so many bytes was given where it is to be. */
+static int is_given(struct rheap_tried block, size_t size) {
+    return block.ok && block.at != NULL && (size_t)block.at % (size < LARGE ? 8 : HUGE_PAGE) == 0;
+}
+
+/* Whether the first bytes of the block are those that were put there. */
+static int has_bytes(const void *block, size_t bytes) {
+    size_t place = 0;
+    while (place < bytes && ((const unsigned char *)block)[place] == byte_at(place)) {
+        place++;
+    }
+    return place == bytes;
+}
+
+/* Gives a block of so many bytes and makes it one of as many others, where that is refused first. */
+static void resized(size_t from, size_t to) {
+    const size_t kept = from < to ? from : to;
+    struct rheap_tried block = rattle_alloc(from, 8);
+    struct rheap_tried other;
+    size_t place;
+    int is_right = is_given(block, from);
+    if (is_right) {
+        for (place = 0; place < from; place++) {
+            ((unsigned char *)block.at)[place] = byte_at(place);
+        }
+        refused_at = asked + 1;
+        other = rattle_realloc(block.at, kept, to, 8);
+        is_right = !other.ok && other.at != NULL && taken == 1 && has_bytes(block.at, from);
+        refused_at = 0;
+        block = rattle_realloc(block.at, kept, to, 8);
+        is_right = is_right && is_given(block, to) && taken == 1 && has_bytes(block.at, kept);
+        rattle_dealloc(block.at);
+    }
+    if ((!is_right || taken != 0) && is_told()) {
+        printf("a block of %lu bytes isn't resized to %lu\n", (unsigned long)from, (unsigned long)to);
+    }
+}
+
+/* Blocks of each size are given, refused, and resized to each. */
+static void blocks(void) {
+    static const size_t sizes[] = {0, 1, 24, 4096, LARGE - 1, LARGE, LARGE + 1, 3 * LARGE + 5000};
+    const size_t count = sizeof sizes / sizeof *sizes;
+    struct rheap_tried block;
+    size_t from, to;
+    all = 0;
+    for (from = 0; from < count; from++) {
+        refused_at = asked + 1;
+        block = rattle_alloc(sizes[from], 8);
+        if ((block.ok || block.at == NULL) && is_told()) {
+            printf("a block of %lu bytes isn't refused\n", (unsigned long)sizes[from]);
+        }
+        refused_at = 0;
+        for (to = 0; to < count; to++) {
+            resized(sizes[from], sizes[to]);
+        }
+    }
+    asked = 0;
 }
 
 /* A trace of commands, and what it answers. */
@@ -253,7 +366,9 @@ int main(int argc, char **argv) {
             printf("%ld pieces are left after the close\n", taken);
             wrong++;
         }
+        large_spaces(&heap, sized);
     }
+    blocks();
     IS(rheap_open(&heap, 1000, 100, 4, 3, 2, 8), NO_PACE);
     IS(rheap_open_sized(&heap, 1000, 4, 65, 2, 8), BAD_SIZES);
     traces(0);

@@ -23,8 +23,8 @@ FILES = {
     "share/zsh/site-functions/_rheap": "share/completions/_rheap",
     "share/fish/vendor_completions.d/rheap.fish": "share/completions/rheap.fish",
 }
-PKG_CONFIG = """# The library needs these of the C library, which a compiler links by itself: malloc, realloc, free,
-# memcpy, memmove and memset. It starts no thread, and needs no other library.
+PKG_CONFIG = """# The library needs these of the C library, which a compiler links by itself: malloc, realloc,
+# posix_memalign, free, madvise, memcpy, memmove and memset. It starts no thread, and needs no other library.
 prefix=${{pcfiledir}}/../..
 includedir=${{prefix}}/include
 libdir=${{prefix}}/lib

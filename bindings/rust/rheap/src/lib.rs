@@ -83,7 +83,8 @@
 //!
 //! - The declarations in this crate are those of the library. A test compares them with the header;
 //!   that the header is that of the library isn't shown here.
-//! - `malloc`, `realloc` and `free` do what C says of them.
+//! - `malloc`, `realloc` and `free` do what C says of them, and `posix_memalign` and `madvise` what
+//!   POSIX and Linux say, where `librheap.a` calls them.
 //! - The three functions by which the library calls these pass on what they are asked: those of
 //!   `include/rheap_memory.c` in `librheap.a`, or those of this crate over the library's two parts.
 //! - `librheap.a` is the two parts and these functions, as `./rheap install` builds and joins them.
