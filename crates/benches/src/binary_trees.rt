@@ -1,9 +1,10 @@
 //! The Benchmarks Game's binary-trees: trees of all depths are made and counted beside one that
 //! lives long: what `bench/trees` times.
 
-use crate::collected::Collected;
+use crate::mutators::{OWNER, root};
 use crate::tree::{count, grow_up, heap_of, tell};
 use rh_growing::GrowingHeap;
+use rh_pace::CollectingHeap;
 
 /// The least depth.
 const LEAST: u32 = 4;
@@ -15,7 +16,7 @@ const FIRST: u32 = 1;
 
 /// Makes and counts so many trees of a depth. Answers their nodes; nothing where a call was
 /// refused.
-fn counted(heap: &mut impl Collected, trees: u32, depth: u32) -> Option<u32> {
+fn counted(heap: &mut impl CollectingHeap, trees: u32, depth: u32) -> Option<u32> {
     let mut nodes = 0u32;
     for _ in 0..trees {
         grow_up(heap, FIRST, depth, 2).ok()?;
@@ -26,12 +27,12 @@ fn counted(heap: &mut impl Collected, trees: u32, depth: u32) -> Option<u32> {
 
 /// Makes and counts trees of at most this depth, 6 to 20; another depth is taken as the nearest of
 /// these. Nothing where a call was refused.
-fn play(rt: &impl Print, heap: &mut impl Collected, most: u32) -> Option<()> {
+fn play(rt: &impl Print, heap: &mut impl CollectingHeap, most: u32) -> Option<()> {
     let most = most.clamp(LEAST + 2, 20);
     let stretched = counted(heap, 1, most + 1)?;
     println!(rt; "stretch tree of depth {}\t check: {stretched}", most + 1).ok()?;
     grow_up(heap, LONG, most, 2).ok()?;
-    heap.clear(FIRST).ok()?;
+    heap.drop(OWNER, root(FIRST)).ok()?;
     for depth in LEAST..most + 1 {
         if depth % 2 == 0 {
             let trees = 1u32 << (most - depth + LEAST);

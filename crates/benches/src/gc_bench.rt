@@ -3,10 +3,11 @@
 //!
 //! An object has at most 4,095 fields, so the array of 500,000 numbers is a tree, of leaves of 128.
 
-use crate::collected::Collected;
+use crate::mutators::{OWNER, root};
 use crate::tree::{count, grow_down, grow_up, heap_of, link, make, tell};
 use rh_growing::GrowingHeap;
 use rh_layout::Operand;
+use rh_pace::CollectingHeap;
 
 /// The fields of a node: two trees and two numbers.
 const FIELDS: u32 = 4;
@@ -60,15 +61,16 @@ fn nodes_of(depth: u32) -> u32 {
 }
 
 /// The numbers of a leaf of the array, each with its place; nothing where a call was refused.
-fn fill_leaf(heap: &mut impl Collected, slot: u32) -> Option<()> {
+fn fill_leaf(heap: &mut impl CollectingHeap, slot: u32) -> Option<()> {
     for place in 0..LEAF {
-        heap.put(slot, place, Operand::Int(place.into())).ok()?;
+        heap.store(OWNER, root(slot), place, Operand::Int(place.into()))
+            .ok()?;
     }
     Some(())
 }
 
 /// The leaves of a node of the array; nothing where a call was refused.
-fn fill_node(heap: &mut impl Collected, slot: u32) -> Option<()> {
+fn fill_node(heap: &mut impl CollectingHeap, slot: u32) -> Option<()> {
     let leaf = slot.wrapping_add(1);
     for field in 0..LEAVES {
         make(heap, leaf, LEAF).ok()?;
@@ -80,7 +82,7 @@ fn fill_node(heap: &mut impl Collected, slot: u32) -> Option<()> {
 
 /// An array in a slot: nodes with leaves at the ends of a tree of this depth; nothing where a call
 /// was refused.
-fn array_of(heap: &mut impl Collected, slot: u32, depth: u32) -> Option<()> {
+fn array_of(heap: &mut impl CollectingHeap, slot: u32, depth: u32) -> Option<()> {
     make(heap, slot, LEAVES).ok()?;
     if depth == 0 {
         return fill_node(heap, slot);
@@ -94,26 +96,26 @@ fn array_of(heap: &mut impl Collected, slot: u32, depth: u32) -> Option<()> {
 
 /// Makes trees of a depth from the root down and from the leaves up, as many as have twice the
 /// nodes of the greatest tree; nothing where a call was refused.
-fn construct(heap: &mut impl Collected, depth: u32, stretch: u32) -> Option<u32> {
+fn construct(heap: &mut impl CollectingHeap, depth: u32, stretch: u32) -> Option<u32> {
     let nodes = 2 * u64::from(nodes_of(stretch));
     let trees = u32::try_from(nodes / u64::from(nodes_of(depth)).max(1)).ok()?;
     for _ in 0..trees {
         make(heap, FIRST, FIELDS).ok()?;
         grow_down(heap, FIRST, depth, FIELDS).ok()?;
-        heap.clear(FIRST).ok()?;
+        heap.drop(OWNER, root(FIRST)).ok()?;
     }
     for _ in 0..trees {
         grow_up(heap, FIRST, depth, FIELDS).ok()?;
-        heap.clear(FIRST).ok()?;
+        heap.drop(OWNER, root(FIRST)).ok()?;
     }
     Some(trees)
 }
 
 /// Makes the trees of all depths, and counts the one that lives long; nothing where a call was
 /// refused.
-fn play(rt: &impl Print, heap: &mut impl Collected, depths: Depths) -> Option<()> {
+fn play(rt: &impl Print, heap: &mut impl CollectingHeap, depths: Depths) -> Option<()> {
     grow_up(heap, FIRST, depths.stretch, FIELDS).ok()?;
-    heap.clear(FIRST).ok()?;
+    heap.drop(OWNER, root(FIRST)).ok()?;
     make(heap, LONG, FIELDS).ok()?;
     grow_down(heap, LONG, depths.long, FIELDS).ok()?;
     array_of(heap, ARRAY, depths.array)?;

@@ -4,7 +4,6 @@
 
 mod binary_trees;
 mod chain;
-mod collected;
 mod dump;
 mod flip;
 mod fold;

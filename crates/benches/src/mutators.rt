@@ -39,7 +39,7 @@ pub struct Mutator {
 }
 
 /// A root of the owner.
-fn root(slot: u32) -> RootId {
+pub fn root(slot: u32) -> RootId {
     RootId { owner: OWNER, slot }
 }
 

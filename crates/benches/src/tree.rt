@@ -1,9 +1,9 @@
 //! Trees of a heap that collects by itself, made and counted without recursion on the heap's side:
 //! each level of a tree has a slot.
 
-use crate::collected::{Collected, root};
+use crate::mutators::{OWNER, root};
 use rh_layout::{Operand, Refusal, Reply};
-use rh_pace::{Pace, PacedHeap};
+use rh_pace::{CollectingHeap, Pace, PacedHeap};
 use std::alloc::Global;
 
 /// The slots of the owner: one for each level of a tree, and those of whole trees above.
@@ -20,21 +20,26 @@ pub fn heap_of(alloc: Global, words: u32, biggest: u32) -> Option<PacedHeap> {
 }
 
 /// A new node of so many fields in a slot.
-pub fn make(heap: &mut impl Collected, slot: u32, fields: u32) -> Result<(), Refusal> {
-    heap.make(slot, fields)?;
+pub fn make(heap: &mut impl CollectingHeap, slot: u32, fields: u32) -> Result<(), Refusal> {
+    heap.alloc(OWNER, root(slot), fields)?;
     Ok(())
 }
 
 /// A field of the node in a slot takes what another slot holds.
-pub fn link(heap: &mut impl Collected, slot: u32, field: u32, from: u32) -> Result<(), Refusal> {
-    heap.put(slot, field, Operand::Root(root(from)))?;
+pub fn link(
+    heap: &mut impl CollectingHeap,
+    slot: u32,
+    field: u32,
+    from: u32,
+) -> Result<(), Refusal> {
+    heap.store(OWNER, root(slot), field, Operand::Root(root(from)))?;
     Ok(())
 }
 
 /// A whole tree of this depth in a slot, its children made first, with so many fields a node; the
 /// slots above it are used.
 pub fn grow_up(
-    heap: &mut impl Collected,
+    heap: &mut impl CollectingHeap,
     slot: u32,
     depth: u32,
     fields: u32,
@@ -53,7 +58,7 @@ pub fn grow_up(
 /// Grows the node in a slot to a tree of this depth, its children made after it; the slots above it
 /// are used.
 pub fn grow_down(
-    heap: &mut impl Collected,
+    heap: &mut impl CollectingHeap,
     slot: u32,
     depth: u32,
     fields: u32,
@@ -71,13 +76,13 @@ pub fn grow_down(
 }
 
 /// Whether a field of the node in a slot names a node, which the next slot holds then.
-fn goes_down(heap: &mut impl Collected, slot: u32, field: u32) -> Result<bool, Refusal> {
-    let reply = heap.get(slot.wrapping_add(1), slot, field)?;
+fn goes_down(heap: &mut impl CollectingHeap, slot: u32, field: u32) -> Result<bool, Refusal> {
+    let reply = heap.load(OWNER, root(slot.wrapping_add(1)), root(slot), field)?;
     Ok(matches!(reply, Reply::Object(_)))
 }
 
 /// The nodes of the tree in a slot, which is at most so deep; the slots above it are used.
-pub fn count(heap: &mut impl Collected, slot: u32, depth: u32) -> Result<u32, Refusal> {
+pub fn count(heap: &mut impl CollectingHeap, slot: u32, depth: u32) -> Result<u32, Refusal> {
     if depth == 0 {
         return Ok(1);
     }
@@ -92,7 +97,7 @@ pub fn count(heap: &mut impl Collected, slot: u32, depth: u32) -> Result<u32, Re
 }
 
 /// Prints how many cycles ended, and the words that the heap has; nothing where that failed.
-pub fn tell(rt: &impl Print, heap: &impl Collected) -> Option<()> {
+pub fn tell(rt: &impl Print, heap: &impl CollectingHeap) -> Option<()> {
     let (cycles, words) = (
         heap.paced().stat().flips,
         heap.paced().heap().config().words,

@@ -2,10 +2,10 @@
 
 use crate::codes::{count, digits, list, tak};
 use rh_code::{Code, CodeFault, Index, Instruction, Number, Operation, Position, Register, When};
-use rh_core::{Config, Heap};
+use rh_core::{CommandHeap, Config, Heap};
 use rh_growing::{GrowingHeap, Growth, Short};
 use rh_layout::Refusal;
-use rh_machine::{AnsweringHeap, Ending, RegisterMachine, run};
+use rh_machine::{Ending, RegisterMachine, run};
 use rh_pace::{PacedHeap, Sizes};
 use std::alloc::Allocator;
 use std::process::Abort;
@@ -78,7 +78,7 @@ fn put_lines<A: Allocator>(
 }
 
 /// Runs the code on a heap.
-fn run_on<H: AnsweringHeap, A: Allocator + Copy>(
+fn run_on<H: CommandHeap, A: Allocator + Copy>(
     alloc: A,
     heap: &mut H,
     table: &[Instruction],
@@ -115,7 +115,7 @@ fn is_exhausted_at_the_cell(came: Option<Came>) -> bool {
 
 /// Runs the code on a heap, and expects this of the run: where nothing is due, that a list without
 /// end is refused a cell.
-fn expect_run<R: AllocGlobal + Abort, H: AnsweringHeap>(
+fn expect_run<R: AllocGlobal + Abort, H: CommandHeap>(
     rt: &R,
     heap: &mut H,
     table: &[Instruction],

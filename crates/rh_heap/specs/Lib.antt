@@ -15,6 +15,7 @@ pub use Rattle.rh_mutator.specs.LoadingAll
 pub use Rattle.rh_mutator.specs.Mutator
 pub use Rattle.rh_mutator.specs.Texts
 pub use Rattle.rh_core.specs.declared.errors.HeapError
+pub use Rattle.rh_core.specs.CommandHeap
 pub use Rattle.rh_core.specs.Commands
 pub use Rattle.rh_core.specs.Heap
 pub use Rattle.rh_core.specs.StoringAll

@@ -31,8 +31,8 @@ mod error;
 
 pub use error::Error;
 pub use rh_core::{
-    Config, ConfigFault, Flipped, Heap, HeapError, ReleaseError, ResizeError, RoomError, Stat,
-    WatchError, laws as heap_laws,
+    CommandHeap, Config, ConfigFault, Flipped, Heap, HeapError, ReleaseError, ResizeError,
+    RoomError, Stat, WatchError, laws as heap_laws,
 };
 pub use rh_growing::{
     DEFAULT_AT_LEAST, DEFAULT_FACTOR, GrowingError, GrowingHeap, Growth, MAX_FACTOR, MIN_FACTOR,
@@ -43,6 +43,6 @@ pub use rh_layout::{
     Reply, RootId, Value,
 };
 pub use rh_pace::{
-    DEFAULT_PACE_RATIO, Did, EpochsSpent, MIN_PACE_RATIO, Pace, PaceError, PacedHeap, Seen, Sizes,
-    SizesError, laws,
+    CollectingHeap, DEFAULT_PACE_RATIO, Did, EpochsSpent, MIN_PACE_RATIO, Pace, PaceError,
+    PacedHeap, Seen, Sizes, SizesError, laws,
 };

@@ -11,7 +11,8 @@ use Rattle.rh_cycles.specs.declared.cycle.Cycle.{Cycle}
 use Rattle.rh_cycles.specs.declared.running.Running.{Running}
 use Rattle.rh_cycles.specs.Cycles.{Reading, ReaderState, capped, cycle_of, going, read_step, skip_step, told_cycles}
 use Rattle.rh_cycles.specs.Heaps.{CyclesState, after_step, before_flip, ends_with_flip, read_flip, reading_of, without_entries}
-use Rattle.rh_machine.specs.Machine.{Asking, Hearing, Stepping, answerer_of, program_of, state_by}
+use Rattle.rh_core.specs.CommandHeap.{Stepping}
+use Rattle.rh_machine.specs.Machine.{Asking, Hearing, answerer_of, program_of, state_by}
 use Rattle.rh_lisp_run.specs.Cycling.{EndInTurn, ReadHeap, reading_steps}
 
 -- a cycle that is told ended at this call

@@ -4,7 +4,8 @@ use Rattle.std.specs.Option.{option_map_or}
 use Rattle.rh_layout.specs.declared.command.Command.{Command}
 use Rattle.rh_core.specs.runs.Programs.{Answerer, CommandAnswers, Program, answers_by}
 use Rattle.rh_pace.specs.Paced.{PacedState}
-use Rattle.rh_machine.specs.Machine.{Asking, Hearing, Stepping, answerer_of, program_of, state_by}
+use Rattle.rh_core.specs.CommandHeap.{Stepping}
+use Rattle.rh_machine.specs.Machine.{Asking, Hearing, answerer_of, program_of, state_by}
 use Rattle.rh_lisp_run.specs.Cycling.{ReadHeap, reading_steps}
 
 module _ {S X C : Type 0} (paced : S → PacedState) (step : Stepping X S) (asks : Asking C) (hears : Hearing C) (given : CommandAnswers → X) (c : C) where

@@ -1,57 +1,16 @@
 //! A heap whose cycles are written as they end.
 
-ghost use Rattle.std.specs.Prelude.{◌≡◌, None};
-ghost use Rattle.rh_cycles.specs.Heaps.{after_step, new_cycles};
-ghost use Rattle.rh_pace.specs.Paced.{PacedState};
+ghost use Rattle.std.specs.Prelude.{None};
+ghost use Rattle.rh_cycles.specs.Heaps.{after_step};
 ghost use Rattle.rh_lisp_run.specs.Cycling.{Writing, ended_lines, written_by};
 
 use crate::cycle_writer::CycleWriter;
-use rh_cycles::{Cycle, Cycles};
-use rh_growing::GrowingHeap;
+use rh_core::CommandHeap;
+use rh_cycles::Cycles;
 use rh_layout::{Command, Refusal, Reply};
-use rh_machine::AnsweringHeap;
-use rh_pace::PacedHeap;
+use rh_pace::CollectingHeap;
 use std::alloc::Allocator;
 use std::io;
-
-/// A heap whose cycles are read.
-pub(crate) trait CycledHeap {
-    /// What collects in it.
-    ghost paced: { Self → PacedState };
-
-    /// What reads its cycles from now on.
-    fn cycles(&self) -> Cycles
-        ensures { result ≡ new_cycles (paced self.now) };
-
-    /// Reads it after a command. Answers the cycle that ended at that.
-    fn ended(&self, cycles: &mut Cycles) -> Option<Cycle>
-        ensures state { cycles.new ≡ (after_step cycles.old (paced self.now)).0 }
-        ensures told { result ≡ (after_step cycles.old (paced self.now)).1 };
-}
-
-impl<A: Allocator + Copy> CycledHeap for PacedHeap<A> {
-    ghost paced = { λ s. s };
-
-    fn cycles(&self) -> Cycles {
-        Cycles::new(self)
-    }
-
-    fn ended(&self, cycles: &mut Cycles) -> Option<Cycle> {
-        cycles.after(self)
-    }
-}
-
-impl<A: Allocator + Copy> CycledHeap for GrowingHeap<A> {
-    ghost paced = { λ s. s.paced };
-
-    fn cycles(&self) -> Cycles {
-        Cycles::new(self.paced())
-    }
-
-    fn ended(&self, cycles: &mut Cycles) -> Option<Cycle> {
-        cycles.after(self.paced())
-    }
-}
 
 /// A heap that writes a line for each of its cycles as it ends.
 #[derive(Drop)]
@@ -61,8 +20,7 @@ pub(crate) struct Cycling<H, A: Allocator, W: io::Write> {
     pub(crate) lines: CycleWriter<A, W>,
 }
 
-impl<H: AnsweringHeap + CycledHeap, A: Allocator + Copy, W: io::Write> AnsweringHeap
-    for Cycling<H, A, W> {
+impl<H: CollectingHeap, A: Allocator + Copy, W: io::Write> CommandHeap for Cycling<H, A, W> {
     /// Beside what the heap is given: how a line is written.
     ghost Given = { H.Given × Writing };
 
@@ -81,7 +39,7 @@ impl<H: AnsweringHeap + CycledHeap, A: Allocator + Copy, W: io::Write> Answering
 
     fn answer(&mut self, owner: u32, command: &Command, insists: bool) -> Result<Reply, Refusal> {
         let answer = self.heap.answer(owner, command, insists);
-        let ended = self.heap.ended(&mut self.cycles);
+        let ended = self.cycles.after(self.heap.paced());
         self.lines.tell(ended);
         answer
     }

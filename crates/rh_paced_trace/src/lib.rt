@@ -9,7 +9,6 @@ mod lines;
 mod pacing;
 mod playing;
 mod running;
-mod trace_heap;
 
 pub use fault::PacedFault;
 pub use growing::{growth_of, new_heap, run_growing, run_growing_logged};

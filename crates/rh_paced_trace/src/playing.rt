@@ -7,14 +7,14 @@ ghost use Rattle.rh_text.specs.Output.{AppendsLess};
 ghost use Rattle.rh_paced_trace.specs.Lines.{commands_in};
 ghost use Rattle.rh_paced_trace.specs.Playing.{output_by, summary_by};
 
-use crate::trace_heap::TraceHeap;
+use rh_pace::CollectingHeap;
 use rh_syntax::{Request, send_answer};
 use rh_text::{IoLog, LineText, Write, send};
 use rh_trace::{Summary, put_total};
 use std::io;
 
 /// Runs all commands among the requests, and writes the line of each answer and the total line.
-pub fn play<H: TraceHeap, W: io::Write>(
+pub fn play<H: CollectingHeap, W: io::Write>(
     heap: &mut H,
     requests: &[Request],
     writer: &mut W,
@@ -22,12 +22,12 @@ pub fn play<H: TraceHeap, W: io::Write>(
 ) -> Result<Summary, Write>
     requires { writes.old.failed ≡ false }
     ensures ok { IfOk result (λ summary. (given : ℕ → H.Given)
-        × (summary ≡ summary_by H.step H.paced given heap.old (commands_in requests.now))
+        × (summary ≡ summary_by (H.step false) H.paced given heap.old (commands_in requests.now))
         × Appends (W.contents writer.old) (W.contents writer.new)
-        (output_by H.step H.paced given heap.old (commands_in requests.now))) }
+        (output_by (H.step false) H.paced given heap.old (commands_in requests.now))) }
     ensures err { OnErr result ((given : ℕ → H.Given)
         × AppendsLess (W.contents writer.old) (W.contents writer.new)
-        (output_by H.step H.paced given heap.old (commands_in requests.now))) }
+        (output_by (H.step false) H.paced given heap.old (commands_in requests.now))) }
     ensures failed { OnErr result (AreSpent writes.new) }
     ensures none_failed { OnOk result (writes.new.failed ≡ false) }
     ensures spent { OnErr result (AreSpentSince writes.old writes.new) }
@@ -37,13 +37,13 @@ pub fn play<H: TraceHeap, W: io::Write>(
     let mut refused = 0;
     for request in requests {
         if let Request::Command { owner, ref command } = *request {
-            let answer = heap.answer(owner, command);
+            let answer = heap.answer(owner, command, false);
             send_answer(answer, &mut text, writer, writes)?;
             commands += 1;
             refused += u64::from(answer.is_err());
         }
     }
-    let stat = heap.numbers();
+    let stat = heap.paced().stat();
     let summary = Summary {
         commands,
         refused,

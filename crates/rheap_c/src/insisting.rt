@@ -4,7 +4,6 @@ ghost use Rattle.std.specs.Prelude.{◌≡◌};
 ghost use Rattle.rh_layout.specs.declared.command.Command.TheVariants as commands;
 ghost use Rattle.rh_layout.specs.declared.command.Operand.TheVariants as operands;
 ghost use Rattle.rh_pace.specs.Calls.{IsPacedCall};
-ghost use Rattle.rh_pace.specs.Collecting.{wants_room as wants_room_of};
 ghost use Rattle.rh_pace.specs.Paced.{PacedState};
 ghost use Rattle.rheap_c.specs.Insisted.{IsInsisted, IsInsistedCall};
 ghost use Rattle.rheap_c.specs.Told.{root_of};
@@ -13,7 +12,7 @@ use crate::handle::Rheap;
 use crate::status::{NOT_OPEN, answer_status};
 use crate::value::RheapRoot;
 use rh_layout::{Command, Operand, Refusal, Reply, RootId};
-use rh_pace::PacedHeap;
+use rh_pace::{PacedHeap, wants_room};
 use std::alloc::Global;
 
 /// As `rheap_alloc`, tried again after a collection where there is no room, twice at most, as
@@ -169,14 +168,6 @@ fn insist(
     } else {
         tried
     }
-}
-
-/// Whether an answer says that there is no room: in the space or in the log.
-#[inline(always)]
-fn wants_room(told: &Result<Reply, Refusal>) -> bool
-    ensures { result ≡ wants_room_of told.now }
-{
-    matches!(told, Err(Refusal::SpaceFull { .. } | Refusal::LogFull))
 }
 
 /// What `PacedHeap::insist` promises, as one fact.

@@ -5,7 +5,6 @@ use Rattle.rh_text.specs.Output.{AppendsLess}
 use Rattle.rh_syntax.specs.declared.line.Header.{Header}
 use Rattle.rh_syntax.specs.declared.request.Request.{Request}
 use Rattle.rh_trace.specs.Run.{config_of}
-use Rattle.rh_pace.specs.Paced.{PacedState}
 use Rattle.rh_growing.specs.Growing.{GrowingState, growing_heap, growing_step}
 use Rattle.rh_growing.specs.Growth.{IsGrowth, config_at}
 use Rattle.rh_growing.specs.declared.growth.Growth.{Growth}
@@ -13,11 +12,9 @@ use Rattle.rh_paced_trace.specs.Lines.{commands_in, other_fault}
 use Rattle.rh_paced_trace.specs.Playing.{output_by, summary_by}
 use Rattle.rh_paced_trace.specs.Growing.{IsGrowingRun, IsGrowthFault, growing_text_of, growth_of, new_growing_run}
 use Rattle.rh_paced_trace.specs.Run.{IsCommandTrace}
+use Rattle.rh_paced_trace.proofs.Played.{at_first, output-aided, paced_of, summary-aided}
 use Rattle.rh_paced_trace.proofs.GrownFaults.{ends-ungrown, sizes-grown, ungrown-unread}
 use Rattle.rh_paced_trace.proofs.growing.run_input.Goals as goal
-
-abbrev paced_of : GrowingState → PacedState
-paced_of s = s.paced
 
 pub other_fault-requires : goal.other_fault-requires
 other_fault-requires g c =
@@ -60,12 +57,14 @@ returns-in-Ok-play-clause-ends g c =
     let run : IsGrowingRun c.args.at_most c.args.input.now script = record { trace = record { few = c.requires.few; read = c.in-Ok.ensures.exact; commands = none }; sizes = sizes; grows = grows } in
     let heap_is : c.in-Ok-new_heap.heap ≡ new_growing_run script c.args.at_most = c.in-Ok-new_heap.ensures.made ∙ ap growing_heap growth_is in
     let played = c.in-Ok-play.ensures.ok in
-    let summary = played.1 ∙ ap (λ (s : GrowingState). summary_by growing_step paced_of played.0 s (commands_in c.requests-3.result.now)) heap_is
-    ∙ ap (λ (r : List Request). summary_by growing_step paced_of played.0 (new_growing_run script c.args.at_most) (commands_in r)) c.requests-3.ensures in
-    let text : output_by growing_step paced_of played.0 c.in-Ok-new_heap.heap (commands_in c.requests-3.result.now) ≡ growing_text_of script c.args.at_most played.0 =
-    ap (λ (s : GrowingState). output_by growing_step paced_of played.0 s (commands_in c.requests-3.result.now)) heap_is
-    ∙ ap (λ (r : List Request). output_by growing_step paced_of played.0 (new_growing_run script c.args.at_most) (commands_in r)) c.requests-3.ensures in
-    (script, played.0, run, summary, subst (Appends (known c.args.writer.now) (known c.play.new.writer)) text played.2)
+    let commands = commands_in c.requests-3.result.now in
+    let given = at_first played.0 in
+    let summary = played.1 ∙ summary-aided played.0 c.in-Ok-new_heap.heap commands ∙ ap (λ (s : GrowingState). summary_by growing_step paced_of given s (commands_in c.requests-3.result.now)) heap_is
+    ∙ ap (λ (r : List Request). summary_by growing_step paced_of given (new_growing_run script c.args.at_most) (commands_in r)) c.requests-3.ensures in
+    let text : output_by growing_step paced_of given c.in-Ok-new_heap.heap (commands_in c.requests-3.result.now) ≡ growing_text_of script c.args.at_most given =
+    ap (λ (s : GrowingState). output_by growing_step paced_of given s (commands_in c.requests-3.result.now)) heap_is
+    ∙ ap (λ (r : List Request). output_by growing_step paced_of given (new_growing_run script c.args.at_most) (commands_in r)) c.requests-3.ensures in
+    (script, given, run, summary, subst (Appends (known c.args.writer.now) (known c.play.new.writer)) (output-aided played.0 c.in-Ok-new_heap.heap commands ∙ text) played.2)
 
 pub returns-clause-ends : goal.returns-clause-ends
 returns-clause-ends g c =
@@ -80,7 +79,9 @@ returns-clause-ends g c =
     let run : IsGrowingRun c.args.at_most c.args.input.now script = record { trace = record { few = c.requires.few; read = c.in-Ok.ensures.exact; commands = none }; sizes = sizes; grows = grows } in
     let heap_is : c.in-Ok-new_heap.heap ≡ new_growing_run script c.args.at_most = c.in-Ok-new_heap.ensures.made ∙ ap growing_heap growth_is in
     let played = c.in-Err-play.ensures.err in
-    let text : output_by growing_step paced_of played.0 c.in-Ok-new_heap.heap (commands_in c.requests-3.result.now) ≡ growing_text_of script c.args.at_most played.0 =
-    ap (λ (s : GrowingState). output_by growing_step paced_of played.0 s (commands_in c.requests-3.result.now)) heap_is
-    ∙ ap (λ (r : List Request). output_by growing_step paced_of played.0 (new_growing_run script c.args.at_most) (commands_in r)) c.requests-3.ensures in
-    (script, played.0, run, subst (AppendsLess (known c.args.writer.now) (known c.play.new.writer)) text played.1)
+    let commands = commands_in c.requests-3.result.now in
+    let given = at_first played.0 in
+    let text : output_by growing_step paced_of given c.in-Ok-new_heap.heap (commands_in c.requests-3.result.now) ≡ growing_text_of script c.args.at_most given =
+    ap (λ (s : GrowingState). output_by growing_step paced_of given s (commands_in c.requests-3.result.now)) heap_is
+    ∙ ap (λ (r : List Request). output_by growing_step paced_of given (new_growing_run script c.args.at_most) (commands_in r)) c.requests-3.ensures in
+    (script, given, run, subst (AppendsLess (known c.args.writer.now) (known c.play.new.writer)) (output-aided played.0 c.in-Ok-new_heap.heap commands ∙ text) played.1)

@@ -6,7 +6,7 @@ use Rattle.rh_paced_trace.proofs.playing.play.Given as goal
 
 abbrev pub invariant-loop-request : goal.invariant-loop-request
 invariant-loop-request g l = record {
-  left : Left g.H.TraceHeap.step g.H.TraceHeap.paced g.H.TraceHeap.usual l.fn.heap (commands_in l.requests) l.heap (commands_in (drop l.request-index l.requests)) l.commands l.refused (g.W.Write.contents l.fn.writer) (g.W.Write.contents l.writer);
+  left : Left (g.H.CommandHeap.step false) g.H.CollectingHeap.paced g.H.CommandHeap.usual l.fn.heap (commands_in l.requests) l.heap (commands_in (drop l.request-index l.requests)) l.commands l.refused (g.W.Write.contents l.fn.writer) (g.W.Write.contents l.writer);
   few_commands : l.commands ≤ l.request-index;
   few_refused : l.refused ≤ l.request-index;
   none_failed : l.writes.failed ≡ false;
