@@ -1,4 +1,4 @@
-/* How the libraries rheap_c and rheap_static take memory, and free it: the three functions that their
+/* How the libraries rheap_c and rheap_c_traces take memory, and free it: the three functions that their
    archives leave to the program, over the C library's. `./rheap install` compiles them into
    librheap.a. Nothing here is proved: it is trusted to do what the comments say. To take memory
    elsewhere, define the three in a file of your own, and link that before librheap.a. */

@@ -1,5 +1,5 @@
 /* Each status of whole traces but 3, for which memory must be refused, and what the buffer and its
-   count have then: a program in C over the static library rheap_static. Prints nothing where all is
+   count have then: a program in C over the static library rheap_c_traces. Prints nothing where all is
    as it should be. */
 #include <stdint.h>
 #include <stdio.h>

@@ -19,7 +19,7 @@ CHECKED = "not proved: each step is checked"
 NOT_PROVED = "not proved"
 VERSION_CRATE = "rh_command_line"
 VERSION_FILE = f"crates/{VERSION_CRATE}/src/version.rt"
-LIBRARIES = ("rheap_c", "rheap_static")
+LIBRARIES = ("rheap_c", "rheap_c_traces")
 
 EXPORT = re.compile(r'#\[unsafe\(no_mangle\)\]\s*pub extern "C" fn (\w+)\(([^)]*)\)\s*->\s*(\w+)')
 TYPES = {"u8": ["i8"], "u32": ["i32"], "i64": ["i64"], "u64": ["i64"], "usize": ["i64"], "Global": []}

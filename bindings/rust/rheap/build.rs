@@ -12,7 +12,7 @@ const SETS: [&[(&str, &[&str])]; 2] = [
     &[("rheap", &["rheap_open", "rheap_run"])],
     &[
         ("rheap_c", &["rheap_open"]),
-        ("rheap_static", &["rheap_run"]),
+        ("rheap_c_traces", &["rheap_run"]),
     ],
 ];
 
@@ -36,7 +36,7 @@ fn main() {
         eprintln!("error: rheap: {why}");
         eprintln!();
         eprintln!("  The crate needs the static library librheap.a, or its two parts,");
-        eprintln!("  librheap_c.a and librheap_static.a, in one folder. Either");
+        eprintln!("  librheap_c.a and librheap_c_traces.a, in one folder. Either");
         eprintln!("    set RHEAP_LIB_DIR to the absolute path of its folder, or");
         eprintln!("    have `pkg-config --variable=libdir rheap` print that folder: set");
         eprintln!("    PKG_CONFIG_PATH to the folder of rheap.pc.");
@@ -59,7 +59,7 @@ fn link() -> Result<(), String> {
     let is_there = |(name, _): &(&str, &[&str])| archive(&folder, name).is_file();
     let Some(set) = SETS.into_iter().find(|set| set.iter().all(is_there)) else {
         return Err(format!(
-            "neither librheap.a nor both librheap_c.a and librheap_static.a are in {}",
+            "neither librheap.a nor both librheap_c.a and librheap_c_traces.a are in {}",
             folder.display()
         ));
     };

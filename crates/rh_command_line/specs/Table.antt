@@ -21,19 +21,19 @@ pub record CommandState : Type 0 where
   pub name : Text
   pub arguments : List Argument
 
--- an argument of this name: a word, which is required or not
+-- clap's rule for a word of this name, which is required or not
 abbrev pub word_rule : Text → Bool → Rule
 word_rule name is_required = record (new_rule name) { required = is_required }
 
--- an option with a value
+-- and for an option with a value
 abbrev pub option_rule : Text → Rule
 option_rule name = record (new_rule name) { long = Some name; value_names = 1 }
 
--- a flag
+-- and for a flag
 abbrev pub flag_rule : Text → Rule
 flag_rule name = record (new_rule name) { long = Some name; action = Some SetTrue }
 
--- one that is spelled so
+-- and for an argument that is spelled so
 abbrev pub spelled_rule : Text → Spelling → Rule
 spelled_rule name (Word is_required) = word_rule name is_required
 spelled_rule name Flag = flag_rule name

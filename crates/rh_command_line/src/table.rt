@@ -26,7 +26,7 @@ pub(crate) struct ArgumentRow {
     pub help: &'static str,
     /// The arguments without which it is refused.
     pub needs: &'static [&'static str],
-    /// The arguments beside which it is refused.
+    /// The arguments beside which it is refused. A pair is written at one of the two.
     pub not_with: &'static [&'static str],
 }
 

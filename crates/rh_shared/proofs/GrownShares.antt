@@ -11,7 +11,7 @@ use Rattle.rh_core.specs.Commands.{heap_step}
 use Rattle.rh_replay.specs.declared.call.Call.{Call}
 use Rattle.rh_shared.specs.declared.kept.CallError.{CallError}
 use Rattle.rh_shared.specs.declared.kept.CallError.TheVariants as call_errors
-use Rattle.rh_increment.specs.Increment.{increment, Met}
+use Rattle.rh_collector.specs.Increment.{increment, Met}
 use Rattle.rh_shared.specs.Kept.{KeptState, kept_after, kept_call, kept_increment, refused_where, with_command}
 use Rattle.rh_shared.specs.Shares.{MutatorState, with_answer, with_refused}
 

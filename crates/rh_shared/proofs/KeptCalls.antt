@@ -16,10 +16,10 @@ use Rattle.rh_replay.specs.History.{HistoryState, RecorderState, empty_history, 
 use Rattle.rh_replay.specs.Legal.{IsLegal, replay}
 use Rattle.rh_shared.specs.declared.kept.CallError.{CallError}
 use Rattle.rh_shared.specs.declared.kept.CallError.TheVariants as call_errors
-use Rattle.rh_increment.specs.declared.did.Did.{Did}
-use Rattle.rh_increment.specs.Collector.{CollectorState, with_heap}
-use Rattle.rh_increment.specs.Collected.{IsCollected, most_units}
-use Rattle.rh_increment.specs.Increment.{increment, Meets, Met}
+use Rattle.rh_collector.specs.declared.did.Did.{Did}
+use Rattle.rh_collector.specs.Collector.{CollectorState, with_heap}
+use Rattle.rh_collector.specs.Collected.{IsCollected, most_units}
+use Rattle.rh_collector.specs.Increment.{increment, Meets, Met}
 use Rattle.rh_replay.proofs.Replays.{legal-with_call, replay-with_call}
 use Rattle.rh_shared.specs.Kept.{CallMeets, IsKept, KeptState, full_refusal, kept_call, kept_increment, noted_unless, refused_where, with_command, with_noted}
 

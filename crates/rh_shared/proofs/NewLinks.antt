@@ -2,9 +2,9 @@
 use Rattle.std.proofs.Common.{◌≡◌, ℕ, suc, ◌+◌, List, [], ◌∷◌, ◌++◌, Some, length, refl, sym, ap, subst, ◌∙◌, arith, add-zero}
 use Rattle.std.specs.Prelude.{map, slice_get}
 use Rattle.std.specs.List.{AllByRecursion}
-use Rattle.rh_rings.specs.Link.{LinkState, RingState}
-use Rattle.rh_rings.specs.Ends.{EndsState, IsNewLink}
-use Rattle.rh_increment.specs.Settling.{ends_pair, pair_of, pairs_of, IsNewHere}
+use Rattle.rh_replicator.specs.Link.{LinkState, RingState}
+use Rattle.rh_replicator.specs.Ends.{EndsState, IsNewLink}
+use Rattle.rh_collector.specs.Settling.{ends_pair, pair_of, pairs_of, IsNewHere}
 use Rattle.rh_shared.specs.Start.{AreNewLinks, IsFresh}
 
 -- One link more, of the next number.

@@ -13,10 +13,10 @@ use Rattle.rh_watches.specs.declared.errors.RoomError.TheVariants.{Fewer}
 use Rattle.rh_core.specs.Heap.{HeapState, IsWellFormed}
 use Rattle.rh_replay.specs.History.{HistoryState}
 use Rattle.rh_replay.specs.Legal.{IsLegal, replay}
-use Rattle.rh_increment.specs.declared.did.Did.{Did}
-use Rattle.rh_increment.specs.Collected.{IsCollected, most_units}
-use Rattle.rh_increment.specs.Collector.{IsCollector}
-use Rattle.rh_increment.specs.Increment.{Meets, Met}
+use Rattle.rh_collector.specs.declared.did.Did.{Did}
+use Rattle.rh_collector.specs.Collected.{IsCollected, most_units}
+use Rattle.rh_collector.specs.Collector.{IsCollector}
+use Rattle.rh_collector.specs.Increment.{Meets, Met}
 use Rattle.rh_shared.specs.declared.kept.CallError.{CallError}
 use Rattle.rh_shared.specs.declared.kept.CallError.TheVariants as call_errors
 use Rattle.rh_shared.specs.Kept.{CallMeets, IsKept, KeptState, kept_call, kept_increment}

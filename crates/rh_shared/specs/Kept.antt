@@ -11,14 +11,14 @@ use Rattle.rh_core.specs.Commands.{heap_step}
 use Rattle.rh_replay.specs.declared.call.Call.{Call}
 use Rattle.rh_replay.specs.History.{HistoryState, RecorderState, with_call}
 use Rattle.rh_replay.specs.Legal.{IsLegal, replay}
-use Rattle.rh_increment.specs.declared.did.Did.{Did}
+use Rattle.rh_collector.specs.declared.did.Did.{Did}
 use Rattle.rh_shared.specs.declared.kept.CallError.{CallError}
 use Rattle.rh_shared.specs.declared.kept.CallError.TheVariants as call_errors
-use Rattle.rh_increment.specs.SharedConfig.{shared_fault_of}
+use Rattle.rh_collector.specs.SharedConfig.{shared_fault_of}
 use Rattle.rh_shared.specs.Start.{AreNewLinks, StartState}
-use Rattle.rh_increment.specs.Collector.{CollectorState, with_heap}
-use Rattle.rh_increment.specs.Did.{did_nothing}
-use Rattle.rh_increment.specs.Increment.{Meets, Met, increment}
+use Rattle.rh_collector.specs.Collector.{CollectorState, with_heap}
+use Rattle.rh_collector.specs.Did.{did_nothing}
+use Rattle.rh_collector.specs.Increment.{Meets, Met, increment}
 
 -- the heap with what increments keep, the history with its limit, and what the last increment did
 pub record KeptState (A : Type 0) : Type 0 where

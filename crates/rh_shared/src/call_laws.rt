@@ -26,13 +26,13 @@ ghost use Rattle.rh_shared.specs.declared.kept.CallError.TheVariants as call_err
 ghost use Rattle.rh_shared.specs.Answers.{AnswersUnderLock, ComesAfterHistory, DoesUnderLock};
 ghost use Rattle.rh_shared.specs.Kept.{CallMeets, KeptState, kept_call, with_noted};
 ghost use Rattle.rh_shared.specs.Shares.{HasShares, IsOneEach, MutatorState, PartAt, WhyNotClosed, calls_of, first_mutators, share_of, with_answer};
-ghost use Rattle.rh_increment.specs.Collector.{with_heap};
-ghost use Rattle.rh_increment.specs.declared.did.Did.{Did as DidOf};
-ghost use Rattle.rh_increment.specs.Did.{did_nothing};
-ghost use Rattle.rh_increment.specs.Increment.{increment, Meets, Met};
+ghost use Rattle.rh_collector.specs.Collector.{with_heap};
+ghost use Rattle.rh_collector.specs.declared.did.Did.{Did as DidOf};
+ghost use Rattle.rh_collector.specs.Did.{did_nothing};
+ghost use Rattle.rh_collector.specs.Increment.{increment, Meets, Met};
 
+use rh_collector::laws::an_increment_begins_a_cycle_below_the_mark;
 use rh_core::laws::refused_commands_change_nothing;
-use rh_increment::laws::an_increment_begins_a_cycle_below_the_mark;
 use std::alloc::Allocator;
 
 /// A call of a full history changes nothing. Else a call that the heap accepts is followed by one

@@ -12,9 +12,9 @@ mod start;
 pub use closing::{CloseError, NotClosed, close};
 pub use kept::{CallError, Kept};
 pub use mutator::Mutator;
-pub use rh_increment::{
+pub use rh_collector::{
     Did, MAX_MOST, MAX_REPLICATORS, SharedConfig, SharedFault, laws, ring_laws, stage_laws,
 };
-pub use rh_rings::{ReplicatorEnds, RingDone, Settled};
+pub use rh_replicator::{ReplicatorEnds, RingDone, Settled};
 pub use shared_heap::SharedHeap;
 pub use start::{Start, StartError};

@@ -1,7 +1,7 @@
 -- The configuration of a shared run.
 use Rattle.std.specs.Prelude.{◌/◌}
 use Rattle.rh_syntax.specs.declared.line.Header.{Header}
-use Rattle.rh_increment.specs.declared.config.SharedConfig.{SharedConfig}
+use Rattle.rh_collector.specs.declared.config.SharedConfig.{SharedConfig}
 use Rattle.rh_shared_trace.specs.declared.options.RunOptions.{RunOptions}
 
 -- a cycle begins where fewer than half of the words are free; the replicators and the idle words

@@ -9,7 +9,7 @@ use Rattle.rh_trace.specs.Run.{config_of}
 use Rattle.rh_replay.specs.History.{HistoryState, IsHistory}
 use Rattle.rh_replay.specs.Legal.{IsLegal}
 use Rattle.rh_replay.specs.Spelling.{spelling}
-use Rattle.rh_increment.specs.SharedConfig.{shared_fault_of}
+use Rattle.rh_collector.specs.SharedConfig.{shared_fault_of}
 use Rattle.rh_shared_trace.specs.declared.fault.SharedRunFault.{SharedRunFault}
 use Rattle.rh_shared_trace.specs.declared.fault.SharedRunFault.TheVariants as faults
 use Rattle.rh_shared_trace.specs.declared.options.RunOptions.{RunOptions}

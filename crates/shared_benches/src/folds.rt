@@ -3,8 +3,7 @@
 use crate::figures::FoldFigures;
 use crate::pieces::piece_of;
 use rh_partial::{PartialReplica, Piece};
-use rh_replicator::{Replicator, YieldingGate, crew};
-use rh_rings::{LINK_PLACES, Link, new_link};
+use rh_replicator::{LINK_PLACES, Link, Replicator, YieldingGate, crew, new_link};
 use std::alloc::Global;
 use std::rt::Clock;
 use std::sync::Wait;

@@ -4,8 +4,7 @@ ghost use Rattle.std.specs.List.{AllByRecursion};
 ghost use Rattle.rh_shared.specs.Start.{IsFresh};
 
 use rh_layout::OutOfMemory;
-use rh_replicator::{Replicator, YieldingGate};
-use rh_rings::ReplicatorEnds;
+use rh_replicator::{Replicator, ReplicatorEnds, YieldingGate};
 use std::alloc::Allocator;
 
 /// A replicator for each pair of ends, in order, each behind a gate that lets other threads run.

@@ -2,12 +2,12 @@
 use Rattle.std.proofs.Common.{◌≡◌, ℕ, Bool, List, [], ◌∷◌, Some, sym, ap, ◌∙◌}
 use Rattle.std.specs.Prelude.{slice_get}
 use Rattle.std.specs.List.{AllByRecursion}
-use Rattle.rh_rings.specs.Ends.{EndsState}
+use Rattle.rh_replicator.specs.Ends.{EndsState}
 use Rattle.rh_replicator.specs.declared.stepped.Stepped.{Stepped}
 use Rattle.rh_replicator.specs.declared.running.RunEnd.{RunEnd}
 use Rattle.rh_replicator.specs.Crew.{WereRun}
 use Rattle.rh_replicator.specs.Stepping.{AreSameEnds}
-use Rattle.rh_increment.specs.Settling.{ends_pair, RingPair}
+use Rattle.rh_collector.specs.Settling.{ends_pair, RingPair}
 use Rattle.shared_tests.specs.Beside.{AreEndsOf}
 
 module _ {A : Type 0} where

@@ -1,8 +1,8 @@
 -- Replicators beside a heap without a lock.
 use Rattle.std.specs.Prelude.{◌≡◌, List, Option, Some, None, slice_get}
-use Rattle.rh_rings.specs.Ends.{EndsState}
-use Rattle.rh_rings.specs.Link.{RingState}
-use Rattle.rh_increment.specs.Settling.{AreEndsHere, RingPair, ends_pair}
+use Rattle.rh_replicator.specs.Ends.{EndsState}
+use Rattle.rh_replicator.specs.Link.{RingState}
+use Rattle.rh_collector.specs.Settling.{AreEndsHere, RingPair, ends_pair}
 
 -- the replicator, where it is there, has ends of these rings
 abbrev pub IsHere : {A : Type 0} → List (RingState A) → Option (EndsState A) → Type 0

@@ -2,13 +2,12 @@
 
 ghost use Rattle.std.specs.Prelude.{◌≡◌};
 ghost use Rattle.std.specs.List.{AllByRecursion};
-ghost use Rattle.rh_increment.specs.Settling.{IsNewHere};
+ghost use Rattle.rh_collector.specs.Settling.{IsNewHere};
 ghost use Rattle.shared_tests.specs.Beside.{IsHere};
 
 use crate::starts::SMALL;
 use rh_layout::{Command, Reply};
-use rh_replicator::{Replicator, Stepped};
-use rh_rings::{ReplicatorEnds, Settled};
+use rh_replicator::{Replicator, ReplicatorEnds, Settled, Stepped};
 use rh_shared::{CallError, Did, Kept, SharedConfig, Start};
 use std::alloc::{Allocator, Global};
 use std::marker::Model;

@@ -2,8 +2,7 @@
 
 use crate::expectations::expect_equal;
 use refusing::{RefusingAllocator, refused_in_turn};
-use rh_replicator::{OpenGate, Replicator, crew};
-use rh_rings::new_link;
+use rh_replicator::{OpenGate, Replicator, crew, new_link};
 use std::alloc::Allocator;
 use std::process::Abort;
 use std::sync::Wait;

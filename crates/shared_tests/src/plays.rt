@@ -8,8 +8,7 @@ use crate::calls::{
 use crate::expectations::{Row, expect_equal};
 use crate::starts::{EAGER, GATE};
 use rh_layout::{Command, Operand, Refusal, RootId};
-use rh_replicator::Stepped;
-use rh_rings::Settled;
+use rh_replicator::{Settled, Stepped};
 use rh_shared::{CallError, Did, SharedConfig};
 use std::process::Abort;
 

@@ -5,8 +5,7 @@ use crate::calls::{A, B};
 use crate::expectations::expect_equal;
 use crate::starts::GATE;
 use rh_layout::{Command, Operand};
-use rh_replicator::Stepped;
-use rh_rings::Settled;
+use rh_replicator::{Settled, Stepped};
 use rh_shared::SharedConfig;
 use std::process::Abort;
 

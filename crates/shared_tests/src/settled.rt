@@ -3,7 +3,7 @@
 
 ghost use Rattle.std.specs.Prelude.{◌≡◌};
 ghost use Rattle.std.specs.List.{AllByRecursion};
-ghost use Rattle.rh_increment.specs.Settling.{AreEndsHere, IsNewHere, pairs_of};
+ghost use Rattle.rh_collector.specs.Settling.{AreEndsHere, IsNewHere, pairs_of};
 ghost use Rattle.shared_tests.specs.Beside.{AreEndsOf};
 
 use crate::expectations::{Row, expect_equal, play_again};
@@ -12,8 +12,7 @@ use crate::starts::{EAGER, SMALL};
 use crate::threads::calls_of_owner;
 use rh_core::Config;
 use rh_layout::Command;
-use rh_replicator::{Gate, Replicator, RunEnd, Stepped, crew};
-use rh_rings::ReplicatorEnds;
+use rh_replicator::{Gate, Replicator, ReplicatorEnds, RunEnd, Stepped, crew};
 use rh_shared::{Did, Kept, SharedConfig, Start};
 use std::marker::{Brand, PhantomData};
 use std::process::Abort;
@@ -41,7 +40,7 @@ const FLIPS: u64 = 40;
 trait Rings {
     ghost use Rattle.std.specs.Prelude.{List};
     ghost use Rattle.std.specs.declared.alloc.Global.{Global};
-    ghost use Rattle.rh_increment.specs.Settling.{RingPair};
+    ghost use Rattle.rh_collector.specs.Settling.{RingPair};
 
     ghost pairs: { List (RingPair Global) };
 }

@@ -1,5 +1,5 @@
 use Rattle.std.proofs.Common.{ap, sym, ◌∙◌}
-use Rattle.rh_increment.specs.declared.did.Did.{Did}
+use Rattle.rh_collector.specs.declared.did.Did.{Did}
 use Rattle.rh_shared.specs.Kept.{kept_increment}
 use Rattle.rh_shared.proofs.call_laws.an_increment_under_a_lock_begins_a_cycle_below_the_mark.Goals as goal
 

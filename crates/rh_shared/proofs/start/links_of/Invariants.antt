@@ -1,6 +1,6 @@
 use Rattle.std.proofs.Common.{◌≡◌, length}
 use Rattle.std.specs.Prelude.{map}
-use Rattle.rh_rings.specs.Link.{LinkState}
+use Rattle.rh_replicator.specs.Link.{LinkState}
 use Rattle.rh_shared.specs.Start.{AreNewLinks}
 use Rattle.rh_shared.proofs.start.links_of.Given as goal
 

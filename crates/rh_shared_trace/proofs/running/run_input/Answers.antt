@@ -4,7 +4,7 @@ use Rattle.rh_text.specs.lemmas.Appends.{Keeps-same}
 use Rattle.rh_syntax.specs.declared.line.Header.{Header}
 use Rattle.rh_syntax.specs.declared.request.Request.{Request}
 use Rattle.rh_trace.specs.Run.{config_of}
-use Rattle.rh_increment.specs.SharedConfig.{shared_fault_of}
+use Rattle.rh_collector.specs.SharedConfig.{shared_fault_of}
 use Rattle.rh_shared_trace.specs.Lines.{line_fault}
 use Rattle.rh_shared_trace.specs.Options.{shared_config_of}
 use Rattle.rh_shared_trace.specs.Run.{IsSharedRun, IsSharedTrace}

@@ -1,4 +1,4 @@
-use Rattle.rh_increment.specs.Settling.{pairs_of}
+use Rattle.rh_collector.specs.Settling.{pairs_of}
 use Rattle.shared_tests.proofs.settled.play_new.Given as goal
 
 -- the rings of the heap that was just made

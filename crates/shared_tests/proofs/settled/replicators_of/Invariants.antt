@@ -1,6 +1,6 @@
 use Rattle.std.specs.List.{AllByRecursion}
 use Rattle.std.specs.Vec.Iter.{into_iter_items}
-use Rattle.rh_increment.specs.Settling.{IsNewHere, pairs_of}
+use Rattle.rh_collector.specs.Settling.{IsNewHere, pairs_of}
 use Rattle.shared_tests.specs.Beside.{AreEndsOf}
 use Rattle.shared_tests.proofs.settled.replicators_of.Given as goal
 

@@ -1,7 +1,7 @@
 use Rattle.std.proofs.Common.{◌≡◌}
 use Rattle.std.specs.List.{AllByRecursion}
 use Rattle.std.specs.Vec.Iter.{into_iter_items}
-use Rattle.rh_increment.specs.Settling.{pairs_of}
+use Rattle.rh_collector.specs.Settling.{pairs_of}
 use Rattle.shared_tests.specs.Beside.{AreEndsOf}
 use Rattle.shared_tests.proofs.settled.settle_all.Given as goal
 
