@@ -7,3 +7,4 @@ pub mod Legal
 pub mod Early
 pub mod Places
 pub mod Shown
+pub mod Lookups

@@ -1,5 +1,5 @@
 -- Where a line of a trace fails, by the faults of its format.
-use Rattle.std.specs.Prelude.{◌≡◌, ℕ, zero, suc, ◌+◌, ◌<◌, ◌≤◌, ◌==◌, List, [], ◌∷◌, ◌++◌, length, take, get_or, Option, Some, None, Result, Ok, Err, if◌then◌else◌}
+use Rattle.std.specs.Prelude.{◌≡◌, ℕ, zero, suc, ◌+◌, ◌<◌, ◌≤◌, ◌==◌, List, [], ◌∷◌, ◌++◌, length, take, get_or, map, Option, Some, None, Result, Ok, Err, if◌then◌else◌}
 use Rattle.std.specs.List.{flat_map}
 use Rattle.rh_text.specs.Parts.{parts_of, IsFormedLine}
 use Rattle.rh_text.specs.RawLine.{RawLine}
@@ -10,6 +10,7 @@ use Rattle.rh_syntax.specs.declared.fault.Kind.{Kind}
 use Rattle.rh_syntax.specs.declared.fault.Kind.TheVariants as kinds
 use Rattle.rh_explain.specs.declared.expected.Expected.{Expected}
 use Rattle.rh_explain.specs.declared.expected.Expected.TheVariants as expected
+use Rattle.rh_explain.specs.declared.rows.TraceRow.{TraceRow}
 use Rattle.rh_explain.specs.declared.why.Why.{Why}
 use Rattle.rh_explain.specs.declared.why.Why.TheVariants as whys
 
@@ -21,6 +22,14 @@ sort_of (expected.Root name) = root
 sort_of expected.Operand = operand
 sort_of expected.Dealt = copies_or_entries
 sort_of expected.Tray = tray
+
+-- what the parts of a row's line should be
+abbrev pub sorts_of : TraceRow → List Sort
+sorts_of row = map sort_of row.form.now
+
+-- a row as an entry of the format's tables
+abbrev pub entry_of : TraceRow → List ℕ × List Sort
+entry_of row = (row.keyword.now, sorts_of row)
 
 -- the kind of the fault that reading tells, by what is wrong
 abbrev pub class : Why → Kind

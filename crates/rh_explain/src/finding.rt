@@ -6,16 +6,14 @@ ghost use Rattle.rh_text.specs.Parts.{parts_of, may_follow, IsFormedLine};
 ghost use Rattle.rh_text.specs.lemmas.Stages.{Judges};
 ghost use Rattle.rh_syntax.specs.Faults.{number, root, operand, copies_or_entries, tray, each_part, form_faults, line_part_faults, header_part_faults};
 ghost use Rattle.rh_syntax.specs.declared.fault.Kind.TheVariants as kinds;
-ghost use Rattle.rh_explain.specs.Explain.{sort_of, class, fault_of, part_faults_of, IsFirstMisfit, IsIllFormedAt, IsPartAt};
+ghost use Rattle.rh_explain.specs.Explain.{sort_of, sorts_of, class, fault_of, part_faults_of, IsFirstMisfit, IsIllFormedAt, IsPartAt};
 ghost use Rattle.rh_explain.specs.Judging.{Decided, FailsAt, IsLong, IsMiscounted, IsOverLimit, MisfitAt, misfit_verdict};
 
 use crate::columns::columns_of;
 use crate::expected::Expected;
-use crate::forms::{header_form, keyword_form, owned_form};
-use crate::keyword::{LEADING, OWNED};
-use crate::near::{nearest, same_in};
+use crate::near::nearest;
 use crate::part::{Misfit, Part};
-use crate::row::{Row, row_of};
+use crate::rows::{LEADING, OWNED, TraceRow, header_row, leading_row, owned_row};
 use crate::why::Why;
 use rh_layout::limits::{MAX_LINE_BYTES, MAX_LINES};
 use rh_syntax::tray_name_of;
@@ -143,17 +141,18 @@ fn argument_misfit(form: &[Expected], line: &[u8]) -> Option<Misfit>
 }
 
 /// The part that is missing, or the first that is too many.
-fn count_misfit(form: &[Expected], row: Row, line: &[u8]) -> Option<Misfit>
-    ensures { MatchOption result (length (parts_of line.now) ≡ length form.now)
-        (λ m. IsMiscounted (length form.now) (length (parts_of line.now)) m.index
+fn count_misfit(row: TraceRow, line: &[u8]) -> Option<Misfit>
+    ensures { MatchOption result (length (parts_of line.now) ≡ length row.form.now)
+        (λ m. IsMiscounted (length row.form.now) (length (parts_of line.now)) m.index
         × (class m.why ≡ kinds.Form)) }
 {
+    let form = row.form;
     let mut rest = Some(line);
     for (index, expected) in form.iter().enumerate() {
         let Some((_, after)) = next_part(rest) else {
             return Some(Misfit {
                 index,
-                why: Why::Missing(*expected, row),
+                why: Why::Missing(*expected, row.row),
             });
         };
         rest = after;
@@ -167,25 +166,25 @@ fn count_misfit(form: &[Expected], row: Row, line: &[u8]) -> Option<Misfit>
     }
 }
 
-/// The first misfit of a line whose form is known: in the number of parts, or else part by part.
-fn form_misfit(form: &[Expected], row: Row, line: &[u8]) -> Option<Misfit>
-    ensures judged { Judges (form_faults (Some (map sort_of form.now)) (parts_of line.now))
+/// The first misfit of a line whose row is known: in the number of parts, or else part by part.
+fn row_misfit(row: TraceRow, line: &[u8]) -> Option<Misfit>
+    ensures judged { Judges (form_faults (Some (sorts_of row)) (parts_of line.now))
         (misfit_verdict result) }
-    ensures place { IfSome result (λ m. MisfitAt (map sort_of form.now) (parts_of line.now)
+    ensures place { IfSome result (λ m. MisfitAt (sorts_of row) (parts_of line.now)
         m.index (class m.why)) }
 {
-    if let Some(misfit) = count_misfit(form, row, line) {
+    if let Some(misfit) = count_misfit(row, line) {
         return Some(misfit);
     }
-    argument_misfit(form, line)
+    argument_misfit(row.form, line)
 }
 
 /// Why a word that should be a keyword after an owner isn't one.
 fn why_no_owned_keyword(word: &[u8]) -> Why
     ensures { class result ≡ kinds.Word }
 {
-    if let Some(keyword) = same_in(LEADING, word) {
-        return Why::OwnerSurplus(keyword);
+    if let Some(row) = leading_row(word) {
+        return Why::OwnerSurplus(row.keyword);
     }
     match nearest(OWNED, LEADING, word) {
         Some(keyword) => Why::Misspelled(keyword),
@@ -197,8 +196,8 @@ fn why_no_owned_keyword(word: &[u8]) -> Why
 fn why_no_keyword(word: &[u8]) -> Why
     ensures { class result ≡ kinds.Word }
 {
-    if let Some(keyword) = same_in(OWNED, word) {
-        return Why::OwnerMissing(keyword);
+    if let Some(row) = owned_row(word) {
+        return Why::OwnerMissing(row.keyword);
     }
     if is_text(word, b"heap") {
         return Why::HeapAgain;
@@ -225,8 +224,8 @@ fn line_misfit(line: &[u8]) -> Option<Misfit>
         });
     };
     if !begins_with_digit(first) {
-        return match keyword_form(first) {
-            Some(form) => form_misfit(form, row_of(first), line),
+        return match leading_row(first) {
+            Some(row) => row_misfit(row, line),
             None => Some(Misfit {
                 index: 0,
                 why: why_no_keyword(first),
@@ -239,8 +238,8 @@ fn line_misfit(line: &[u8]) -> Option<Misfit>
             why: Why::OwnerAlone,
         });
     };
-    match owned_form(word) {
-        Some(form) => form_misfit(form, row_of(word), line),
+    match owned_row(word) {
+        Some(row) => row_misfit(row, line),
         None => Some(Misfit {
             index: 1,
             why: why_no_owned_keyword(word),
@@ -279,10 +278,11 @@ fn header_misfit(line: &[u8]) -> Option<Misfit>
             why: why_no_heap(first),
         });
     }
-    if let Some(misfit) = count_misfit(header_form(), Row::Heap, line) {
+    let row = header_row();
+    if let Some(misfit) = count_misfit(row, line) {
         return Some(header_count(misfit));
     }
-    argument_misfit(header_form(), line)
+    argument_misfit(row.form, line)
 }
 
 /// A misfit in the number of parts, as one of the first line.

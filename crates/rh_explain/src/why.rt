@@ -4,8 +4,6 @@ ghost use Rattle.std.specs.Prelude.{◌≡◌};
 ghost use Rattle.rh_explain.specs.Explain.{class};
 
 use crate::expected::Expected;
-use crate::keyword::Keyword;
-use crate::row::Row;
 use rh_syntax::Kind;
 use std::fmt;
 
@@ -55,15 +53,15 @@ pub enum Why {
     /// The keyword of the first line, in a later one.
     HeapAgain,
     /// No keyword is this word, but this one is near.
-    Misspelled(Keyword),
+    Misspelled(&'static str),
     /// A keyword that stands after an owner begins the line.
-    OwnerMissing(Keyword),
+    OwnerMissing(&'static str),
     /// A keyword that begins its line stands after an owner.
-    OwnerSurplus(Keyword),
+    OwnerSurplus(&'static str),
     /// A line that is no command, in a run of commands.
     NotCommand,
-    /// A part is missing.
-    Missing(Expected, Row),
+    /// A part is missing, in a line of this row.
+    Missing(Expected, &'static str),
     /// A part is left after the last.
     Surplus,
     /// Neither `copies` nor `entries`.

@@ -1,7 +1,7 @@
 //! What is wrong at a place of a text.
 
 use crate::due::Due;
-use rh_explain::{Expected, Row, Why};
+use rh_explain::{Expected, Why};
 use std::fmt;
 
 /// What is wrong at a place of a text, and what may stand there. Each text is one sentence.
@@ -51,8 +51,8 @@ pub enum Told {
     NoCommand,
     /// No keyword is this word or near it, at the beginning of a call, after so many calls.
     UnknownCall(u32),
-    /// A part of a command is missing before `=`.
-    CommandShort(Expected, Row),
+    /// A part of a command is missing before `=`, in a line of this row.
+    CommandShort(Expected, &'static str),
     /// A part stands after a command where `=` is due.
     CommandLong,
     /// No answer stands after a command.

@@ -1,5 +1,5 @@
 -- Histories: the calls of a heap that were answered, with their answers, in order.
-use Rattle.std.specs.Prelude.{◌≡◌, ℕ, ◌≤◌, ⊤, false, List, [], ◌∷◌, ◌++◌, length, take, Result, Ok, Err}
+use Rattle.std.specs.Prelude.{◌≡◌, ℕ, ◌≤◌, ⊤, Bool, true, false, List, [], ◌∷◌, ◌++◌, length, take, Result, Ok, Err}
 use Rattle.std.specs.List.{AllByRecursion}
 use Rattle.rh_layout.specs.declared.command.Reply.{Reply}
 use Rattle.rh_layout.specs.declared.command.Reply.TheVariants.{Done, Nil, Int, Object, Raw, Same}
@@ -42,6 +42,11 @@ abbrev pub AnswerIsKept : Result Reply Refusal → Type 0
 AnswerIsKept (Ok reply) = ⊤
 AnswerIsKept (Err refusal) = is_limit refusal ≡ false
 
+-- an answer whose call is left out of histories: a refusal for a limit
+abbrev pub is_left_out : Result Reply Refusal → Bool
+is_left_out (Ok reply) = false
+is_left_out (Err refusal) = is_limit refusal
+
 -- a call whose numbers fit their types, and whose answer a history may have
 abbrev pub CallFits : Call → Type 0
 CallFits call = CommandFits call.owner call.command × AnswerFits call.answer
@@ -63,6 +68,11 @@ empty_history owners slots = record { owners = owners; slots = slots; calls = []
 -- one call more, after the others
 abbrev pub with_call : HistoryState → Call → HistoryState
 with_call h call = record h { calls = h.calls ++ call ∷ [] }
+
+-- one call more, unless it is left out
+abbrev pub noted_unless : Bool → HistoryState → Call → HistoryState
+noted_unless true history call = history
+noted_unless false history call = with_call history call
 
 -- the first calls of a history, so many of them
 abbrev pub first_calls : ℕ → HistoryState → HistoryState

@@ -1,7 +1,7 @@
 //! Recorders of histories.
 
-ghost use Rattle.std.specs.Prelude.{◌≡◌, ◌<◌, ◌≤◌, ◌↔◌, ◌⊎◌, IfOk, OnOk, OnErr, IsErr, Err, length};
-ghost use Rattle.rh_replay.specs.History.{empty_history, with_call, AnswerIsKept};
+ghost use Rattle.std.specs.Prelude.{◌≡◌, ◌<◌, ◌≤◌, ◌↔◌, ◌⊎◌, IfOk, OnOk, OnErr, IsErr, Err, length, not};
+ghost use Rattle.rh_replay.specs.History.{empty_history, is_left_out, noted_unless, with_call, AnswerIsKept};
 
 use crate::call::{Call, answer_fits, command_fits};
 use crate::history::History;
@@ -115,6 +115,24 @@ impl<A: Allocator + Copy> Recorder<A> {
         Ok(())
     }
 
+    /// Notes a call of an owner after the others, with its answer, unless that is a refusal for a
+    /// limit of the heap. Takes no memory.
+    pub fn note_unless_limited(
+        &mut self,
+        owner: u32,
+        command: &Command,
+        answer: Result<Reply, Refusal>,
+    )
+        requires { length self.old.history.calls < self.old.limit }
+        ensures history { self.new.history ≡ noted_unless (is_left_out answer) self.old.history
+            (record { owner = owner; command = command.now; answer = answer }) }
+        ensures limit { self.new.limit ≡ self.old.limit }
+    {
+        if is_noted(answer) {
+            self.note(owner, command, answer).unwrap();
+        }
+    }
+
     /// The calls that were noted, in order.
     pub fn history(&self) -> &History<A>
         ensures { result.now.contents ≡ self.now.history }
@@ -128,5 +146,15 @@ impl<A: Allocator + Copy> Recorder<A> {
         ensures few { length self.now.history.calls ≤ result }
     {
         self.limit
+    }
+}
+
+/// Whether a call that was answered so stands in histories.
+fn is_noted(answer: Result<Reply, Refusal>) -> bool
+    ensures { result ≡ not (is_left_out answer) }
+{
+    match answer {
+        Ok(_) => true,
+        Err(refusal) => !refusal.is_limit(),
     }
 }

@@ -2,7 +2,7 @@
 
 ghost use Rattle.std.specs.Prelude.{◌≡◌, false, OnOk, OnErr};
 ghost use Rattle.std.specs.Io.KnownBytes.{Appends};
-ghost use Rattle.rh_text.specs.IoLog.{AreSpent, AreSpentSince};
+ghost use Rattle.rh_text.specs.IoLog.{AreSpent, AreSpentSince, MadeSince};
 ghost use Rattle.rh_text.specs.Output.{AppendsLess};
 ghost use Rattle.rh_replay.specs.Report.{count_of, owner_line, verdict_line, report_text};
 ghost use Rattle.rh_replay.specs.Spelling.{header_line, call_line, end_line, spelling};
@@ -90,6 +90,8 @@ pub fn write_history_logged<A: Allocator, W: io::Write>(
     // Where it is refused and no write failed, at least 33,554,432 were made in this call, unless
     // the count of calls is full. That each text has its own is `send`'s to say.
     ensures spent { OnErr result (AreSpentSince writes.old writes.new) }
+    // No call that was counted is forgotten.
+    ensures counted { MadeSince 0 writes.old writes.new }
 {
     let mut text = LineText::new();
     put_header(&mut text, history.owners(), history.slots());

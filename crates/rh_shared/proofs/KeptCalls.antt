@@ -12,7 +12,7 @@ use Rattle.rh_mutator.specs.Mutator.{StandsFor}
 use Rattle.rh_core.specs.Heap.{HeapState}
 use Rattle.rh_core.specs.Commands.{heap_step}
 use Rattle.rh_replay.specs.declared.call.Call.{Call}
-use Rattle.rh_replay.specs.History.{HistoryState, RecorderState, empty_history, with_call}
+use Rattle.rh_replay.specs.History.{HistoryState, RecorderState, empty_history, noted_unless, with_call}
 use Rattle.rh_replay.specs.Legal.{IsLegal, replay}
 use Rattle.rh_shared.specs.declared.kept.CallError.{CallError}
 use Rattle.rh_shared.specs.declared.kept.CallError.TheVariants as call_errors
@@ -21,7 +21,7 @@ use Rattle.rh_collector.specs.Collector.{CollectorState, with_heap}
 use Rattle.rh_collector.specs.Collected.{IsCollected, most_units}
 use Rattle.rh_collector.specs.Increment.{increment, Meets, Met}
 use Rattle.rh_replay.proofs.Replays.{legal-with_call, replay-with_call}
-use Rattle.rh_shared.specs.Kept.{CallMeets, IsKept, KeptState, full_refusal, kept_call, kept_increment, noted_unless, refused_where, with_command, with_noted}
+use Rattle.rh_shared.specs.Kept.{CallMeets, IsKept, KeptState, full_refusal, kept_call, kept_increment, refused_where, with_command, with_noted}
 
 -- an answer that isn't a limit's is the plain heap's
 pub same_answer : (answer plain : Result Reply Refusal) → AnswersAs answer plain → is_limit_answer answer ≡ false → answer ≡ plain

@@ -26,11 +26,6 @@ pub record KeptState (A : Type 0) : Type 0 where
   pub recorder : RecorderState
   pub last : Did
 
--- a call is added to a history unless it was refused for a limit
-abbrev pub noted_unless : Bool → HistoryState → Call → HistoryState
-noted_unless true history call = history
-noted_unless false history call = with_call history call
-
 -- The recorded history is legal, and the heap stands for its replay.
 pub record IsKept (history : HistoryState) (h : HeapState) : Type 0 where
   pub legal : IsLegal history

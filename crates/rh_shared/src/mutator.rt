@@ -5,7 +5,7 @@ ghost use Rattle.rh_shared.specs.Start.{HasRoots};
 ghost use Rattle.rh_shared.specs.Shares.{first_mutators, with_answer};
 ghost use Rattle.rh_shared.specs.Answers.{AnswersUnderLock, ComesAfterHistory};
 
-use crate::kept::{CallError, is_full, note};
+use crate::kept::{CallError, is_full};
 use crate::shared_heap::SharedHeap;
 use crate::start::recorder_for;
 use rh_layout::limits::MAX_HISTORY_CALLS;
@@ -87,10 +87,13 @@ impl<A: Allocator + Copy> Mutator<A> {
         ensures { self.new ≡ with_answer self.old command.now answer }
     {
         match answer {
-            Ok(reply) => note(&mut self.share, self.owner, command, Ok(reply)),
+            Ok(reply) => self
+                .share
+                .note_unless_limited(self.owner, command, Ok(reply)),
             Err(CallError::TraceFull) => {}
             Err(CallError::Heap(refusal)) => {
-                note(&mut self.share, self.owner, command, Err(refusal));
+                self.share
+                    .note_unless_limited(self.owner, command, Err(refusal));
             }
         }
     }

@@ -85,6 +85,10 @@ command_text owner command = join_with_byte 32 (command_parts owner command)
 abbrev pub spell_command : ℕ → Command → List ℕ
 spell_command owner command = spell_parts (command_parts owner command)
 
+-- the text of a request's line, without its line end
+abbrev pub request_text : Request → List ℕ
+request_text request = join_with_byte 32 (request_parts request)
+
 -- the text of a request's line
 abbrev pub spell_request : Request → List ℕ
 spell_request request = spell_parts (request_parts request)

@@ -21,7 +21,7 @@ pub use lines::commands::{owned_command, put_command_text};
 pub use lines::single::{
     command_of, write_answer, write_answer_logged, write_command, write_command_logged,
 };
-pub use printing::{print, print_logged};
+pub use printing::{print, print_logged, put_request_text};
 pub use reading::{checked_parts, header_or_fault, request_or_fault};
 pub use request::Request;
 pub use trace::{Trace, parse};

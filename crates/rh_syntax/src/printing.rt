@@ -1,48 +1,56 @@
 //! A trace written as its text.
 
-ghost use Rattle.std.specs.Prelude.{◌≡◌, false, OnOk, OnErr};
+ghost use Rattle.std.specs.Prelude.{◌≡◌, ◌≤◌, [], ◌∷◌, ◌++◌, length, false, OnOk, OnErr};
 ghost use Rattle.std.specs.Io.KnownBytes.{Appends};
 ghost use Rattle.rh_text.specs.IoLog.{AreSpent, AreSpentSince};
 ghost use Rattle.rh_text.specs.Output.{AppendsLess};
-ghost use Rattle.rh_syntax.specs.Spelling.{spell_request, spelling};
+ghost use Rattle.rh_syntax.specs.Spelling.{request_text, spell_request, spelling};
 
-use crate::lines::commands::put_command;
+use crate::lines::commands::put_command_text;
 use crate::lines::header::put_header;
-use crate::lines::keywords::{
-    put_alone, put_deal_line, put_give_line, put_idle_line, put_join_line, put_resize_line,
-    put_shade_line,
-};
-use crate::lines::watching::{put_tickets_line, put_unwatch_line, put_watch_line};
+use crate::lines::keywords::{put_alone, put_deal, put_give, put_join, put_shade, put_with_number};
+use crate::lines::watching::put_watch;
 use crate::request::Request;
 use crate::trace::Trace;
 use rh_text::{IoLog, LineText, Write, send};
 use std::alloc::Allocator;
 use std::io;
 
-/// The text becomes that of the request's line.
-fn put_request(text: &mut LineText, request: &Request)
-    ensures { text.new ≡ spell_request request.now }
+/// The text becomes that of a request's line, without its line end.
+pub fn put_request_text(text: &mut LineText, request: &Request)
+    ensures value { text.new ≡ request_text request.now }
+    ensures len { length text.new ≤ 100 }
+    // The line is this text and its line end.
+    ensures line { spell_request request.now ≡ text.new ++ 10 ∷ [] }
 {
     match *request {
-        Request::Command { owner, ref command } => put_command(text, owner, command),
+        Request::Command { owner, ref command } => put_command_text(text, owner, command),
         Request::Begin => put_alone(text, b"begin"),
-        Request::Shade { root } => put_shade_line(text, root),
-        Request::Deal { kind, most, tray } => put_deal_line(text, kind, most, tray),
-        Request::Give { tray } => put_give_line(text, tray),
-        Request::Join { into, other } => put_join_line(text, into, other),
+        Request::Shade { root } => put_shade(text, root),
+        Request::Deal { kind, most, tray } => put_deal(text, kind, most, tray),
+        Request::Give { tray } => put_give(text, tray),
+        Request::Join { into, other } => put_join(text, into, other),
         Request::Flip => put_alone(text, b"flip"),
         Request::Recall => put_alone(text, b"recall"),
         Request::Abandon => put_alone(text, b"abandon"),
-        Request::Idle { words } => put_idle_line(text, words),
-        Request::Resize { words } => put_resize_line(text, words),
-        Request::Tickets { tickets } => put_tickets_line(text, tickets),
-        Request::Watch { owner, root } => put_watch_line(text, owner, root),
-        Request::Unwatch { ticket } => put_unwatch_line(text, ticket),
+        Request::Idle { words } => put_with_number(text, b"idle", words),
+        Request::Resize { words } => put_with_number(text, b"resize", words),
+        Request::Tickets { tickets } => put_with_number(text, b"tickets", tickets),
+        Request::Watch { owner, root } => put_watch(text, owner, root),
+        Request::Unwatch { ticket } => put_with_number(text, b"unwatch", ticket),
         Request::Gone => put_alone(text, b"gone"),
         Request::Trays => put_alone(text, b"trays"),
         Request::Stat => put_alone(text, b"stat"),
         Request::Dump => put_alone(text, b"dump"),
     }
+}
+
+/// The text becomes that of a request's line.
+fn put_request(text: &mut LineText, request: &Request)
+    ensures { text.new ≡ spell_request request.now }
+{
+    put_request_text(text, request);
+    text.put(b"\n");
 }
 
 /// Writes the text of a trace, one line in each write that the writer takes whole. It takes no

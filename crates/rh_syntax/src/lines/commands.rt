@@ -4,7 +4,7 @@ ghost use Rattle.std.specs.Prelude.{◌≡◌, ◌≤◌, length};
 ghost use Rattle.rh_layout.specs.declared.command.Command.TheVariants.{Alloc, Raw, Load, Store, Copy, Same, Drop};
 ghost use Rattle.rh_text.specs.Parts.{parts_left};
 ghost use Rattle.rh_syntax.specs.Reading.{read_alloc, read_raw, read_load, read_store, read_copy, read_same, read_drop, command_or_fault, owned_command};
-ghost use Rattle.rh_syntax.specs.Spelling.{command_text, spell_command};
+ghost use Rattle.rh_syntax.specs.Spelling.{command_text};
 
 use crate::fault::Kind;
 use crate::values::{number_or_fault, operand_or_fault, put_operand, root_or_fault};
@@ -279,12 +279,4 @@ pub fn put_command_text(text: &mut LineText, owner: u32, command: &Command)
         Command::Same { a, b } => put_same(text, owner, a, b),
         Command::Drop { root } => put_drop(text, owner, root),
     }
-}
-
-/// The text becomes the line of an owner's command.
-pub fn put_command(text: &mut LineText, owner: u32, command: &Command)
-    ensures { text.new ≡ spell_command owner command.now }
-{
-    put_command_text(text, owner, command);
-    text.put(b"\n");
 }

@@ -1,9 +1,10 @@
 //! Lines that begin with their keyword, read and spelled.
 
-ghost use Rattle.std.specs.Prelude.{◌≡◌, ◌+◌, ◌≤◌, [], ◌∷◌, ◌++◌, length};
-ghost use Rattle.rh_text.specs.Parts.{parts_left, spell_parts};
+ghost use Rattle.std.specs.Prelude.{◌≡◌, ◌+◌, ◌≤◌, [], ◌∷◌, ◌++◌, length, decimal};
+ghost use Rattle.std.specs.List.{join_with_byte};
+ghost use Rattle.rh_text.specs.Parts.{parts_left};
 ghost use Rattle.rh_syntax.specs.Reading.{tray_or_fault, kind_or_fault, alone, read_shade, read_deal, read_give, read_join, read_idle, read_resize, listing_request, keyword_request};
-ghost use Rattle.rh_syntax.specs.Spelling.{kind_text, spell_request};
+ghost use Rattle.rh_syntax.specs.Spelling.{kind_text, request_text};
 ghost use Rattle.rh_syntax.specs.declared.request.Request.TheVariants as requests;
 
 use crate::fault::Kind;
@@ -67,14 +68,25 @@ pub fn alone(rest: Option<&[u8]>, request: Request) -> Result<Request, Kind>
     }
 }
 
-/// The text becomes that of a line that is its keyword alone.
+/// The text becomes a keyword alone.
 pub fn put_alone(text: &mut LineText, keyword: &[u8])
-    requires { length keyword.now ≤ 255 }
-    ensures { text.new ≡ spell_parts (keyword.now ∷ []) }
+    requires { length keyword.now ≤ 100 }
+    ensures value { text.new ≡ keyword.now }
+    ensures len { length text.new ≤ 100 }
 {
     text.clear();
     text.put(keyword);
-    text.put(b"\n");
+}
+
+/// The text becomes a keyword and a number.
+pub fn put_with_number(text: &mut LineText, keyword: &[u8], number: u32)
+    requires { length keyword.now ≤ 50 }
+    ensures value { text.new ≡ join_with_byte 32 (keyword.now ∷ decimal number ∷ []) }
+    ensures len { length text.new ≤ 100 }
+{
+    text.clear();
+    text.put(keyword);
+    text.put_next_number(number);
 }
 
 /// `shade ROOT`, from what stands after the keyword.
@@ -90,13 +102,13 @@ fn read_shade(rest: Option<&[u8]>) -> Result<Request, Kind>
 }
 
 /// The text becomes that of a `shade` line.
-pub fn put_shade_line(text: &mut LineText, root: RootId)
-    ensures { text.new ≡ spell_request (requests.Shade root) }
+pub fn put_shade(text: &mut LineText, root: RootId)
+    ensures value { text.new ≡ request_text (requests.Shade root) }
+    ensures len { length text.new ≤ 100 }
 {
     text.clear();
     text.put(b"shade ");
     text.put_root(root);
-    text.put(b"\n");
 }
 
 /// `deal copies MOST TRAY` or `deal entries MOST TRAY`, from what stands after the keyword.
@@ -114,15 +126,15 @@ fn read_deal(rest: Option<&[u8]>) -> Result<Request, Kind>
 }
 
 /// The text becomes that of a `deal` line.
-pub fn put_deal_line(text: &mut LineText, kind: PieceKind, most: u32, tray: TrayName)
-    ensures { text.new ≡ spell_request (requests.Deal kind most tray) }
+pub fn put_deal(text: &mut LineText, kind: PieceKind, most: u32, tray: TrayName)
+    ensures value { text.new ≡ request_text (requests.Deal kind most tray) }
+    ensures len { length text.new ≤ 100 }
 {
     text.clear();
     text.put(b"deal ");
     put_kind(text, kind);
     text.put_next_number(most);
     put_next_tray(text, tray);
-    text.put(b"\n");
 }
 
 /// `give TRAY`, from what stands after the keyword.
@@ -138,13 +150,13 @@ fn read_give(rest: Option<&[u8]>) -> Result<Request, Kind>
 }
 
 /// The text becomes that of a `give` line.
-pub fn put_give_line(text: &mut LineText, tray: TrayName)
-    ensures { text.new ≡ spell_request (requests.Give tray) }
+pub fn put_give(text: &mut LineText, tray: TrayName)
+    ensures value { text.new ≡ request_text (requests.Give tray) }
+    ensures len { length text.new ≤ 100 }
 {
     text.clear();
     text.put(b"give");
     put_next_tray(text, tray);
-    text.put(b"\n");
 }
 
 /// `join TRAY TRAY`, from what stands after the keyword.
@@ -161,14 +173,14 @@ fn read_join(rest: Option<&[u8]>) -> Result<Request, Kind>
 }
 
 /// The text becomes that of a `join` line.
-pub fn put_join_line(text: &mut LineText, into: TrayName, other: TrayName)
-    ensures { text.new ≡ spell_request (requests.Join into other) }
+pub fn put_join(text: &mut LineText, into: TrayName, other: TrayName)
+    ensures value { text.new ≡ request_text (requests.Join into other) }
+    ensures len { length text.new ≤ 100 }
 {
     text.clear();
     text.put(b"join");
     put_next_tray(text, into);
     put_next_tray(text, other);
-    text.put(b"\n");
 }
 
 /// `idle N`, from what stands after the keyword.
@@ -183,16 +195,6 @@ fn read_idle(rest: Option<&[u8]>) -> Result<Request, Kind>
     Ok(Request::Idle { words })
 }
 
-/// The text becomes that of an `idle` line.
-pub fn put_idle_line(text: &mut LineText, words: u32)
-    ensures { text.new ≡ spell_request (requests.Idle words) }
-{
-    text.clear();
-    text.put(b"idle");
-    text.put_next_number(words);
-    text.put(b"\n");
-}
-
 /// `resize WORDS`, from what stands after the keyword.
 #[tactic(auto, unfolding(crate::specs::Reading::read_resize))]
 fn read_resize(rest: Option<&[u8]>) -> Result<Request, Kind>
@@ -203,16 +205,6 @@ fn read_resize(rest: Option<&[u8]>) -> Result<Request, Kind>
     };
     let words = number_or_fault(words)?;
     Ok(Request::Resize { words })
-}
-
-/// The text becomes that of a `resize` line.
-pub fn put_resize_line(text: &mut LineText, words: u32)
-    ensures { text.new ≡ spell_request (requests.Resize words) }
-{
-    text.clear();
-    text.put(b"resize");
-    text.put_next_number(words);
-    text.put(b"\n");
 }
 
 /// The request of a line that asks what is there, from what stands after its keyword.

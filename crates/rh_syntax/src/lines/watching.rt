@@ -1,9 +1,9 @@
 //! The lines of watches, read and spelled.
 
-ghost use Rattle.std.specs.Prelude.{◌≡◌};
+ghost use Rattle.std.specs.Prelude.{◌≡◌, ◌≤◌, length};
 ghost use Rattle.rh_text.specs.Parts.{parts_left};
 ghost use Rattle.rh_syntax.specs.Reading.{read_tickets, read_watch, read_unwatch, watching_request};
-ghost use Rattle.rh_syntax.specs.Spelling.{spell_request};
+ghost use Rattle.rh_syntax.specs.Spelling.{request_text};
 ghost use Rattle.rh_syntax.specs.declared.request.Request.TheVariants as requests;
 
 use crate::fault::Kind;
@@ -25,16 +25,6 @@ fn read_tickets(rest: Option<&[u8]>) -> Result<Request, Kind>
     Ok(Request::Tickets { tickets })
 }
 
-/// The text becomes that of a `tickets` line.
-pub fn put_tickets_line(text: &mut LineText, tickets: u32)
-    ensures { text.new ≡ spell_request (requests.Tickets tickets) }
-{
-    text.clear();
-    text.put(b"tickets");
-    text.put_next_number(tickets);
-    text.put(b"\n");
-}
-
 /// `OWNER watch ROOT`, from the owner and what stands after the keyword.
 #[tactic(auto, unfolding(crate::specs::Reading::read_watch))]
 pub fn read_watch(owner: &[u8], rest: Option<&[u8]>) -> Result<Request, Kind>
@@ -49,14 +39,14 @@ pub fn read_watch(owner: &[u8], rest: Option<&[u8]>) -> Result<Request, Kind>
 }
 
 /// The text becomes that of a `watch` line.
-pub fn put_watch_line(text: &mut LineText, owner: u32, root: RootId)
-    ensures { text.new ≡ spell_request (requests.Watch owner root) }
+pub fn put_watch(text: &mut LineText, owner: u32, root: RootId)
+    ensures value { text.new ≡ request_text (requests.Watch owner root) }
+    ensures len { length text.new ≤ 100 }
 {
     text.clear();
     text.put_integer(owner);
     text.put(b" watch ");
     text.put_root(root);
-    text.put(b"\n");
 }
 
 /// `unwatch T`, from what stands after the keyword.
@@ -69,16 +59,6 @@ fn read_unwatch(rest: Option<&[u8]>) -> Result<Request, Kind>
     };
     let ticket = number_or_fault(ticket)?;
     Ok(Request::Unwatch { ticket })
-}
-
-/// The text becomes that of an `unwatch` line.
-pub fn put_unwatch_line(text: &mut LineText, ticket: u32)
-    ensures { text.new ≡ spell_request (requests.Unwatch ticket) }
-{
-    text.clear();
-    text.put(b"unwatch");
-    text.put_next_number(ticket);
-    text.put(b"\n");
 }
 
 /// The request of a line of watches that begins with its keyword, or else of one that asks what is

@@ -28,14 +28,14 @@ returns-then-not-is_text-clause-place c =
 
 pub returns-in-Some-count_misfit-clause-judged : goal.returns-in-Some-count_misfit-clause-judged
 returns-in-Some-count_misfit-clause-judged c =
-    let six = sym (length-map c.header_form.result.now sort_of) ∙ ap length c.header_form.ensures in
+    let six = sym (length-map c.header_row-row.result.form.now sort_of) ∙ ap length c.header_row-row.ensures in
     let parts = parts_of c.args.line.now in
     header_count_line parts c.in-Some-count_misfit.misfit.index (class c.header_count.result.why) (subst (λ (n : ℕ). IsMiscounted n (length parts) c.in-Some-count_misfit.misfit.index) six c.in-Some-count_misfit.ensures.0) c.header_count.ensures.class
 
 pub returns-in-Some-count_misfit-clause-place : goal.returns-in-Some-count_misfit-clause-place
 returns-in-Some-count_misfit-clause-place c =
     let is = first_is _ _ c.in-Some.ensures in
-    let six = sym (length-map c.header_form.result.now sort_of) ∙ ap length c.header_form.ensures in
+    let six = sym (length-map c.header_row-row.result.form.now sort_of) ∙ ap length c.header_row-row.ensures in
     let parts = parts_of c.args.line.now in
     rw c.header_count.ensures.index
     (header_count_place parts c.in-Some.first.now (parts_left c.in-Some.field-0-1) c.in-Some-count_misfit.misfit.index (class c.header_count.result.why) is (sym c.is_text.ensures ∙ c.if-not-is_text.false)
@@ -46,11 +46,11 @@ returns-clause-judged c =
     let is = first_is _ _ c.in-Some.ensures in
     let parts = parts_of c.args.line.now in
     let read = misfit_verdict c.argument_misfit.result in
-    let count = c.in_default-count_misfit.ensures ∙ sym (length-map c.header_form.result.now sort_of) ∙ ap length c.header_form.ensures in
-    let judged = misfit_judged (map sort_of c.header_form-2.result.now) parts c.argument_misfit.result c.argument_misfit.ensures in
-    header_line parts c.in-Some.first.now (parts_left c.in-Some.field-0-1) read is (sym c.is_text.ensures ∙ c.if-not-is_text.false) count (subst (λ (sorts : List Sort). Judges (each_part sorts parts) read) c.header_form-2.ensures judged)
+    let count = c.in_default-count_misfit.ensures ∙ sym (length-map c.header_row-row.result.form.now sort_of) ∙ ap length c.header_row-row.ensures in
+    let judged = misfit_judged (map sort_of c.header_row-row.result.form.now) parts c.argument_misfit.result c.argument_misfit.ensures in
+    header_line parts c.in-Some.first.now (parts_left c.in-Some.field-0-1) read is (sym c.is_text.ensures ∙ c.if-not-is_text.false) count (subst (λ (sorts : List Sort). Judges (each_part sorts parts) read) c.header_row-row.ensures judged)
 
 pub returns-clause-place : goal.returns-clause-place
 returns-clause-place c =
     let is = first_is _ _ c.in-Some.ensures in
-    header_found (parts_of c.args.line.now) c.in-Some.first.now (parts_left c.in-Some.field-0-1) (map sort_of c.header_form-2.result.now) c.argument_misfit.result is (sym c.is_text.ensures ∙ c.if-not-is_text.false) c.header_form-2.ensures c.argument_misfit.ensures
+    header_found (parts_of c.args.line.now) c.in-Some.first.now (parts_left c.in-Some.field-0-1) (map sort_of c.header_row-row.result.form.now) c.argument_misfit.result is (sym c.is_text.ensures ∙ c.if-not-is_text.false) c.header_row-row.ensures c.argument_misfit.ensures

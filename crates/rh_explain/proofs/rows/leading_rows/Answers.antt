@@ -1,0 +1,5 @@
+use Rattle.std.proofs.Common.{refl}
+use Rattle.rh_explain.proofs.rows.leading_rows.Goals as goal
+
+pub returns : goal.returns
+returns c = refl
