@@ -14,3 +14,8 @@ pub mod WatchedHeaps
 pub mod TraysInOrder
 pub mod HeapDump
 pub mod OneTotal
+pub mod LinesInTurn
+pub mod EitherText
+pub mod EngineLines
+pub mod WaysInTurn
+pub mod FixedRuns

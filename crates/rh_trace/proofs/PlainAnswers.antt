@@ -37,6 +37,10 @@ use Rattle.rh_trace.specs.Answers as answers
 use Rattle.rh_trace.specs.Answers.{Answered, answered_text, total_line}
 use Rattle.rh_trace.specs.Run.{config_of, request_step, answers_to, new_run, answers_of, summary_of, output_of, run_of_script, run_of_trace, text_of, StopsBeforeTotal, Ends, IsPlainAnswer, plain_after, AreTransparent, IsPlainRun}
 use Rattle.rh_syntax.specs.lemmas.ReadIsSpelled.{trace_of-means}
+use Rattle.rh_core.proofs.runs.NewHeaps.{new-well_formed}
+use Rattle.rh_trace.specs.Fixed.{EngineSteps, IsFixedRun}
+use Rattle.rh_trace.specs.Lines.{Runs, Seen, answers_in}
+use Rattle.rh_trace.proofs.EngineLines.{answers_of_runs}
 use Rattle.rh_trace.proofs.ResizedHeaps.{resize-well_formed, resize-stands}
 use Rattle.rh_trace.proofs.WatchedHeaps.{watched-well_formed, watched-stands}
 
@@ -57,10 +61,6 @@ abbrev pub Steps : Type 0 → Type 0
 Steps A = (h : HeapState) → IsWellFormed h → (p : PlainHeap) → StandsFor h.mutators p → (event : Event A)
     → events.IsPlainAnswer p event (event_step h event).1
     × StandsFor (event_step h event).0.mutators (events.plain_after p event (event_step h event).1)
-
--- the heap that a trace begins with, where its sizes have no fault
-abbrev pub IsBegun : List ℕ → Type 0
-IsBegun input = (script : Script) → trace_of input ≡ Ok script → fault_of (config_of script.header) ≡ None → IsWellFormed (new_heap (config_of script.header))
 
 -- a well-formed heap that stands for a plain heap
 abbrev IsPlain : HeapState → PlainHeap → Type 0
@@ -133,14 +133,27 @@ module _ {A : Type 0} (keeps : StaysWellFormed A) (steps : Steps A) where
     answers-transparent dumps others (request_step e request).0 (plain_after p request (request_step e request).1) (request-plain request e p plain),
   )
 
+  -- requests that are played on a new heap are answered as a plain heap that begins empty does
+  pub new_run-transparent : Begins → Dumps → (script : Script) (requests : List Request) → fault_of (config_of script.header) ≡ None → AreTransparent (empty_plain script.header.owners script.header.slots) requests (answers_to (new_run script) requests)
+  new_run-transparent begins dumps script requests good =
+      let config = config_of script.header in
+      answers-transparent dumps requests (new_run script) (empty_plain script.header.owners script.header.slots) (new-well_formed config good, begins config)
+
+  -- so are those of which this is seen
+  pub fixed-transparent : Begins → Dumps → (script : Script) (s : EngineState) → IsFixedRun script s → (requests : List Request) (seen : List (Seen EngineState)) → Runs EngineSteps 2 s requests seen → AreTransparent (empty_plain script.header.owners script.header.slots) requests (answers_in seen)
+  fixed-transparent begins dumps script s fit requests seen runs =
+      let plain = empty_plain script.header.owners script.header.slots in
+      subst (AreTransparent plain requests) (ap (λ (e : EngineState). answers_to e requests) (sym fit.1) ∙ sym (answers_of_runs 2 s requests seen runs))
+      (new_run-transparent begins dumps script requests fit.0)
+
   -- a trace that was read, with its answers
-  pub plain_run : Begins → Dumps → (input : List ℕ) (script : Script) (old new : Option (List ℕ)) → Consumes old new input → trace_of input ≡ Ok script → IsWellFormed (new_heap (config_of script.header)) → IsPlainRun script (answers_of script) old new
-  plain_run begins dumps input script old new consumed is fine =
+  pub plain_run : Begins → Dumps → (input : List ℕ) (script : Script) (old new : Option (List ℕ)) → Consumes old new input → trace_of input ≡ Ok script → fault_of (config_of script.header) ≡ None → IsPlainRun script (answers_of script) old new
+  plain_run begins dumps input script old new consumed is good =
       let takes = trace_of-means input script is in
       record {
         fits = takes.0;
         read = subst (Consumes old new) takes.1 consumed;
-        answered = answers-transparent dumps script.requests (new_run script) (empty_plain script.header.owners script.header.slots) (fine, begins (config_of script.header));
+        answered = new_run-transparent begins dumps script script.requests good;
       }
 
 -- ---- from what a run was to give to the trace that was read
@@ -168,14 +181,6 @@ run_is_due : (due : Result (List ℕ × Summary) RunFault) (prefix rest : List �
 run_is_due (Ok run) prefix rest e some = (run, refl)
 run_is_due (Err fault) prefix rest e some = absurd (omega (arith, ap length e, length-append prefix rest, some))
 
--- the heap was made, unless memory for it was refused and nothing was written
-abbrev pub IsBegunOr : List ℕ → Result Summary RunFault → Option (List ℕ) → Option (List ℕ) → Type 0
-IsBegunOr input result old new = (IsErrOf result faults.OutOfMemory × Keeps old new) ⊎ IsBegun input
-
-begun_unless : (input : List ℕ) (result : Result Summary RunFault) (old new : Option (List ℕ)) → IsBegunOr input result old new → ¬ IsErrOf result faults.OutOfMemory → IsBegun input
-begun_unless input result old new (inl refused) other = absurd (other refused.0)
-begun_unless input result old new (inr begun) other = begun
-
 -- a text was to be written, and nothing of its total line was
 abbrev IsStopped : Result (List ℕ × Summary) RunFault → Option (List ℕ) → Option (List ℕ) → Type 0
 IsStopped due old new = (run : List ℕ × Summary) × (due ≡ Ok run) × StopsBeforeTotal (Ok run) old new
@@ -194,36 +199,32 @@ abbrev pub IsPlainStop : Option (List ℕ) → Option (List ℕ) → Option (Lis
 IsPlainStop from to old new = (script : Script) × (answers : List Answered) × IsPlainRun script answers from to × AppendsPrefix old new (flat_map answered_text answers)
 
 module _ {A : Type 0} (keeps : StaysWellFormed A) (steps : Steps A) (begins : Begins) (dumps : Dumps) (input : List ℕ) (from to old new : Option (List ℕ)) (consumed : Consumes from to input) where
-  pub plain : (result : Result Summary RunFault) → IsBegunOr input result old new → Ends (run_of_trace (trace_of input)) result old new
+  pub plain : (result : Result Summary RunFault) → Ends (run_of_trace (trace_of input)) result old new
       → IfOk result (λ summary. (script : Script) × (answers : List Answered) × IsPlainRun script answers from to × (summary ≡ summary_of answers) × Appends old new (output_of answers))
-  plain (Err fault) begun ends = tt
-  plain (Ok summary) begun ends =
+  plain (Err fault) ends = tt
+  plain (Ok summary) ends =
       let due = run_of_trace (trace_of input) in
       let ran = run_ok (trace_of input) (text_of due, summary) ends.0 in
-      let fine = begun_unless input (Ok summary) old new begun (λ same. cc) ran.script ran.is ran.faultless in
-      (ran.script, answers_of ran.script, plain_run keeps steps begins dumps input ran.script from to consumed ran.is fine, ran.summary, subst (Appends old new) ran.text ends.1)
+      (ran.script, answers_of ran.script, plain_run keeps steps begins dumps input ran.script from to consumed ran.is ran.faultless, ran.summary, subst (Appends old new) ran.text ends.1)
 
-  pub plain_prefix : (result : Result Summary RunFault) → IsBegunOr input result old new → Ends (run_of_trace (trace_of input)) result old new → IsErrOf result faults.Write → IsPlainCut from to old new
-  plain_prefix result begun ends failed =
+  pub plain_prefix : (result : Result Summary RunFault) → Ends (run_of_trace (trace_of input)) result old new → IsErrOf result faults.Write → IsPlainCut from to old new
+  plain_prefix result ends failed =
       let due = run_of_trace (trace_of input) in
       let less : AppendsLess old new (text_of due) = subst (λ (r : Result Summary RunFault). Ends due r old new) failed ends in
       let some = run_is_due due less.0 less.1 less.2 less.3 in
       let ran = run_ok (trace_of input) some.0 some.1 in
-      let fine = begun_unless input result old new begun (λ same. absurd cc) ran.script ran.is ran.faultless in
-      (ran.script, answers_of ran.script, plain_run keeps steps begins dumps input ran.script from to consumed ran.is fine, subst (AppendsLess old new) (ap text_of some.1 ∙ ran.text) less)
+      (ran.script, answers_of ran.script, plain_run keeps steps begins dumps input ran.script from to consumed ran.is ran.faultless, subst (AppendsLess old new) (ap text_of some.1 ∙ ran.text) less)
 
-  stop_is_plain : IsBegun input → Keeps old new ⊎ IsStopped (run_of_trace (trace_of input)) old new → Keeps old new ⊎ IsPlainStop from to old new
-  stop_is_plain begun (inl kept) = inl kept
-  stop_is_plain begun (inr stopped) =
+  stop_is_plain : Keeps old new ⊎ IsStopped (run_of_trace (trace_of input)) old new → Keeps old new ⊎ IsPlainStop from to old new
+  stop_is_plain (inl kept) = inl kept
+  stop_is_plain (inr stopped) =
       let ran = run_ok (trace_of input) stopped.0 stopped.1 in
-      let fine = begun ran.script ran.is ran.faultless in
       let answers = answers_of ran.script in
       let text = flat_map answered_text answers in
       let same : stopped.2.0 ≡ text = append_cancel_right stopped.2.0 text (total_line (summary_of answers)) (ap (λ (s : Summary). stopped.2.0 ++ total_line s) (sym ran.summary) ∙ sym stopped.2.1 ∙ ran.text) in
-      inr (ran.script, answers, plain_run keeps steps begins dumps input ran.script from to consumed ran.is fine, subst (AppendsPrefix old new) same stopped.2.2)
+      inr (ran.script, answers, plain_run keeps steps begins dumps input ran.script from to consumed ran.is ran.faultless, subst (AppendsPrefix old new) same stopped.2.2)
 
-  pub plain_memory : (result : Result Summary RunFault) → IsBegunOr input result old new → Ends (run_of_trace (trace_of input)) result old new → IsErrOf result faults.OutOfMemory → Keeps old new ⊎ IsPlainStop from to old new
-  plain_memory result (inl refused) ends failed = inl refused.1
-  plain_memory result (inr begun) ends failed =
+  pub plain_memory : (result : Result Summary RunFault) → Ends (run_of_trace (trace_of input)) result old new → IsErrOf result faults.OutOfMemory → Keeps old new ⊎ IsPlainStop from to old new
+  plain_memory result ends failed =
       let due = run_of_trace (trace_of input) in
-      stop_is_plain begun (stops due old new (subst (λ (r : Result Summary RunFault). Ends due r old new) failed ends))
+      stop_is_plain (stops due old new (subst (λ (r : Result Summary RunFault). Ends due r old new) failed ends))

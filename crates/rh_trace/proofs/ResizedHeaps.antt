@@ -1,5 +1,5 @@
 -- A heap whose spaces get other sizes stays what it is.
-use Rattle.std.proofs.Common.{◌≡◌, ℕ, suc, ◌<◌, ◌≤◌, List, arith}
+use Rattle.std.proofs.Common.{ℕ, suc, ◌<◌, ◌≤◌, List, arith}
 use Rattle.std.proofs.Math.Nat.{lt_of_not-le}
 use Rattle.rh_layout.specs.declared.item.Item.{Item}
 use Rattle.rh_model.specs.Plain.{PlainHeap}

@@ -45,9 +45,5 @@ pub stopped_at : {T : Type 0} (X Y : Type 0) (stop : Stop) (a b c : Option (List
 stopped_at X Y stop a b c f xs i d lt p q =
     stopped_within X Y stop a b c (flat_map f (take i xs)) (f (get_or xs i d)) (flat_map f (drop (i + 1) xs) ++ []) (flat_map f xs) (sym (append-nil (flat_map f xs)) ∙ around f xs i d [] lt) p q
 
--- how writing ended, where it is known
-pub stopped : (X : Type 0) (r : Result X Stop) (stop : Stop) (text : List ℕ) (a b : Option (List ℕ)) → r ≡ Err stop → Writes text r a b → AppendsLess a b text
-stopped X r stop text a b is written = subst (λ (q : Result X Stop). Writes text q a b) is written
-
 pub ok_no_error : {A E : Type 0} (x : A) (e : E) → ◌≡◌ {A = Result A E} (Ok x) (Err e) → ⊥
 ok_no_error x e same = cc

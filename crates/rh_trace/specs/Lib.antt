@@ -8,7 +8,12 @@ pub use Rattle.rh_syntax.specs.CommandAnswers
 pub use Rattle.rh_engine.specs.Trays
 pub use Rattle.rh_engine.specs.Engine
 pub use Rattle.rh_engine.specs.CycleAnswers
+pub mod Either
 pub mod HeapDump
 pub mod Events
 pub mod Answers
+pub mod Answering
 pub mod Run
+pub mod Lines
+pub mod Ways
+pub mod Fixed

@@ -1,20 +1,40 @@
-//! Runs of traces: the lines of a trace, one after the other on an engine, what is answered to
-//! each, and what a run adds up to. The names of the trace language and of the engine are handed
-//! on.
+//! Runs of traces: a way makes what the lines of a trace are played on, they are played one after
+//! the other, and a listener is handed each with its answer. The names of the trace language and of
+//! the engine are handed on.
 #![tactic(auto)]
 
+mod answer;
 mod answers;
+mod both;
+mod by_way;
+mod fixed;
 mod heap_dump;
 pub mod laws;
+mod lines;
+mod listener;
+mod player;
 mod playing;
+mod quiet;
+mod reading;
 mod run_fault;
 mod running;
 mod stop;
 mod summary;
+mod way;
+mod way_fault;
 
-pub use answers::put_total;
+pub use answer::Answer;
+pub use answers::{Answers, put_total};
+pub use both::{Both, Pair};
+pub use by_way::{run, run_bytes};
+pub use fixed::{Fixed, fixed_fault};
 pub use heap_dump::graph;
+pub use lines::run_lines;
+pub use listener::Listener;
+pub use player::Player;
 pub use playing::play_request;
+pub use quiet::Quiet;
+pub use reading::read_trace;
 pub use rh_engine::{
     DealRefusal, Engine, GiveRefusal, JoinRefusal, ResizeRefusal, TicketsRefusal, TrayDeal, Trays,
 };
@@ -25,6 +45,8 @@ pub use rh_syntax::{
 };
 pub use rh_text::Write;
 pub use run_fault::RunFault;
-pub use running::{config_of, run_bytes, run_trace, run_trace_logged};
+pub use running::{config_of, run_trace};
 pub use stop::Stop;
 pub use summary::Summary;
+pub use way::Way;
+pub use way_fault::{NoFault, Unprepared, WayFault};
