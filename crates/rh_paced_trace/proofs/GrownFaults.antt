@@ -1,5 +1,5 @@
 -- Why there is no heap for a growing run.
-use Rattle.std.proofs.Common.{◌≡◌, ℕ, Bool, true, false, List, Option, Some, None, Result, Ok, Err, refl, sym, ap, subst, ◌∙◌}
+use Rattle.std.proofs.Common.{◌≡◌, ℕ, Bool, true, false, Option, Some, None, Result, Ok, Err, refl, sym, ap, subst, ◌∙◌}
 use Rattle.std.specs.Prelude.{◌≢◌, ◌↔◌, nat_le, nat_lt, ◌&&◌, not, if◌then◌else◌}
 use Rattle.std.proofs.lemmas.Bool.{and_from, le-leb}
 use Rattle.std.proofs.lemmas.Option.{none-some}
@@ -8,7 +8,6 @@ use Rattle.rh_mutator.specs.declared.config.ConfigFault.{ConfigFault}
 use Rattle.rh_mutator.specs.declared.config.ConfigFault.TheVariants.{BadSpace, BadRatio, BadRoots, BadLog}
 use Rattle.rh_mutator.specs.Config.{fault_of, is_within}
 use Rattle.rh_pace.specs.declared.errors.PaceError.TheVariants.{RatioTooLow, TooSmall}
-use Rattle.rh_text.specs.lemmas.Appends.{Keeps-same}
 use Rattle.rh_syntax.specs.Spelling.{Script}
 use Rattle.rh_trace.specs.Run.{config_of}
 use Rattle.rh_core.specs.declared.errors.HeapError.TheVariants as heap_errors
@@ -18,10 +17,7 @@ use Rattle.rh_growing.specs.declared.growth.Growth.{Growth}
 use Rattle.rh_growing.specs.Growth.{IsGrowth, config_at, fault_by_config, fault_of_growth, least_words, limits_fault, pace_at, pace_fault}
 use Rattle.rh_growing.proofs.Grown.{log_limit-within}
 use Rattle.rh_growing.proofs.Made.{faultless-growth}
-use Rattle.rh_paced_trace.specs.declared.fault.PacedFault.{PacedFault}
-use Rattle.rh_paced_trace.specs.declared.fault.PacedFault.TheVariants as faults
-use Rattle.rh_paced_trace.specs.Growing.{EndsGrowing, IsGrowthFault, growth_of}
-use Rattle.rh_paced_trace.specs.Run.{IsCommandTrace}
+use Rattle.rh_paced_trace.specs.Growing.{growth_of}
 
 -- a configuration whose sizes are in range, but perhaps its log
 abbrev fault_by : Bool → Bool → Bool → Bool → Option ConfigFault
@@ -89,19 +85,3 @@ grows-made g usual sizes heap made is faults =
     faultless-growth g (faultless_by (fault_of_growth g) (λ why has.
     let told = (faults why (of-heap why (of-growth g usual sizes why has))).1 has in
     absurd (cc)))
-
--- A run for whose heap there is no such growth ends so, with nothing written.
-pub ends-ungrown : (at_most : ℕ) (input : List ℕ) (script : Script) (fault : PacedFault) (old : Option (List ℕ)) → IsCommandTrace input script → fault_of (config_of script.header) ≡ None
-    → IsGrowthFault (growth_of script at_most) fault → EndsGrowing at_most input (Err fault) old old
-ends-ungrown at_most input script faults.Limits old trace sizes is = (script, trace, sizes, is, Keeps-same old)
-ends-ungrown at_most input script (faults.Pace why) old trace sizes is = (script, trace, sizes, is, Keeps-same old)
-ends-ungrown at_most input script faults.OutOfMemory old trace sizes is = Keeps-same old
-ends-ungrown at_most input script faults.Read old trace sizes is = absurd is
-ends-ungrown at_most input script faults.Long old trace sizes is = absurd is
-ends-ungrown at_most input script (faults.Trace fault) old trace sizes is = absurd is
-ends-ungrown at_most input script (faults.New fault) old trace sizes is = absurd is
-ends-ungrown at_most input script faults.Write old trace sizes is = absurd is
-
--- That isn't a failed read.
-pub ungrown-unread : {T : Type 0} (growth : Growth) (fault : PacedFault) → IsGrowthFault growth fault → (let r : Result T PacedFault = Err fault in r ≡ Err faults.Read) → ⊥
-ungrown-unread growth fault is told = let same : fault ≡ faults.Read = cc in subst (IsGrowthFault growth) same is

@@ -1,7 +1,8 @@
 pub mod CollectorWork
 pub mod PlainAnswers
-pub mod InTurn
 pub mod Played
+pub mod CommandLines
+pub mod WayEnds
 pub mod Fillings
 pub mod TraceLines
 pub mod Epochs

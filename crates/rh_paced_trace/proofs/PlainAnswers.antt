@@ -141,11 +141,16 @@ module _ {A : Type 0} (laws : PlainLaws A) where
   abbrev answers_of : Script → Pace → CommandAnswers
   answers_of script pace = paced_replies (new_run script pace) (commands_in script.requests)
 
+  -- so is what a run is answered to any commands
+  pub started_plainly : (script : Script) → fault_of (config_of script.header) ≡ None → (pace : Pace) (commands : Commands)
+      → AreTransparent (empty_plain script.header.owners script.header.slots) commands (paced_replies (new_run script pace) commands)
+  started_plainly script sizes pace commands =
+      let c = config_of script.header in
+      transparent commands (new_run script pace) (empty_plain script.header.owners script.header.slots) (laws.new c sizes, laws.begins c)
+
   pub answered_plainly : (script : Script) → fault_of (config_of script.header) ≡ None → (pace : Pace)
       → AreTransparent (empty_plain script.header.owners script.header.slots) (commands_in script.requests) (answers_of script pace)
-  answered_plainly script sizes pace =
-      let c = config_of script.header in
-      transparent (commands_in script.requests) (new_run script pace) (empty_plain script.header.owners script.header.slots) (laws.new c sizes, laws.begins c)
+  answered_plainly script sizes pace = started_plainly script sizes pace (commands_in script.requests)
 
   -- so two runs at any paces are answered alike, where no limit refused
   pub unseen : (script : Script) → fault_of (config_of script.header) ≡ None → (first second : Pace)

@@ -53,7 +53,7 @@ paced_of s = s.paced
 abbrev pub at_first : (ℕ → ℕ → Bool) → ℕ → Bool
 at_first given i = given i 0
 
-replies-aided : (given : ℕ → ℕ → Bool) (s : GrowingState) (commands : Commands) → replies_by aided_step given s commands ≡ growing_replies (at_first given) s commands
+pub replies-aided : (given : ℕ → ℕ → Bool) (s : GrowingState) (commands : Commands) → replies_by aided_step given s commands ≡ growing_replies (at_first given) s commands
 replies-aided given s [] = refl
 replies-aided given s (owned ∷ others) =
     let done = growing_step (given 0 0) s owned.0 owned.1 in

@@ -146,3 +146,7 @@ asked_at_most (Some made) = omega arith
 pub biggest_at_most : (commands : Commands) → biggest_of commands ≤ 4097
 biggest_at_most [] = omega arith
 biggest_at_most (owned ∷ others) = omega (arith, asked_at_most (made_by owned.1), biggest_at_most others)
+
+pub biggest-least : (commands : Commands) → 2 ≤ biggest_of commands
+biggest-least [] = omega arith
+biggest-least (owned ∷ others) = omega (arith, biggest-least others)

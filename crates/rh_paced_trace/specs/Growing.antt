@@ -99,15 +99,6 @@ EndsGrowing at_most input (Err (faults.Pace why)) old new =
 EndsGrowing at_most input (Err faults.Read) old new = Keeps old new
 EndsGrowing at_most input (Err faults.OutOfMemory) old new = Keeps old new
 
--- why there is no heap that grows so: a fault of its limits or of its pace, or memory was refused
-abbrev pub IsGrowthFault : Growth → PacedFault → Type 0
-IsGrowthFault growth faults.Limits =
-    fault_of_growth growth ≡ Some growing_errors.BadLimits
-IsGrowthFault growth (faults.Pace why) =
-    fault_of_growth growth ≡ Some (growing_errors.Pace why)
-IsGrowthFault growth faults.OutOfMemory = Unit {0}
-IsGrowthFault growth fault = ⊥
-
 -- Laws.
 
 -- Each command that is refused for room comes where the heap has too few words, or where its epochs

@@ -37,3 +37,13 @@ pub enum PacedFault {
     #[error("out of memory")]
     OutOfMemory,
 }
+
+/// Why no heap collects by itself at the sizes of a trace, or grows from them.
+#[derive(Clone, Copy, Debug, PartialEq, Eq)]
+pub enum Unpaced {
+    /// Of a growing run alone: the most words of its heap are fewer than the words of the first
+    /// line, or more than 16,777,216.
+    Limits,
+    /// No pace keeps up in that heap with what the trace asks for, and no mark was asked for.
+    Pace(PaceError),
+}

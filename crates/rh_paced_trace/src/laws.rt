@@ -31,6 +31,7 @@ ghost use Rattle.rh_paced_trace.specs.Run.{IsRun, new_run, sum_of, summary_to, t
 ghost use Rattle.rh_paced_trace.specs.Worked.{queue_script};
 
 pub mod growing;
+pub mod ways;
 
 use rh_core::laws::cycles::{
     a_cycle_begins_with_nothing_placed, a_flip_ends_the_cycle,

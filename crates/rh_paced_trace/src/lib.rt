@@ -1,19 +1,20 @@
 //! Paced runs: traces of commands alone, run on a heap that collects by itself. And growing runs,
-//! on one that grows by itself too.
+//! on one that grows by itself too. `rh_trace::run` runs a trace by the way `Paced` or `Growing`.
 #![tactic(auto)]
 
+mod commanded;
 mod fault;
-mod growing;
 pub mod laws;
 mod lines;
+mod outcome;
 mod pacing;
-mod playing;
-mod running;
+mod ways;
 
-pub use fault::PacedFault;
-pub use growing::{growth_of, new_heap, run_growing, run_growing_logged};
+pub use commanded::Commanded;
+pub use fault::{PacedFault, Unpaced};
 pub use lines::other_fault;
-pub use pacing::pace_of;
+pub use outcome::told;
+pub use pacing::{growth_of, pace_of};
 pub use rh_pace::{Pace, PaceError};
 pub use rh_trace::Summary;
-pub use running::{run_bytes, run_paced, run_paced_logged};
+pub use ways::{Growing, Paced};

@@ -1,8 +1,11 @@
-//! The pace of a run.
+//! The pace of a run, and how its heap grows.
 
+ghost use Rattle.std.specs.Prelude.{◌≡◌};
+ghost use Rattle.rh_paced_trace.specs.Growing.{growth_of as growth_of_script};
 ghost use Rattle.rh_paced_trace.specs.Pacing.{IsPaceOf};
 
 use crate::lines::biggest_of;
+use rh_growing::{DEFAULT_FACTOR, Growth};
 use rh_pace::{Pace, PaceError};
 use rh_syntax::{Header, Request};
 
@@ -18,5 +21,24 @@ pub fn pace_of(header: Header, requests: &[Request], mark: Option<u32>) -> Resul
             log_limit: header.log,
         }),
         None => Pace::filling(header.words, biggest_of(requests), header.ratio),
+    }
+}
+
+/// How the heap of a run grows: from the words of the first line to so many, for the biggest object
+/// that the requests ask for.
+pub fn growth_of(header: Header, requests: &[Request], at_most: u32) -> Growth
+    ensures { result ≡ growth_of_script (record {
+      header = header;
+      requests = requests.now;
+    }) at_most }
+{
+    Growth {
+        at_least: header.words,
+        at_most,
+        factor: DEFAULT_FACTOR,
+        biggest: biggest_of(requests),
+        ratio: header.ratio,
+        owners: header.owners,
+        slots: header.slots,
     }
 }

@@ -16,15 +16,19 @@ use rh_core::laws::runs::{
     a_new_heap_is_well_formed, an_event_answers_as_the_plain_heap,
     every_event_keeps_a_heap_well_formed,
 };
-use rh_paced_trace::{PacedFault, run_bytes};
+use rh_paced_trace::laws::ways::a_paced_run_ends_as_its_input_says;
+use rh_paced_trace::{Paced, PacedFault, told};
+use rh_text::IoLog;
+use rh_trace::{Answers, Summary, run_bytes};
 use std::alloc::Global;
 
-/// Runs a trace of commands alone on a new heap that collects by itself, as `run_bytes` does, and
-/// puts the text that it writes, a line for each answer and the total line, at the front of
-/// `answers`; `length` is how many bytes the text has. The status is 0 then. Otherwise `answers` is
-/// as before: with 5 it is too small, and `length` says how many bytes are due; with 1 the trace
-/// has a fault, or no pace keeps up with it, and with 3 memory was refused, and `length` is 0. A
-/// cycle begins where fewer words are free than `mark`; where that is 0, as `Pace::filling` says.
+/// Runs a trace of commands alone on a new heap that collects by itself, as `run_bytes` does by the
+/// way `Paced`, and puts the text that it writes, a line for each answer and the total line, at the
+/// front of `answers`; `length` is how many bytes the text has. The status is 0 then. Otherwise
+/// `answers` is as before: with 5 it is too small, and `length` says how many bytes are due; with 1
+/// the trace has a fault, or no pace keeps up with it, and with 3 memory was refused, and `length`
+/// is 0. A cycle begins where fewer words are free than `mark`; where that is 0, as `Pace::filling`
+/// says.
 #[unsafe(no_mangle)]
 pub extern "C" fn rheap_run_paced(
     alloc: Global,
@@ -55,13 +59,31 @@ pub extern "C" fn rheap_run_paced(
     every_event_keeps_a_heap_well_formed::<Global>();
     what_collectors_do_adds_up::<Global>();
     let mut text = Vec::new(alloc);
-    match run_bytes(alloc, trace, &mut text, asked_mark(mark)) {
+    match run_text(alloc, trace, asked_mark(mark), &mut text) {
         Ok(_) => deliver(&text, answers, length),
         Err(fault) => {
             *length = 0;
             status_of(fault)
         }
     }
+}
+
+/// Runs a trace of commands, and appends what it writes to a text.
+fn run_text(
+    alloc: Global,
+    trace: &[u8],
+    mark: Option<u32>,
+    text: &mut Vec<u8>,
+) -> Result<Summary, PacedFault>
+    ensures told { Ends mark trace.now result (Some text.old.items) (Some text.new.items) }
+    ensures never_read { ¬ IsErrOf result PacedFault.Read }
+{
+    // The law from which `told` follows.
+    a_paced_run_ends_as_its_input_says();
+    let way = Paced { mark };
+    let mut answers = Answers::new(alloc);
+    let ran = run_bytes(alloc, trace, &way, &mut answers, text, &mut IoLog::new());
+    told(ran)
 }
 
 /// The mark that a run is asked for, if any.

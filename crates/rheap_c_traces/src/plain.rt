@@ -12,18 +12,19 @@ use crate::delivering::deliver;
 use crate::status::{FAULT, NO_MEMORY};
 use rh_core::laws::heaps_answer_as_plain_heaps;
 use rh_core::laws::runs::{
-    a_new_heap_is_well_formed, an_event_answers_as_the_plain_heap,
-    every_event_keeps_a_heap_well_formed,
+    an_event_answers_as_the_plain_heap, every_event_keeps_a_heap_well_formed,
 };
+use rh_text::IoLog;
 use rh_trace::laws::dumps::a_heap_has_the_dump_of_its_plain_heap;
-use rh_trace::{RunFault, run_bytes};
+use rh_trace::laws::ways::a_fixed_run_ends_as_its_trace;
+use rh_trace::{Answers, Fixed, NoFault, RunFault, Summary, fixed_fault, run_bytes};
 use std::alloc::Global;
 
-/// Runs a trace on a new heap and on trays, as `run_bytes` does, and puts the text that it writes,
-/// a line for each answer and the total line, at the front of `answers`; `length` is how many bytes
-/// the text has. The status is 0 then. Otherwise `answers` is as before: with 5 it is too small,
-/// and `length` says how many bytes are due; with 1 the trace has a fault and with 3 memory was
-/// refused, and `length` is 0.
+/// Runs a trace on a new heap and on trays, as `run_bytes` does by the way `Fixed`, and puts the text
+/// that it writes, a line for each answer and the total line, at the front of `answers`; `length` is
+/// how many bytes the text has. The status is 0 then. Otherwise `answers` is as before: with 5 it is
+/// too small, and `length` says how many bytes are due; with 1 the trace has a fault and with 3
+/// memory was refused, and `length` is 0.
 #[unsafe(no_mangle)]
 pub extern "C" fn rheap_run(
     alloc: Global,
@@ -47,17 +48,30 @@ pub extern "C" fn rheap_run(
 {
     // The laws from which the clause on the plain heap follows.
     heaps_answer_as_plain_heaps();
-    a_new_heap_is_well_formed();
     an_event_answers_as_the_plain_heap::<Global>();
     every_event_keeps_a_heap_well_formed::<Global>();
     a_heap_has_the_dump_of_its_plain_heap();
     let mut text = Vec::new(alloc);
-    match run_bytes(alloc, trace, &mut text) {
+    match run_text(alloc, trace, &mut text) {
         Ok(_) => deliver(&text, answers, length),
         Err(fault) => {
             *length = 0;
             status_of(fault)
         }
+    }
+}
+
+/// Runs a trace, and appends what it writes to a text.
+fn run_text(alloc: Global, trace: &[u8], text: &mut Vec<u8>) -> Result<Summary, RunFault>
+    ensures told { Ends (run_of trace.now) result (Some text.old.items) (Some text.new.items) }
+    ensures never_read { ¬ IsErrOf result RunFault.Read }
+{
+    // The law from which `told` follows.
+    a_fixed_run_ends_as_its_trace::<NoFault>();
+    let mut answers = Answers::new(alloc);
+    match run_bytes(alloc, trace, &Fixed, &mut answers, text, &mut IoLog::new()) {
+        Ok(summary) => Ok(summary),
+        Err(fault) => Err(fixed_fault(fault)),
     }
 }
 

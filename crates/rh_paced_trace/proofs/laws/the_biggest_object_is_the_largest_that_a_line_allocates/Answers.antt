@@ -1,6 +1,5 @@
 use Rattle.rh_paced_trace.specs.Lines.{commands_in}
-use Rattle.rh_paced_trace.proofs.InTurn.{biggest-least}
-use Rattle.rh_paced_trace.proofs.TraceLines.{biggest_bounds, biggest_reached, biggest_at_most}
+use Rattle.rh_paced_trace.proofs.TraceLines.{biggest-least, biggest_bounds, biggest_reached, biggest_at_most}
 use Rattle.rh_paced_trace.proofs.laws.the_biggest_object_is_the_largest_that_a_line_allocates.Goals as goal
 
 pub returns-clause-bound : goal.returns-clause-bound

@@ -7,7 +7,7 @@ use Rattle.rheap_c_traces.proofs.paced.rheap_run_paced.Goals as goal
 
 pub returns-in-Ok-clause-plain : goal.returns-in-Ok-clause-plain
 returns-in-Ok-clause-plain c = λ done.
-    let text = c.run_bytes.new.writer.items in
+    let text = c.run_text.new.text.items in
     let work = c.what_collectors_do_adds_up.ensures in
     let laws = laws_of work.none work.both work.begin work.shade work.hold work.flip work.idle work.heap work.stands
     c.a_new_heap_is_well_formed.ensures.well_formed c.heaps_answer_as_plain_heaps.ensures.new c.an_event_answers_as_the_plain_heap.ensures c.every_event_keeps_a_heap_well_formed.ensures.event in

@@ -2,7 +2,7 @@ use Rattle.std.proofs.Common.{Err, ap, ◌∙◌}
 use Rattle.rh_core.specs.declared.errors.HeapError.TheVariants as heap_errors
 use Rattle.rh_growing.specs.declared.errors.GrowingError.TheVariants as errors
 use Rattle.rh_paced_trace.proofs.GrownFaults.{grows-made, of-growth}
-use Rattle.rh_paced_trace.proofs.growing.new_heap.Goals as goal
+use Rattle.rh_paced_trace.proofs.ways.grown_heap.Goals as goal
 
 pub returns-in-Ok-clause-grows : goal.returns-in-Ok-clause-grows
 returns-in-Ok-clause-grows g c = grows-made c.args.growth c.requires.factor c.requires.sizes c.in-Ok.heap c.of.result c.in-Ok.is c.of.ensures.fault
