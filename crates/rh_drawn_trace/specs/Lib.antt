@@ -1,2 +1,0 @@
-pub mod Partway
-pub mod Drawing

@@ -1,0 +1,12 @@
+pub mod LegalHistory
+pub mod Prefixes
+pub mod ReadRuns
+pub mod EngineRuns
+pub mod Listened
+pub mod Pieces
+pub mod ScriptRuns
+pub mod PlainRuns
+pub mod AsAnswers
+pub mod KeptLines
+pub mod Unescaped
+pub mod Drawn

@@ -1,0 +1,10 @@
+pub mod Lines
+pub mod Json
+pub mod Views
+pub mod History
+pub mod Kept
+pub mod Cycles
+pub mod Run
+pub mod Listening
+pub mod Drawing
+pub mod Partway
