@@ -14,9 +14,9 @@ use Rattle.rh_trace.specs.declared.summary.Summary.{Summary}
 use Rattle.rh_trace.specs.declared.run_fault.RunFault.{RunFault}
 use Rattle.rh_trace.specs.declared.run_fault.RunFault.TheVariants as run_faults
 use Rattle.rh_choices.specs.declared.telling.Telling.{Telling}
-use Rattle.rh_viewed_trace.specs.Cycles.{cycles_text}
-use Rattle.rh_viewed_trace.specs.Run.{Ends, IsRun, Written, run_cycles, run_history, view_of_run}
-use Rattle.rh_viewed_trace.specs.Ways.{EndsGrowing, EndsPaced, IsTold, growing_answered, growing_cycles, paced_answered, paced_cycles}
+use Rattle.rh_trace_views.specs.Cycles.{cycles_text}
+use Rattle.rh_trace_views.specs.Run.{Ends, IsRun, Written, run_cycles, run_history, view_of_run}
+use Rattle.rh_commands.specs.Ways.{EndsGrowing, EndsPaced, IsTold, growing_answered, growing_cycles, paced_answered, paced_cycles}
 use Rattle.rh_pace.specs.declared.pace.Pace.{Pace}
 use Rattle.rh_paced_trace.specs.declared.fault.PacedFault.{PacedFault}
 use Rattle.rh_paced_trace.specs.Growing.{IsGrowingRun, growing_sum_of}

@@ -2,7 +2,7 @@
 use Rattle.std.proofs.Common.{◌≡◌, ◌≢◌, ℕ, List, Option, refl, sym, subst, arith}
 use Rattle.rh_text.specs.IoLog.{CountsDown, IoLogState, no_calls}
 use Rattle.rh_text.specs.lemmas.Appends.{Keeps-same}
-use Rattle.rh_viewed_trace.specs.Run.{Written}
+use Rattle.rh_trace_views.specs.Run.{Written}
 use Rattle.rh_choices.specs.declared.telling.Telling.{Telling}
 use Rattle.rh_cli.specs.Drive.{Concludes}
 use Rattle.rh_commands.specs.ViewLog.{FlushedSince, ViewLogState}

@@ -8,7 +8,7 @@ use Rattle.rh_syntax.specs.Reading.{trace_of}
 use Rattle.rh_syntax.specs.Spelling.{Script}
 use Rattle.rh_trace.specs.Run.{config_of}
 use Rattle.rh_choices.specs.declared.telling.Telling.{Telling}
-use Rattle.rh_viewed_trace.specs.Run.{IsTrace, Written}
+use Rattle.rh_trace_views.specs.Run.{IsTrace, Written}
 use Rattle.rh_command_line.specs.declared.ask.Subcommand.{Subcommand}
 use Rattle.rh_command_line.specs.declared.ask.Subcommand.TheVariants.{Run, RunPaced, RunGrowing, Replay, Dump}
 use Rattle.rh_commands.specs.ViewLog.{ViewLogState}

@@ -11,11 +11,14 @@ use crate::lisp::run_program;
 use crate::lisp_session::play_entries;
 use crate::prompting::Alone;
 use rh_command_line::{Ask, Subcommand};
+use rh_commands::laws::runs::a_run_concludes_as_its_input_says;
 use rh_commands::{
     Ending, LineFault, converse, count, draw, play_shared, print_completions, print_graph, replay,
-    run, run_by_growth, run_by_mark, tell,
+    run, tell,
 };
+use rh_paced_trace::{Growing, Paced};
 use rh_shared_trace::RunOptions;
+use rh_trace::Fixed;
 use std::alloc::Allocator;
 use std::io::{Read, Write};
 use std::sync::Wait;
@@ -88,10 +91,12 @@ where
     // A check of a history ends with another fault than that a history differs.
     ensures check { subcommand ≡ Replay → IfErr result (λ fault. status_of fault ≢ 4) }
 {
+    // The law from which the clauses on runs follow.
+    a_run_concludes_as_its_input_says();
     match subcommand {
-        Subcommand::Run => run(alloc, reader, out),
-        Subcommand::RunPaced { mark } => run_by_mark(alloc, reader, out, mark),
-        Subcommand::RunGrowing { at_most } => run_by_growth(alloc, reader, out, at_most),
+        Subcommand::Run => run(alloc, &Fixed, reader, out),
+        Subcommand::RunPaced { mark } => run(alloc, &Paced { mark }, reader, out),
+        Subcommand::RunGrowing { at_most } => run(alloc, &Growing { at_most }, reader, out),
         Subcommand::Threads { replicators, idle } => {
             let options = RunOptions { replicators, idle };
             play_shared(rt, alloc, reader, out, options)

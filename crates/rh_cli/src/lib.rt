@@ -27,4 +27,5 @@ pub use program::{Terminals, play};
 pub use rh_choices::{HeapWords, Limits, Telling};
 pub use rh_command_line::{Ask, CommandLineFault, PLAIN, Shell, Subcommand, Views};
 pub use rh_commands::{Ending, LineFault, ViewLog, explain, tell};
-pub use viewed_driving::{drive_viewed, drive_viewed_logged};
+pub use rh_trace_views::{Writers, writers};
+pub use viewed_driving::{drive_viewed, reads_for};

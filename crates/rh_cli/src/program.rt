@@ -19,10 +19,11 @@ use crate::lisp_cycles::play_lisp_with_cycles;
 use crate::lisp_session::hold_entries;
 use crate::outputs::outputs_of;
 use crate::prompting::Prompter;
-use crate::viewed_driving::drive_viewed;
+use crate::viewed_driving::{drive_viewed, reads_for};
 use rh_choices::{Limits, Telling};
 use rh_command_line::{Ask, Subcommand, Views};
-use rh_commands::{LineFault, converse, show, tell, tell_as, tell_ending};
+use rh_commands::{LineFault, ViewLog, converse, show, tell, tell_as, tell_ending};
+use rh_trace_views::writers;
 use std::alloc::Global;
 use std::env::{self, Args};
 use std::fs::File;
@@ -366,16 +367,17 @@ where
     ensures late { IfOk result (λ status. IsLateStatus status) }
     ensures early { IfErr result (λ fault. IsUsualFault fault) }
 {
-    let (out, history, mut cycles) = outputs_of(rt, ask.file, &ask.views)?;
-    let (mut out, mut history) = gathering_both(rt.alloc(), out, history)?;
+    let (out, history, cycles) = outputs_of(rt, ask.file, &ask.views)?;
+    let (out, history) = gathering_both(rt.alloc(), out, history)?;
+    let mut out = writers(out, history, cycles);
+    let mut log = ViewLog::new(reads_for(ask.subcommand));
     Ok(drive_viewed(
         threads,
         rt.alloc(),
         ask,
         kept,
+        &mut log,
         &mut out,
-        &mut history,
-        &mut cycles,
         err,
         explains,
     ))

@@ -12,11 +12,10 @@ use Rattle.rh_dump.specs.texts.Reading.{graph_of_text}
 use Rattle.rh_replay.specs.declared.checking.Verdict.{Verdict}
 use Rattle.rh_replay.specs.declared.checking.Verdict.TheVariants.{Legal, Wrong}
 use Rattle.rh_trace.specs.declared.summary.Summary.{Summary}
-use Rattle.rh_trace.specs.declared.run_fault.RunFault.{RunFault}
-use Rattle.rh_paced_trace.specs.declared.fault.PacedFault.{PacedFault}
+use Rattle.rh_trace.specs.declared.way_fault.WayFault.{WayFault}
+use Rattle.rh_paced_trace.specs.declared.fault.Unpaced.{Unpaced}
 use Rattle.rh_commands.specs.Count.{IsSentStatus}
-use Rattle.rh_commands.specs.Run.{IsRunStatus}
-use Rattle.rh_commands.specs.Paced.{IsPacedStatus}
+use Rattle.rh_commands.specs.Runs.{IsWayStatus}
 use Rattle.rh_commands.specs.Replay.{IsReplayStatus, TellsLegal, TellsWrong}
 use Rattle.rh_choices.specs.declared.telling.Telling.{Telling}
 use Rattle.rh_commands.specs.ViewLog.{HasCause, ViewLogState}
@@ -36,13 +35,9 @@ one_where_failed status own true P quiet (inr one) iff p = (λ is. refl, λ is. 
 one_where_failed status own false P (inl zero) told iff p = (λ one. absurd (omega (arith, zero, one, iff.1 (p, refl))), λ is. absurd (false_is_not_true is))
 one_where_failed status own false P (inr four) told iff p = (λ one. absurd (omega (arith, four, one, iff.1 (p, refl))), λ is. absurd (false_is_not_true is))
 
-pub run_flushed : (r : Result Summary RunFault) (status : ℕ) (failed : Bool) → IsRunStatus r status → (status ≡ 0) ↔ (IsOk r × IsTrue (not failed)) → IsOk r → (status ≡ 1) ↔ (failed ≡ true)
-run_flushed (Ok summary) status failed is iff ok = one_where_failed status 0 failed (IsOk {E = RunFault} (Ok summary)) (inl refl) is iff ok
-run_flushed (Err fault) status failed is iff ok = absurd (false_is_not_true ok)
-
-pub paced_flushed : (r : Result Summary PacedFault) (status : ℕ) (failed : Bool) → IsPacedStatus r status → (status ≡ 0) ↔ (IsOk r × IsTrue (not failed)) → IsOk r → (status ≡ 1) ↔ (failed ≡ true)
-paced_flushed (Ok summary) status failed is iff ok = one_where_failed status 0 failed (IsOk {E = PacedFault} (Ok summary)) (inl refl) is iff ok
-paced_flushed (Err fault) status failed is iff ok = absurd (false_is_not_true ok)
+pub way_flushed : (r : Result Summary (WayFault Unpaced)) (status : ℕ) (failed : Bool) → IsWayStatus r status → (status ≡ 0) ↔ (IsOk r × IsTrue (not failed)) → IsOk r → (status ≡ 1) ↔ (failed ≡ true)
+way_flushed (Ok summary) status failed is iff ok = one_where_failed status 0 failed (IsOk {E = WayFault Unpaced} (Ok summary)) (inl refl) is iff ok
+way_flushed (Err fault) status failed is iff ok = absurd (false_is_not_true ok)
 
 pub report_flushed : (r : Result Verdict LineFault) (status : ℕ) (failed : Bool) → IsReplayStatus r status → (status ≡ 0) ↔ (TellsLegal r × IsTrue (not failed)) → (status ≡ 4) ↔ (TellsWrong r × IsTrue (not failed)) → IsOk r
     → (status ≡ 1) ↔ (failed ≡ true)

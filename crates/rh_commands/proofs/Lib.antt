@@ -4,6 +4,13 @@ pub mod Drawn
 pub mod Flushed
 pub mod Inputs
 pub mod Reported
+pub mod RunsFlushed
 pub mod Sessions
 pub mod Statuses
-pub mod ViewsFlushed
+pub mod WaysConclude
+pub mod CommandRuns
+pub mod WayRuns
+pub mod WayPlain
+pub mod LegalReplies
+pub mod RepliesTold
+pub mod ViewEnds

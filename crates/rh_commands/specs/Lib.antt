@@ -4,8 +4,10 @@ pub mod Fault
 pub mod Paced
 pub mod Replay
 pub mod Run
+pub mod Runs
 pub mod Session
 pub mod Shared
 pub mod ViewLog
+pub mod Ways
 pub mod Views
 pub mod lemmas

@@ -14,10 +14,10 @@ use Rattle.rh_paced_trace.specs.declared.fault.PacedFault.{PacedFault}
 use Rattle.rh_paced_trace.specs.declared.fault.PacedFault.TheVariants as paced_faults
 use Rattle.rh_choices.specs.declared.telling.Telling.{Telling}
 use Rattle.rh_choices.specs.declared.telling.Telling.TheVariants.{Answers, Echo, Json}
-use Rattle.rh_viewed_trace.specs.Json.{json_dump, json_report}
-use Rattle.rh_viewed_trace.specs.Lines.{report_echo}
-use Rattle.rh_viewed_trace.specs.Run.{Ends, Written}
-use Rattle.rh_viewed_trace.specs.Ways.{EndsGrowing, EndsPaced}
+use Rattle.rh_trace_views.specs.Json.{json_dump, json_report}
+use Rattle.rh_trace_views.specs.Lines.{report_echo}
+use Rattle.rh_trace_views.specs.Run.{Ends, Written}
+use Rattle.rh_commands.specs.Ways.{EndsGrowing, EndsPaced}
 use Rattle.rh_commands.specs.declared.fault.LineFault.{LineFault}
 use Rattle.rh_commands.specs.declared.fault.LineFault.TheVariants as faults
 use Rattle.rh_commands.specs.Count.{DumpEnds, IsCountStatus, counts_line}

@@ -8,7 +8,8 @@ ghost use Rattle.rh_commands.specs.Session.{ConcludesSession, session_status, se
 
 use crate::ending::Ending;
 use crate::fault::LineFault;
-use rh_shell::{Host, ShellFault, run_shell};
+use rh_shell::{Host, OutputLog, ShellFault, run_shell};
+use rh_text::IoLog;
 use std::alloc::Allocator;
 use std::io::{Read, Write};
 
@@ -33,7 +34,9 @@ pub fn converse<A: Allocator + Copy, R: Read, O: Write, H: Host>(
         (R.remaining reader.old) (R.remaining reader.new) (O.contents out.old)
         (O.contents out.new) }
 {
-    match run_shell(alloc, reader, out, host) {
+    let mut reads = IoLog::new();
+    let mut log = OutputLog::new();
+    match run_shell(alloc, reader, &mut reads, out, &mut log, host) {
         Ok(_) => Ok(Ending::Done),
         Err(fault) => Err(fault_of_session(fault)),
     }

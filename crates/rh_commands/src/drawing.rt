@@ -9,10 +9,10 @@ ghost use Rattle.rh_commands.specs.Fault.{status_after, IsUsualFault};
 use crate::ending::Ending;
 use crate::fault::LineFault;
 use crate::running::fault_of_run;
-use rh_drawn_trace::draw_trace;
 use rh_layout::limits::MAX_LINES;
 use rh_text::{InputFault, IoLog, read_all};
 use rh_trace::{ParseError, parse};
+use rh_trace_views::draw_trace;
 use std::alloc::Allocator;
 use std::io::{Read, Write};
 
@@ -73,7 +73,8 @@ fn picture<A: Allocator + Copy, O: Write>(
         return Err(fault_beyond(alloc, input));
     }
     let mut reader = input;
-    match draw_trace(alloc, &mut reader, until, out) {
+    let (mut reads, mut writes) = (IoLog::new(), IoLog::new());
+    match draw_trace(alloc, &mut reader, &mut reads, until, out, &mut writes) {
         Ok(()) => Ok(()),
         Err(fault) => Err(fault_of_run(fault)),
     }

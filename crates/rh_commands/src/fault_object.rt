@@ -6,7 +6,7 @@ ghost use Rattle.rh_commands.specs.Fault.{status_of};
 use crate::fault::LineFault;
 use crate::telling::tell;
 use rh_layout::OutOfMemory;
-use rh_viewed_trace::fault_json;
+use rh_trace_views::fault_json;
 use std::alloc::Allocator;
 use std::fmt::Display;
 use std::io::Write;

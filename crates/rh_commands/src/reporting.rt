@@ -18,7 +18,7 @@ use rh_layout::OutOfMemory;
 use rh_layout::limits::MAX_INPUT_BYTES;
 use rh_replay::{History, HistoryError, Verdict, check, read_history, report};
 use rh_text::{InputFault, IoLog, LineText, read_all, send};
-use rh_viewed_trace::{Telling, put_json_dump, report_echo, report_json};
+use rh_trace_views::{Telling, put_json_dump, report_echo, report_json};
 use std::alloc::Allocator;
 use std::io::{Read, Write};
 

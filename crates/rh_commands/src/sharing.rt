@@ -8,6 +8,7 @@ ghost use Rattle.rh_commands.specs.Fault.{status_of, status_after, IsLateFault};
 use crate::ending::Ending;
 use crate::fault::LineFault;
 use rh_shared_trace::{RunOptions, SharedRunFault, run_shared};
+use rh_text::IoLog;
 use std::alloc::Allocator;
 use std::io::{Read, Write};
 use std::sync::Wait;
@@ -38,7 +39,9 @@ where
         (O.contents out.new) }
     ensures late { IfErr result (λ fault. IsLateFault fault) }
 {
-    let ran = run_shared(rt, alloc, reader, out, options);
+    let mut reads = IoLog::new();
+    let mut writes = IoLog::new();
+    let ran = run_shared(rt, alloc, reader, &mut reads, out, &mut writes, options);
     let flushed = out.flush();
     conclude(ran, flushed.is_ok())
 }

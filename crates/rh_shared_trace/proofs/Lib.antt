@@ -6,3 +6,4 @@ pub mod LeftOut
 pub mod WhatStands
 pub mod Takes
 pub mod Matched
+pub mod ReadTrace

@@ -5,6 +5,8 @@ use Rattle.rh_mutator.specs.Config.{fault_of}
 use Rattle.rh_text.specs.Output.{AppendsLess}
 use Rattle.rh_syntax.specs.Reading.{trace_of}
 use Rattle.rh_syntax.specs.Spelling.{Script}
+use Rattle.rh_trace.specs.declared.run_fault.RunFault.{RunFault}
+use Rattle.rh_trace.specs.declared.run_fault.RunFault.TheVariants as read_faults
 use Rattle.rh_trace.specs.Run.{config_of}
 use Rattle.rh_replay.specs.History.{HistoryState, IsHistory}
 use Rattle.rh_replay.specs.Legal.{IsLegal}
@@ -39,6 +41,15 @@ pub record IsHistoryOf (script : Script) (h : HistoryState) : Type 0 where
   pub few : length h.calls ≤ 65536
   pub legal : IsLegal h
   pub lines : AreOfTrace (nat_le 65536 (length h.calls)) script h.calls
+
+-- a fault of reading a trace, as one of a shared run
+abbrev pub read_fault : RunFault → SharedRunFault
+read_fault read_faults.Read = faults.Read
+read_fault read_faults.Long = faults.Long
+read_fault (read_faults.Trace fault) = faults.Trace fault
+read_fault (read_faults.New fault) = faults.New fault
+read_fault read_faults.Write = faults.Write
+read_fault read_faults.OutOfMemory = faults.OutOfMemory
 
 -- How a shared run of an input ends: with the text of such a history written; with the first fault
 -- of the input or of what was asked for, and nothing written; where a write failed with a prefix of

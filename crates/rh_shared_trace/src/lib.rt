@@ -16,4 +16,4 @@ mod writing;
 
 pub use fault::SharedRunFault;
 pub use options::RunOptions;
-pub use running::{run_shared, run_shared_logged};
+pub use running::run_shared;

@@ -3,7 +3,9 @@
 ghost use Rattle.std.specs.Prelude.{◌≡◌, ◌≤◌, List, ℕ, length, false, IsErrOf, IfSome};
 ghost use Rattle.std.specs.Io.KnownBytes.{Consumes};
 ghost use Rattle.rh_text.specs.IoLog.{AreSpent, AreSpentSince, CountsDown};
-ghost use Rattle.rh_shared_trace.specs.Run.{Ends};
+ghost use Rattle.rh_syntax.specs.Spelling.{IsScript};
+ghost use Rattle.rh_trace.specs.Ways.{IsTrace};
+ghost use Rattle.rh_shared_trace.specs.Run.{Ends, read_fault};
 
 use crate::fault::SharedRunFault;
 use crate::lines::line_fault;
@@ -12,19 +14,33 @@ use crate::playing::{Unplayed, play};
 use crate::writing::write_checked;
 use rh_layout::limits::MAX_INPUT_BYTES;
 use rh_shared::{Start, StartError};
-use rh_syntax::{ParseError, parse};
-use rh_text::{InputFault, IoLog, read_all};
-use rh_trace::config_of;
+use rh_syntax::Trace;
+use rh_text::IoLog;
+use rh_trace::{RunFault, config_of, read_trace};
 use std::alloc::Allocator;
 use std::io;
 use std::sync::Wait;
 use std::thread::Threads;
 
-/// Runs the trace of commands that the input spells.
-fn run_input<A, R, W>(
+/// A fault of reading a trace, as one of a shared run.
+fn fault_of_read(fault: RunFault) -> SharedRunFault
+    ensures { result ≡ read_fault fault }
+{
+    match fault {
+        RunFault::Read => SharedRunFault::Read,
+        RunFault::Long => SharedRunFault::Long,
+        RunFault::Trace(fault) => SharedRunFault::Trace(fault),
+        RunFault::New(fault) => SharedRunFault::New(fault),
+        RunFault::Write => SharedRunFault::Write,
+        RunFault::OutOfMemory => SharedRunFault::OutOfMemory,
+    }
+}
+
+/// Runs a trace that was read.
+fn run_script<A, R, W>(
     rt: &R,
     alloc: A,
-    input: &[u8],
+    trace: &Trace<A>,
     options: RunOptions,
     writer: &mut W,
     writes: &mut IoLog,
@@ -33,19 +49,15 @@ where
     A: Allocator + Copy + Send,
     R: Threads + Wait + Sync,
     W: io::Write,
-    requires few { length input.now ≤ MAX_INPUT_BYTES }
+    requires fits { IsScript trace.now }
     requires none_failed { writes.old.failed ≡ false }
-    ensures ends { Ends options input.now result (W.contents writer.old) (W.contents writer.new) }
+    ensures ends { (input : List ℕ) → IsTrace input trace.now → Ends options input result
+        (W.contents writer.old) (W.contents writer.new) }
     ensures never_read { ¬ IsErrOf result SharedRunFault.Read }
     ensures failed { IsErrOf result SharedRunFault.Write → AreSpent writes.new }
     ensures none_failed { ¬ IsErrOf result SharedRunFault.Write → writes.new.failed ≡ false }
     ensures spent { IsErrOf result SharedRunFault.Write → AreSpentSince writes.old writes.new }
 {
-    let trace = match parse(alloc, input) {
-        Ok(trace) => trace,
-        Err(ParseError::Fault(fault)) => return Err(SharedRunFault::Trace(fault)),
-        Err(ParseError::OutOfMemory) => return Err(SharedRunFault::OutOfMemory),
-    };
     let header = trace.header();
     if let Some(fault) = line_fault(header.owners, trace.requests()) {
         return Err(SharedRunFault::Trace(fault));
@@ -57,7 +69,7 @@ where
         Err(StartError::OutOfMemory) => return Err(SharedRunFault::OutOfMemory),
     };
     match play(rt, alloc, start, trace.requests()) {
-        Ok(kept) => write_checked(alloc, &trace, kept.history(), writer, writes),
+        Ok(kept) => write_checked(alloc, trace, kept.history(), writer, writes),
         Err(Unplayed::HistoryDiffers) => Err(SharedRunFault::HistoryDiffers),
         Err(Unplayed::OutOfMemory) => Err(SharedRunFault::OutOfMemory),
     }
@@ -81,51 +93,10 @@ where
 /// a read failed or was one too many, `OutOfMemory` where memory or a thread was refused,
 /// `HistoryDiffers` where the history isn't as is said above. Nothing was written after any of
 /// these. `Write` comes where a write failed or 33,554,432 writes of one line didn't come to its
-/// end; then a prefix of such a text was written. `run_shared_logged` says of Read and Write that
-/// they come nowhere else.
+/// end; then a prefix of such a text was written.
+///
+/// `reads` and `writes` tell whether a read and whether a write failed, and how many were made.
 pub fn run_shared<A, R, I, W>(
-    rt: &R,
-    alloc: A,
-    reader: &mut I,
-    writer: &mut W,
-    options: RunOptions,
-) -> Result<(), SharedRunFault>
-where
-    A: Allocator + Copy + Send,
-    R: Threads + Wait + Sync,
-    I: io::Read,
-    W: io::Write,
-    // For a reader that tells its bytes: how a run of the bytes that it had ends.
-    ensures told { IfSome (I.remaining reader.old) (λ input. Ends options input result
-        (W.contents writer.old) (W.contents writer.new)) }
-    // How a run of the bytes that were taken ends; which these are is known of a reader that tells
-    // its bytes.
-    ensures read { (input : List ℕ)
-        × Consumes (I.remaining reader.old) (I.remaining reader.new) input
-        × Ends options input result (W.contents writer.old) (W.contents writer.new) }
-    // Read is answered only before too many bytes were taken: else it is Long.
-    ensures few_read { IsErrOf result SharedRunFault.Read → (input : List ℕ)
-        × Consumes (I.remaining reader.old) (I.remaining reader.new) input
-        × (length input ≤ MAX_INPUT_BYTES) }
-{
-    run_shared_logged(
-        rt,
-        alloc,
-        reader,
-        &mut IoLog::new(),
-        writer,
-        &mut IoLog::new(),
-        options,
-    )
-}
-
-/// Runs a trace of commands as `run_shared` does, and tells in `reads` and `writes` whether a read
-/// and whether a write failed, and how many were made.
-///
-/// # Errors
-///
-/// As `run_shared`.
-pub fn run_shared_logged<A, R, I, W>(
     rt: &R,
     alloc: A,
     reader: &mut I,
@@ -141,12 +112,15 @@ where
     W: io::Write,
     requires no_read_failed { reads.old.failed ≡ false }
     requires no_write_failed { writes.old.failed ≡ false }
-    // As of `run_shared`.
+    // For a reader that tells its bytes: how a run of the bytes that it had ends.
     ensures told { IfSome (I.remaining reader.old) (λ input. Ends options input result
         (W.contents writer.old) (W.contents writer.new)) }
+    // How a run of the bytes that were taken ends; which these are is known of a reader that tells
+    // its bytes.
     ensures read { (input : List ℕ)
         × Consumes (I.remaining reader.old) (I.remaining reader.new) input
         × Ends options input result (W.contents writer.old) (W.contents writer.new) }
+    // Read is answered only before too many bytes were taken: else it is Long.
     ensures few_read { IsErrOf result SharedRunFault.Read → (input : List ℕ)
         × Consumes (I.remaining reader.old) (I.remaining reader.new) input
         × (length input ≤ MAX_INPUT_BYTES) }
@@ -166,10 +140,8 @@ where
     ensures writes_spent { IsErrOf result SharedRunFault.Write
         → AreSpentSince writes.old writes.new }
 {
-    match read_all(alloc, reader, reads) {
-        Ok(input) => run_input(rt, alloc, &input, options, writer, writes),
-        Err(InputFault::Read) => Err(SharedRunFault::Read),
-        Err(InputFault::Long) => Err(SharedRunFault::Long),
-        Err(InputFault::OutOfMemory) => Err(SharedRunFault::OutOfMemory),
+    match read_trace(alloc, reader, reads) {
+        Ok(trace) => run_script(rt, alloc, &trace, options, writer, writes),
+        Err(fault) => Err(fault_of_read(fault)),
     }
 }

@@ -17,4 +17,4 @@ pub use fault::ShellFault;
 pub use host::Host;
 pub use output_log::OutputLog;
 pub use rh_trace::Summary;
-pub use shell::{run_shell, run_shell_logged};
+pub use shell::run_shell;

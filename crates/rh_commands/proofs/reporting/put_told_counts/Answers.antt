@@ -1,5 +1,5 @@
 use Rattle.std.proofs.Common.{ap₂, ◌∙◌}
-use Rattle.rh_viewed_trace.specs.Json.{json_dump}
+use Rattle.rh_trace_views.specs.Json.{json_dump}
 use Rattle.rh_commands.proofs.reporting.put_told_counts.Goals as goal
 
 pub returns-in-Answers : goal.returns-in-Answers

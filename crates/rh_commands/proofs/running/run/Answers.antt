@@ -1,11 +1,24 @@
-use Rattle.rh_trace.specs.Run.{run_of}
-use Rattle.rh_commands.proofs.Flushed.{Ends-flushed, ConcludesRun-told}
+use Rattle.rh_commands.specs.lemmas.Known.{known_so}
+use Rattle.rh_commands.proofs.RunsFlushed.{answers_flushed}
 use Rattle.rh_commands.proofs.running.run.Goals as goal
 
 pub returns-clause-told : goal.returns-clause-told
-returns-clause-told g c = ConcludesRun-told _ c.run_trace-ran.result _ _ _ _ c.run_trace-ran.ensures.told c.flush-flushed.ensures.bytes c.conclude.ensures.status
+returns-clause-told g c =
+    known_so _ _ (g.R.Read.remaining c.args.reader.now)
+    (λ input e. (
+      c.run-ran.result,
+      answers_flushed g.P.Player.Steps g.P.Player.total (g.Y.Way.fits c.args.way.now) (g.Y.Way.refuses c.args.way.now) input c.run-ran.result _ _ _ e c.flush-flushed.ensures.bytes,
+      c.conclude.ensures.status,
+    )) c.run-ran.ensures.told
 
 pub returns-clause-read : goal.returns-clause-read
 returns-clause-read g c =
-    let given = c.run_trace-ran.ensures.read in
-    (given.0, given.1, (c.run_trace-ran.result, Ends-flushed (run_of given.0) c.run_trace-ran.result _ _ _ given.2 c.flush-flushed.ensures.bytes, c.conclude.ensures.status))
+    let given = c.run-ran.ensures.read in (
+      given.0,
+      given.1,
+      (
+        c.run-ran.result,
+        answers_flushed g.P.Player.Steps g.P.Player.total (g.Y.Way.fits c.args.way.now) (g.Y.Way.refuses c.args.way.now) given.0 c.run-ran.result _ _ _ given.2 c.flush-flushed.ensures.bytes,
+        c.conclude.ensures.status,
+      ),
+    )

@@ -6,7 +6,7 @@ use Rattle.rh_shell.specs.Typing.{IsAfter}
 use Rattle.rh_shell.proofs.Taken.{ends_early, ends_late, fault_moved}
 use Rattle.rh_shell.proofs.Typed.{IsAfter-none}
 use Rattle.rh_shell.proofs.Logged.{spent_then}
-use Rattle.rh_shell.proofs.shell.run_shell_logged.Goals as goal
+use Rattle.rh_shell.proofs.shell.run_shell.Goals as goal
 
 pub read_lines-requires-clause-begun : goal.read_lines-requires-clause-begun
 read_lines-requires-clause-begun g c = subst (λ (l : List ℕ). IsAfter [] l [] c.new-session.result) (sym c.new-line.ensures.items) (subst (λ (s : SessionState). IsAfter [] [] [] s) (sym c.new-session.ensures.value) IsAfter-none)

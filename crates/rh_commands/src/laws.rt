@@ -1,0 +1,4 @@
+//! Laws of the definitions alone. Each function does nothing: its contract is the law.
+
+pub mod runs;
+pub mod viewed;
