@@ -5,6 +5,7 @@ use crate::numbers::Numbers;
 use rh_layout::Command;
 use rh_replay::{Verdict, check, read_history};
 use rh_shared_trace::{RunOptions, run_shared};
+use rh_text::IoLog;
 use rh_trace::write_command;
 use std::process::Abort;
 use std::sync::Wait;
@@ -40,7 +41,15 @@ fn play<R: AllocGlobal + Abort + Threads + Wait + Sync>(
         idle,
     };
     let mut written = Vec::new(rt.alloc());
-    let ended = run_shared(rt, rt.alloc(), &mut { text }, &mut written, options);
+    let ended = run_shared(
+        rt,
+        rt.alloc(),
+        &mut { text },
+        &mut IoLog::new(),
+        &mut written,
+        &mut IoLog::new(),
+        options,
+    );
     expect_equal(rt, ended, Ok(()));
     let history = read_history(rt.alloc(), &written).ok();
     let history = history.expect(rt, "a history");

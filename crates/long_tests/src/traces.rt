@@ -3,7 +3,8 @@
 use crate::expectations::{Row, ample, expect_bytes, expect_equal};
 use rh_text::IoLog;
 use rh_trace::{
-    Kind, ParseError, RunFault, Summary, TraceFault, parse, print, run_trace, run_trace_logged,
+    Answers, Fixed, Kind, ParseError, RunFault, Summary, TraceFault, fixed_fault, parse, print,
+    run, run_trace,
 };
 use samples::devices::{InterruptedReader, SlowWriter};
 use samples::texts::{WITHOUT_FIELDS, WITHOUT_FIELDS_ANSWERS, repeated};
@@ -103,14 +104,20 @@ fn reads_that_run_out_are_no_failed_read(rt: HostRuntime) {
     };
     let mut writer = SlowWriter::new(&rt, 1000, 0);
     let (mut reads, mut writes) = (IoLog::new(), IoLog::new());
-    let outcome = run_trace_logged(
+    let outcome = run(
         rt.alloc(),
         &mut reader,
         &mut reads,
+        &Fixed,
+        &mut Answers::new(rt.alloc()),
         &mut writer,
         &mut writes,
     );
-    expect_equal(&rt, outcome.err(), Some(RunFault::Read));
+    let failed = match outcome {
+        Ok(_) => None,
+        Err(failed) => Some(fixed_fault(failed)),
+    };
+    expect_equal(&rt, failed, Some(RunFault::Read));
     expect_equal(&rt, (reads.has_failed(), reads.left()), (false, 0));
     expect_equal(&rt, writer.writes, 0);
 }

@@ -7,6 +7,8 @@ use rh_replay::{Verdict, check, read_history};
 use rh_shared::SharedFault;
 use rh_shared_trace::{RunOptions, SharedRunFault, run_shared};
 use rh_syntax::{Kind, TraceFault};
+use rh_text::IoLog;
+use std::alloc::Allocator;
 use std::process::Abort;
 use std::sync::Wait;
 use std::thread::Threads;
@@ -159,6 +161,23 @@ const FAULT_TEXTS: &[(SharedRunFault, &str)] = &[
     (SharedRunFault::OutOfMemory, "out of memory"),
 ];
 
+/// Plays a trace in threads. It has no clauses, since no test needs what `run_shared` promises.
+fn played<R, A>(
+    rt: &R,
+    alloc: A,
+    text: &mut &[u8],
+    written: &mut Vec<u8>,
+    options: RunOptions,
+) -> Result<(), SharedRunFault>
+where
+    R: Threads + Wait + Sync,
+    A: Allocator + Copy + Send,
+{
+    let mut reads = IoLog::new();
+    let mut writes = IoLog::new();
+    run_shared(rt, alloc, text, &mut reads, written, &mut writes, options)
+}
+
 /// Ends the test unless the text is played to this end, and this is written.
 fn runs_to<R: AllocGlobal + Abort + Threads + Wait + Sync>(
     rt: &R,
@@ -169,7 +188,7 @@ fn runs_to<R: AllocGlobal + Abort + Threads + Wait + Sync>(
 ) {
     let mut reader = text;
     let mut written = Vec::new(rt.alloc());
-    let outcome = run_shared(rt, rt.alloc(), &mut reader, &mut written, options);
+    let outcome = played(rt, rt.alloc(), &mut reader, &mut written, options);
     expect_equal(rt, outcome, end);
     expect_bytes(rt, &written, history);
 }
@@ -227,7 +246,7 @@ fn expect_legal<R: AllocGlobal + Abort>(rt: &R, written: &[u8]) {
 fn plays_legally<R: AllocGlobal + Abort + Threads + Wait + Sync>(rt: &R, options: RunOptions) {
     let mut reader = SHARED;
     let mut written = Vec::new(rt.alloc());
-    let outcome = run_shared(rt, rt.alloc(), &mut reader, &mut written, options);
+    let outcome = played(rt, rt.alloc(), &mut reader, &mut written, options);
     expect_equal(rt, outcome, Ok(()));
     expect_legal(rt, &written);
 }
@@ -281,7 +300,7 @@ fn calls_in<R: AllocGlobal + Abort + Threads + Wait + Sync>(
     mut text: &[u8],
 ) -> usize {
     let mut written = Vec::new(rt.alloc());
-    let outcome = run_shared(rt, rt.alloc(), &mut text, &mut written, options);
+    let outcome = played(rt, rt.alloc(), &mut text, &mut written, options);
     expect_equal(rt, outcome, Ok(()));
     calls_of(rt, &written)
 }
@@ -325,7 +344,7 @@ fn is_refused_in_threads<R: AllocGlobal + Abort + Threads + Wait + Sync>(rt: &R,
     let memory = RefusingAllocator::new(rt.alloc(), nth);
     let mut reader = SHARED;
     let mut written = Vec::new(rt.alloc());
-    let outcome = run_shared(rt, &memory, &mut reader, &mut written, TWO);
+    let outcome = played(rt, &memory, &mut reader, &mut written, TWO);
     is_cut(rt, outcome, &written, memory.has_refused())
 }
 

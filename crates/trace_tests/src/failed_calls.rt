@@ -2,7 +2,7 @@
 
 use crate::expectations::{Row, expect_equal};
 use rh_text::{IoLog, send};
-use rh_trace::{RunFault, Trace, Write, parse, print_logged, run_trace_logged};
+use rh_trace::{Answers, Fixed, RunFault, Trace, Write, fixed_fault, parse, print_logged, run};
 use samples::devices::{SlowReader, SlowWriter};
 use samples::texts::WITHOUT_FIELDS;
 use std::process::Abort;
@@ -20,14 +20,20 @@ fn runs_tell_which_call_failed(rt: HostRuntime) {
         let mut reader = SlowReader::new(WITHOUT_FIELDS, read);
         let mut writer = SlowWriter::new(&rt, 1000, write);
         let (mut reads, mut writes) = (IoLog::new(), IoLog::new());
-        let outcome = run_trace_logged(
+        let outcome = run(
             rt.alloc(),
             &mut reader,
             &mut reads,
+            &Fixed,
+            &mut Answers::new(rt.alloc()),
             &mut writer,
             &mut writes,
         );
-        expect_equal(&rt, outcome.err(), fault);
+        let failed = match outcome {
+            Ok(_) => None,
+            Err(failed) => Some(fixed_fault(failed)),
+        };
+        expect_equal(&rt, failed, fault);
         expect_equal(&rt, (reads.has_failed(), writes.has_failed()), told);
     }
 }

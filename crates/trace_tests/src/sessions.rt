@@ -3,7 +3,7 @@
 use crate::expectations::{Row, expect_bytes, expect_equal, expect_prefix, expect_refusals};
 use crate::hosts::{Counts, Full};
 use refusing::refused_in_turn;
-use rh_shell::{OutputLog, ShellFault, Summary, run_shell, run_shell_logged};
+use rh_shell::{OutputLog, ShellFault, Summary, run_shell};
 use rh_text::IoLog;
 use rh_trace::run_trace;
 use samples::devices::SlowReader;
@@ -150,7 +150,15 @@ fn held<A: Allocator + Copy, R: Read>(
     writer: &mut Full,
     host: &mut Counts,
 ) -> Result<Summary, ShellFault> {
-    run_shell(alloc, reader, writer, host)
+    let mut reads = IoLog::new();
+    run_shell(
+        alloc,
+        reader,
+        &mut reads,
+        writer,
+        &mut OutputLog::new(),
+        host,
+    )
 }
 
 /// Expects these answers to what is typed, which comes a byte a time.
@@ -208,7 +216,7 @@ fn a_failed_read_leaves_ended_lines_answered(rt: HostRuntime) {
     let mut reads = IoLog::new();
     let mut writer = Full::new(&rt, 0);
     let mut log = OutputLog::new();
-    let outcome = run_shell_logged(
+    let outcome = run_shell(
         rt.alloc(),
         &mut reader,
         &mut reads,

@@ -4,7 +4,7 @@ use crate::expectations::{Row, expect_bytes, expect_equal, expect_prefix, expect
 use crate::texts::{STORED, STORED_HISTORY, TWO_FLIPS_ANSWERS};
 use refusing::refused_in_turn;
 use rh_cli::{
-    Ask, KeptReader, Subcommand, Telling, ViewLog, Views, drive_viewed, drive_viewed_logged,
+    Ask, KeptReader, Subcommand, Telling, ViewLog, Views, Writers, drive_viewed, reads_for, writers,
 };
 use rh_text::IoLog;
 use samples::devices::Unflushed;
@@ -261,9 +261,7 @@ fn status_of_view<R, A>(
     memory: A,
     ask: &Ask<'_>,
     text: &[u8],
-    out: &mut Vec<u8>,
-    history: &mut Vec<u8>,
-    cycles: &mut Vec<u8>,
+    out: &mut Writers<Vec<u8>, Vec<u8>, Vec<u8>>,
     err: &mut Vec<u8>,
 ) -> u8
 where
@@ -271,17 +269,8 @@ where
     A: Allocator + Copy + Send,
 {
     let mut reader = KeptReader::passing(memory, text);
-    drive_viewed(
-        rt,
-        memory,
-        ask,
-        &mut reader,
-        out,
-        history,
-        cycles,
-        err,
-        false,
-    )
+    let mut log = ViewLog::new(reads_for(ask.subcommand));
+    drive_viewed(rt, memory, ask, &mut reader, &mut log, out, err, false)
 }
 
 /// Does what is asked with a text, and answers the status and what was written.
@@ -290,24 +279,14 @@ where
     R: AllocGlobal + Abort + Threads + Wait + Sync,
     A: Allocator + Copy + Send,
 {
-    let mut out = Vec::new(rt.alloc());
-    let mut history = Vec::new(rt.alloc());
-    let mut cycles = Vec::new(rt.alloc());
-    let mut err = Vec::new(rt.alloc());
-    let status = status_of_view(
-        rt,
-        memory,
-        ask,
-        text,
-        &mut out,
-        &mut history,
-        &mut cycles,
-        &mut err,
-    );
+    let alloc = rt.alloc();
+    let mut out = writers(Vec::new(alloc), Vec::new(alloc), Vec::new(alloc));
+    let mut err = Vec::new(alloc);
+    let status = status_of_view(rt, memory, ask, text, &mut out, &mut err);
     let written = Written {
-        out,
-        history,
-        cycles,
+        out: out.first,
+        history: out.second.first,
+        cycles: out.second.second,
         err,
     };
     (status, written)
@@ -395,14 +374,12 @@ fn each_cycle_has_its_line(rt: HostRuntime) {
 }
 
 /// Does what is asked with these writers, and answers the status and the log. No test needs what
-/// `drive_viewed_logged` promises beside them.
+/// `drive_viewed` promises beside them.
 fn logged<R, O, H, C>(
     rt: &R,
     ask: &Ask<'_>,
     text: &[u8],
-    out: &mut O,
-    history: &mut H,
-    cycles: &mut C,
+    out: &mut Writers<O, H, C>,
     err: &mut Vec<u8>,
 ) -> (u8, ViewLog)
 where
@@ -414,18 +391,7 @@ where
     let alloc = rt.alloc();
     let mut reader = KeptReader::passing(alloc, text);
     let mut log = ViewLog::new(IoLog::new());
-    let status = drive_viewed_logged(
-        rt,
-        alloc,
-        ask,
-        &mut reader,
-        &mut log,
-        out,
-        history,
-        cycles,
-        err,
-        false,
-    );
+    let status = drive_viewed(rt, alloc, ask, &mut reader, &mut log, out, err, false);
     (status, log)
 }
 
@@ -434,9 +400,7 @@ where
 fn expect_write_fault<R, O, H, C>(
     rt: &R,
     (subcommand, text, flushes): (Subcommand, &[u8], u64),
-    out: &mut O,
-    history: &mut H,
-    cycles: &mut C,
+    out: &mut Writers<O, H, C>,
 )
 where
     R: AllocGlobal + Abort + Threads + Wait + Sync,
@@ -446,7 +410,7 @@ where
 {
     let mut err = Vec::new(rt.alloc());
     let ask = told(subcommand, Telling::Json);
-    let (status, log) = logged(rt, &ask, text, out, history, cycles, &mut err);
+    let (status, log) = logged(rt, &ask, text, out, &mut err);
     expect_equal(rt, status, 1);
     expect_equal(rt, log.has_flush_failed(), true);
     expect_equal(rt, log.flushes(), flushes);
@@ -470,15 +434,18 @@ fn expect_flush_faults<R: AllocGlobal + Abort + Threads + Wait + Sync>(
 ) {
     for (row, &asked) in table.iter().enumerate() {
         let rt = Row { rt, row };
-        expect_write_fault(&rt, asked, &mut Unflushed, &mut io::sink(), &mut io::sink());
+        let mut out = writers(Unflushed, io::sink(), io::sink());
+        expect_write_fault(&rt, asked, &mut out);
     }
 }
 
 #[test]
 fn a_failed_flush_of_each_writer_is_a_failed_write(rt: HostRuntime) {
     let run = (Subcommand::Run, STORED, 3);
-    expect_write_fault(&rt, run, &mut io::sink(), &mut Unflushed, &mut io::sink());
-    expect_write_fault(&rt, run, &mut io::sink(), &mut io::sink(), &mut Unflushed);
+    let mut out = writers(io::sink(), Unflushed, io::sink());
+    expect_write_fault(&rt, run, &mut out);
+    let mut out = writers(io::sink(), io::sink(), Unflushed);
+    expect_write_fault(&rt, run, &mut out);
     expect_flush_faults(&rt, FLUSHED);
 }
 

@@ -2,10 +2,24 @@
 
 use crate::expectations::{Row, expect_equal};
 use rh_core::ConfigFault;
-use rh_drawn_trace::{RunFault, draw_trace};
+use rh_text::IoLog;
+use rh_trace_views::{RunFault, draw_trace};
 use samples::devices::{Broken, SlowReader, SlowWriter};
 use samples::texts::WHOLE_CYCLE;
+use std::alloc::Allocator;
+use std::io;
 use std::process::Abort;
+
+/// Draws a trace. No test needs what `draw_trace` promises beside its answer.
+fn draw<A: Allocator + Copy, R: io::Read, W: io::Write>(
+    alloc: A,
+    reader: &mut R,
+    lines: u32,
+    writer: &mut W,
+) -> Result<(), RunFault> {
+    let (mut reads, mut writes) = (IoLog::new(), IoLog::new());
+    draw_trace(alloc, reader, &mut reads, lines, writer, &mut writes)
+}
 
 /// For so many lines of a trace of eleven the end of the picture's title, and how many boxes it has.
 const PARTWAY: [(u32, &str, usize); 7] = [
@@ -65,7 +79,7 @@ const PICTURE: &str = "\
 fn drawn(rt: &(impl AllocGlobal + Abort), trace: &[u8], lines: u32) -> Vec<u8> {
     let mut reader = SlowReader::new(trace, 0);
     let mut writer = SlowWriter::new(rt, 1_000, 0);
-    let outcome = draw_trace(rt.alloc(), &mut reader, lines, &mut writer);
+    let outcome = draw(rt.alloc(), &mut reader, lines, &mut writer);
     expect_equal(rt, outcome, Ok(()));
     writer.text
 }
@@ -102,13 +116,13 @@ fn a_whole_picture_is_as_it_was_looked_at(rt: HostRuntime) {
 #[test]
 fn what_ends_a_drawing_is_told(rt: HostRuntime) {
     let mut writer = SlowWriter::new(&rt, 1_000, 0);
-    let unread = draw_trace(rt.alloc(), &mut Broken, 1, &mut writer);
+    let unread = draw(rt.alloc(), &mut Broken, 1, &mut writer);
     expect_equal(&rt, unread, Err(RunFault::Read));
     let mut reader = SlowReader::new(b"heap 7 1 1 1 1\n", 0);
-    let small = draw_trace(rt.alloc(), &mut reader, 1, &mut writer);
+    let small = draw(rt.alloc(), &mut reader, 1, &mut writer);
     expect_equal(&rt, small, Err(RunFault::New(ConfigFault::BadSpace)));
     assert!(rt; writer.text.is_empty());
     let mut reader = SlowReader::new(WHOLE_CYCLE, 0);
-    let unwritten = draw_trace(rt.alloc(), &mut reader, 1, &mut Broken);
+    let unwritten = draw(rt.alloc(), &mut reader, 1, &mut Broken);
     expect_equal(&rt, unwritten, Err(RunFault::Write));
 }

@@ -5,7 +5,7 @@ use rh_layout::Refusal;
 use rh_replay::{History, Verdict, check, read_history};
 use rh_text::LineText;
 use rh_trace::{Request, parse};
-use rh_viewed_trace::{
+use rh_trace_views::{
     fault_json, put_json_dump, put_json_string, put_request_text, report_echo, report_json,
 };
 use samples::texts::{RIGHT, WRONG};

@@ -3,9 +3,11 @@
 use crate::expectations::{Row, expect_bytes, expect_equal, expect_prefix, expect_refusals};
 use crate::texts::TOO_MANY;
 use refusing::refused_in_turn;
-use rh_viewed_trace::{
-    PacedFault, RunFault, Telling, run_viewed, run_viewed_growing, run_viewed_paced,
-};
+use rh_cycles::{CycleReader, Cycles};
+use rh_paced_trace::{Growing, Paced};
+use rh_text::IoLog;
+use rh_trace::{Fixed, NoFault, Pair, Player, WayFault};
+use rh_trace_views::{CycleReading, Telling, views};
 use samples::devices::SlowWriter;
 use samples::texts::{COLUMNS, TWO_FLIPS, WHOLE_CYCLE};
 use std::alloc::Allocator;
@@ -37,23 +39,49 @@ enum Fault {
     Other,
 }
 
-impl From<RunFault> for Fault {
-    fn from(fault: RunFault) -> Fault {
-        match fault {
-            RunFault::Write => Fault::Write,
-            RunFault::OutOfMemory => Fault::OutOfMemory,
-            _ => Fault::Other,
-        }
-    }
-}
-
-impl From<PacedFault> for Fault {
-    fn from(fault: PacedFault) -> Fault {
-        match fault {
-            PacedFault::Write => Fault::Write,
-            PacedFault::OutOfMemory => Fault::OutOfMemory,
-            _ => Fault::Other,
-        }
+/// Runs a view by a way, on the writers of its three texts. `R` reads its cycles. No test needs what
+/// `run` promises beside its answer.
+fn run_by<A, P, F, Y, R, W, H, C>(
+    alloc: A,
+    view: &View,
+    way: &Y,
+    out: &mut W,
+    history: &mut H,
+    cycles: &mut C,
+) -> Result<(), Fault>
+where
+    A: Allocator + Copy,
+    P: Player<A> + Drop,
+    F: Drop,
+    Y: rh_trace::Way<A, P, F>,
+    R: CycleReading<P> + Drop,
+    W: io::Write,
+    H: io::Write,
+    C: io::Write,
+{
+    let mut seen = views::<R, A>(alloc, view.telling);
+    let mut writers = Pair {
+        first: out,
+        second: Pair {
+            first: history,
+            second: cycles,
+        },
+    };
+    let (mut reads, mut writes) = (IoLog::new(), IoLog::new());
+    let mut text = view.trace;
+    match rh_trace::run(
+        alloc,
+        &mut text,
+        &mut reads,
+        way,
+        &mut seen,
+        &mut writers,
+        &mut writes,
+    ) {
+        Ok(_) => Ok(()),
+        Err(WayFault::Write) => Err(Fault::Write),
+        Err(WayFault::OutOfMemory) => Err(Fault::OutOfMemory),
+        Err(_) => Err(Fault::Other),
     }
 }
 
@@ -65,14 +93,19 @@ fn run<A: Allocator + Copy, W: io::Write, H: io::Write, C: io::Write>(
     history: &mut H,
     cycles: &mut C,
 ) -> Result<(), Fault> {
-    let (mut trace, telling) = (view.trace, view.telling);
-    let reader = &mut trace;
     match view.way {
-        Way::Plain => run_viewed(alloc, reader, telling, out, history, cycles)?,
-        Way::Paced => run_viewed_paced(alloc, reader, None, telling, out, history, cycles)?,
-        Way::Growing => run_viewed_growing(alloc, reader, 64, telling, out, history, cycles)?,
-    };
-    Ok(())
+        Way::Plain => run_by::<_, _, NoFault, _, CycleReader, _, _, _>(
+            alloc, view, &Fixed, out, history, cycles,
+        ),
+        Way::Paced => {
+            let paced = Paced { mark: None };
+            run_by::<_, _, _, _, Cycles, _, _, _>(alloc, view, &paced, out, history, cycles)
+        }
+        Way::Growing => {
+            let growing = Growing { at_most: 64 };
+            run_by::<_, _, _, _, Cycles, _, _, _>(alloc, view, &growing, out, history, cycles)
+        }
+    }
 }
 
 /// The history of `TWO_FLIPS`, on each heap.
