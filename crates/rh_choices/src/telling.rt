@@ -1,6 +1,6 @@
-//! How a run is told.
+//! How a run is reported: plainly, with each line echoed, or as JSON.
 
-/// How a run is told, line by line.
+/// How a run is reported, line by line.
 #[derive(Clone, Copy, Debug, PartialEq, Eq)]
 pub enum Telling {
     /// The answers alone, as `run_trace` writes them.

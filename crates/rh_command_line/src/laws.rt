@@ -1,4 +1,5 @@
-//! Laws of the definitions alone. The function does nothing: its contract is the law.
+//! Laws of command lines: how each is read, and what may not stand together. The function does
+//! nothing: its contract is the law.
 
 ghost use Rattle.std.specs.Prelude.{◌≡◌, ◌-◌, ◌^◌, List, ℕ, [], ◌∷◌, Some, None, Ok, Err, IsErr, IsFalse, IsTrue, Contains, false, codes};
 ghost use Rattle.rh_choices.specs.declared.limits.HeapWords.{HeapWords as HeapWordsOf};

@@ -1,4 +1,5 @@
-//! Laws of the definitions alone. Each function does nothing: its contract is the law.
+//! The laws of the runs of a subcommand, by subject. Each function does nothing: its contract is
+//! the law.
 
 pub mod runs;
 pub mod viewed;

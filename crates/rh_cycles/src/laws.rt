@@ -1,4 +1,5 @@
-//! Laws of the definitions alone. Each function does nothing: its contract is the law.
+//! Laws of the numbers of cycles: they account for all words and flips. Each function does nothing:
+//! its contract is the law.
 
 ghost use Rattle.std.specs.Prelude.{◌≡◌, ℕ, ◌+◌, ◌≤◌, All, List, Some, false};
 ghost use Rattle.rh_core.specs.declared.event.Event.{Event};

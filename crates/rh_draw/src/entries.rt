@@ -1,4 +1,4 @@
-//! The entries of a heap's log, as its fields tell them.
+//! The entries of a heap's log, found again in the fields that were stored.
 //!
 //! In a cycle each store is an entry, so entries have the last numbers, one after the other. The
 //! field of an entry is the one that has its number. Once a later store has taken the field, none

@@ -1,4 +1,4 @@
-//! Where what is drawn stands on a page, in units of its `viewBox`.
+//! The place of each part on the page, in units of its `viewBox`.
 
 ghost use Rattle.std.specs.Prelude.{◌^◌, ◌≤◌};
 

@@ -1,4 +1,4 @@
-//! To-space: the replicas, what is held of each field, and where the scan stands.
+//! To-space: the replicas, what each field of them holds, and how far the scan has come.
 
 use crate::arrows::{put_placed, put_reference};
 use crate::cells::{put_address, put_box, put_cell, put_pair};

@@ -1,4 +1,5 @@
-//! Laws of the definitions alone. Each function does nothing: its contract is the law.
+//! Laws of dumps: equal texts are of equal graphs, and what is written is read. Each function does
+//! nothing: its contract is the law.
 
 ghost use Rattle.std.specs.Prelude.{◌≡◌, ◌↔◌, ◌≤◌, ◌++◌, ◌∷◌, [], ℕ, pos, true, false, List, Some, Ok, Err, codes, length, slice_get};
 ghost use Rattle.std.specs.List.{AllByRecursion, flat_map};

@@ -1,4 +1,5 @@
-//! Laws of the definitions alone. Each function does nothing: its contract is the law.
+//! Laws of the heap that never moves: what is reached, what each command does, and when two heaps
+//! hold the same graph. Each function does nothing: its contract is the law.
 
 ghost use Rattle.std.specs.Prelude.{
   ◌≡◌,

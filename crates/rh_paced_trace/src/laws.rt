@@ -1,4 +1,5 @@
-//! Laws of the definitions alone. Each function does nothing: its contract is the law.
+//! Laws of the pace of a trace: what its lines allocate, the pace that this takes, and a run within
+//! its bounds. Each function does nothing: its contract is the law.
 
 ghost use Rattle.std.specs.Prelude.{◌≡◌, ◌↔◌, ◌⊎◌, ◌+◌, ◌*◌, ◌^◌, ◌<◌, ◌≤◌, ◌++◌, ℕ, Option, List, [], length, map, min, take, count_by, slice_get, false, Some, None, Ok, Err};
 ghost use Rattle.std.specs.List.{flat_map};

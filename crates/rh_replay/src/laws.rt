@@ -1,4 +1,5 @@
-//! Laws of the definitions alone. Each function does nothing: its contract is the law.
+//! Laws of histories: each has one verdict, and what is written is read. Each function does
+//! nothing: its contract is the law.
 
 ghost use Rattle.std.specs.Prelude.{◌≡◌, ◌≢◌, ◌↔◌, ℕ, ◌+◌, ◌<◌, List, [], slice_get, Some, Result, Ok, Err};
 ghost use Rattle.rh_layout.specs.declared.command.Reply.{Reply as ReplyOf};

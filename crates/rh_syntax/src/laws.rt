@@ -1,4 +1,5 @@
-//! Laws of the definitions alone. Each function does nothing: its contract is the law.
+//! Laws of the language of traces: what is written is read, and the first fault is named. Each
+//! function does nothing: its contract is the law.
 
 ghost use Rattle.std.specs.Prelude.{◌≡◌, ℕ, List, Some, Result, Ok, Err};
 ghost use Rattle.rh_text.specs.RawLine.{RawLine, lines_of, raw_text};

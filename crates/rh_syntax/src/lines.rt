@@ -1,4 +1,4 @@
-//! The lines of a trace: each spelled and read, by what stands in it.
+//! Each line of a trace, read and written by what it contains.
 
 pub mod commands;
 pub mod header;

@@ -1,4 +1,4 @@
-//! What a text begins with: a byte, a number or a root, and what stands after it.
+//! The beginning of a text: a byte, a number or a root, and the rest after it.
 //!
 //! These readers go from left to right, without looking for the line's end or its parts first. What
 //! they find is what the text begins with. They find no number of more than eight digits, nor one

@@ -1,4 +1,4 @@
-//! Laws of the definitions alone. Each function does nothing: its contract is the law.
+//! The laws of runs of a trace, by subject. Each function does nothing: its contract is the law.
 
 pub mod answers;
 pub mod dumps;

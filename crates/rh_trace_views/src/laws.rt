@@ -1,4 +1,5 @@
-//! Laws of the definitions alone. Each function does nothing: its contract is the law.
+//! Laws of viewed runs: how they end, and that they print what a plain heap answers. Each function
+//! does nothing: its contract is the law.
 
 ghost use Rattle.std.specs.Prelude.{◌≡◌, ℕ, List, Option, Result, filter, map, zip};
 ghost use Rattle.rh_model.specs.Plain.{empty_plain};
