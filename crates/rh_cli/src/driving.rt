@@ -1,4 +1,4 @@
-//! Doing what was asked, between a reader and two writers.
+//! Runs the subcommand that was asked for, from its input to its output and its messages.
 
 ghost use Rattle.std.specs.Prelude.{◌≡◌, ◌≢◌, ◌⊎◌, List, ℕ, IfSome, IfErr};
 ghost use Rattle.std.specs.Io.KnownBytes.{Consumes, IsAtEnd, Keeps};

@@ -1,4 +1,4 @@
-//! Doing what was asked, and showing where the file fails.
+//! Runs a subcommand under `--explain`: where its input fails, the faulty line is shown.
 
 ghost use Rattle.std.specs.Prelude.{◌≡◌, ◌⊎◌, List, ℕ, IfSome};
 ghost use Rattle.std.specs.Io.KnownBytes.{Consumes, IsAtEnd, Keeps};

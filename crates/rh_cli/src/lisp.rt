@@ -1,4 +1,4 @@
-//! Running a program of the small Scheme.
+//! `rheap lisp`: a program of the small Scheme is run.
 
 ghost use Rattle.std.specs.Prelude.{◌≡◌, ◌⊎◌, List, ℕ, Ok, IfErr, IfOk, IfSome, codes};
 ghost use Rattle.std.specs.Io.KnownBytes.{Consumes, Keeps};

@@ -1,4 +1,4 @@
-//! Running a program of the small Scheme, whose cycles are written.
+//! `rheap lisp --cycles`: a program of the small Scheme is run, and a line written for each cycle.
 
 ghost use Rattle.std.specs.Prelude.{◌≡◌, ◌⊎◌, List, ℕ, IfErr, IfOk, IfSome, codes};
 ghost use Rattle.std.specs.Io.KnownBytes.{Consumes, Keeps};

@@ -1,4 +1,4 @@
-//! Showing where a program of the small Scheme stopped, or a text is none.
+//! `rheap lisp --explain`: shows where a program of the small Scheme stopped, or can't be read.
 
 use rh_explained::{Told, form_spot, nth_line, write_spot};
 use rh_lisp_run::{Source, Stop};

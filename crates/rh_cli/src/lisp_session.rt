@@ -1,4 +1,4 @@
-//! A session of the small Scheme, whose entries are played as they are typed.
+//! `rheap lisp` with no file: a session of the small Scheme, entry by entry.
 
 ghost use Rattle.std.specs.Prelude.{◌≡◌, List, ℕ, Ok, IfErr, IfOk, IfSome};
 ghost use Rattle.std.specs.Io.KnownBytes.{Consumes, IsAtEnd};

@@ -1,4 +1,4 @@
-//! Who is asked for the lines of a session, and is shown what stands beside their answers.
+//! The host of a session: it prompts for a line, and shows what belongs beside the answers.
 
 use rh_shell::Host;
 use std::fs;

@@ -1,4 +1,4 @@
-//! Doing what was asked, seen in other ways.
+//! Runs a trace under `--echo`, `--json`, `--history` or `--cycles`.
 
 ghost use Rattle.std.specs.Prelude.{◌≡◌, ◌≢◌, ◌⊎◌, List, ℕ, false, IfSome, IfErr, IsOk};
 ghost use Rattle.std.specs.Io.KnownBytes.{Consumes, IsAtEnd, Keeps};

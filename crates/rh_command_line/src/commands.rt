@@ -1,4 +1,4 @@
-//! The commands, as clap knows them.
+//! The commands and options as clap takes them, made of the table.
 
 ghost use Rattle.std.specs.Prelude.{◌≡◌, map, false, IfOk};
 ghost use Rattle.std.specs.List.{list_any};

@@ -1,4 +1,4 @@
-//! The first part of a line at which it fails.
+//! Finds the first part of a line at which it fails.
 
 ghost use Rattle.std.specs.Prelude.{◌≡◌, ◌≤◌, ◌<◌, ℕ, length, map, true, IfSome, MatchOption, Some, Ok};
 ghost use Rattle.std.specs.Option.{option_map};

@@ -1,4 +1,4 @@
-//! What is wrong with a part of a line.
+//! The sentences that say what is wrong with a part of a line.
 
 ghost use Rattle.std.specs.Prelude.{◌≡◌};
 ghost use Rattle.rh_explain.specs.Explain.{class};

@@ -1,4 +1,4 @@
-//! What is wrong at a place of a text.
+//! The sentences that say what is wrong at a place of a text.
 
 use crate::due::Due;
 use rh_explain::{Expected, Why};

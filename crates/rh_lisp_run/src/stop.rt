@@ -1,4 +1,4 @@
-//! Where a program stops or a text is none, and what may stand there.
+//! Why a program stopped or can't be read, as a sentence for the user.
 
 ghost use Rattle.std.specs.Prelude.{◌≡◌, ◌↔◌, None, IfSome};
 

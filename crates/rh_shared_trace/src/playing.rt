@@ -1,4 +1,4 @@
-//! A trace of commands, played on a shared heap with mutators and replicators in threads.
+//! Threads are started for a trace: its mutators, and the replicators beside them.
 
 ghost use Rattle.std.specs.List.{AllByRecursion};
 ghost use Rattle.rh_shared.specs.Start.{IsFresh};

@@ -1,4 +1,4 @@
-//! A trace of commands, run on a shared heap with mutators and replicators in threads.
+//! `run_shared`: a trace is read, played by threads, and its history is checked and written.
 
 ghost use Rattle.std.specs.Prelude.{◌≡◌, ◌≤◌, List, ℕ, length, false, IsErrOf, IfSome};
 ghost use Rattle.std.specs.Io.KnownBytes.{Consumes};

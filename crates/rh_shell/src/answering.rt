@@ -1,4 +1,4 @@
-//! What is answered to a line.
+//! Answers one line of a session, whatever it is.
 
 ghost use Rattle.std.specs.Prelude.{◌≡◌, ◌≤◌, List, ℕ, IsErrOf, OnOk, IfSome, None, false};
 ghost use Rattle.rh_core.specs.Config.{fault_of};

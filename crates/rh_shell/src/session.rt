@@ -1,4 +1,4 @@
-//! What stands of a session between two lines.
+//! The state of a session between two lines: its heap, what its answers add up to, its next line.
 
 ghost use Rattle.std.specs.Prelude.{◌≡◌};
 ghost use Rattle.rh_shell.specs.Session.{IsCounted, new_session};

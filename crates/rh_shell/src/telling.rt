@@ -1,4 +1,4 @@
-//! The lines that tell a fault.
+//! The messages for a line that is refused or not understood.
 
 ghost use Rattle.std.specs.Prelude.{◌≡◌, ◌≤◌, ◌==◌, false, IsTrue, length};
 ghost use Rattle.std.specs.List.{list_any};
