@@ -1,4 +1,4 @@
-//! Writing the completions for a shell.
+//! `completions`: the completions for a shell are printed.
 
 ghost use Rattle.rh_commands.specs.Draw.{ConcludesSent};
 ghost use Rattle.rh_commands.specs.Fault.{status_after, IsUsualFault};

@@ -1,4 +1,4 @@
-//! A session, whose lines are answered as they are typed.
+//! `shell`: a session, whose lines are answered as they are typed.
 
 ghost use Rattle.std.specs.Prelude.{◌≡◌, List, ℕ, Err, IfSome, IfErr};
 ghost use Rattle.std.specs.Io.KnownBytes.{Consumes};

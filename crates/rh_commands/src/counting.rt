@@ -1,4 +1,4 @@
-//! Counting what a dump has.
+//! `dump`: the objects and words of a dump are counted.
 
 ghost use Rattle.std.specs.Prelude.{◌≡◌, ◌↔◌, List, ℕ, Ok, IfSome, IfErr, IsOk, IsTrue};
 ghost use Rattle.std.specs.Io.KnownBytes.{Consumes};

@@ -1,4 +1,4 @@
-//! Drawing the heap of a trace.
+//! `draw`: the heap of a trace is drawn.
 
 ghost use Rattle.std.specs.Prelude.{◌≡◌, ◌↔◌, List, ℕ, Option, Err, IfSome, IfErr, IsOk, IsTrue};
 ghost use Rattle.std.specs.Io.KnownBytes.{Consumes};

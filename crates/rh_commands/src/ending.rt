@@ -1,4 +1,4 @@
-//! How the program ends where there was no fault.
+//! The endings of a subcommand without a fault, each with its exit status.
 
 ghost use Rattle.std.specs.Prelude.{◌≡◌};
 ghost use Rattle.rh_commands.specs.Fault.{ending_status};

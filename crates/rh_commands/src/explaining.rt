@@ -1,4 +1,4 @@
-//! Showing where a file fails.
+//! `--explain` of each subcommand: where a file fails is shown.
 
 ghost use Rattle.std.specs.Prelude.{◌≤◌, length, IfSome};
 

@@ -1,4 +1,4 @@
-//! What the program says where it can't do what it was asked.
+//! The faults of the program, each with its message and its exit status.
 
 ghost use Rattle.std.specs.Prelude.{◌≡◌};
 ghost use Rattle.rh_commands.specs.declared.fault.LineFault.TheVariants.{OutOfMemory};

@@ -1,4 +1,4 @@
-//! A fault that is told as an object of JSON.
+//! A fault as an object of JSON.
 
 ghost use Rattle.std.specs.Prelude.{◌≡◌};
 ghost use Rattle.rh_commands.specs.Fault.{status_of};

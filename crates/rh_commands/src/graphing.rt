@@ -1,4 +1,4 @@
-//! Writing the graph of a dump for Graphviz.
+//! `dump --dot`: the graph of a dump is written for Graphviz.
 
 ghost use Rattle.std.specs.Prelude.{◌≡◌, List, ℕ, Ok, IfSome, IfErr};
 ghost use Rattle.std.specs.Io.KnownBytes.{Consumes};

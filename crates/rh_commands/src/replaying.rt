@@ -1,4 +1,4 @@
-//! Checking a history.
+//! `replay`: a history is checked, and the report is printed.
 
 ghost use Rattle.std.specs.Prelude.{◌≡◌, ◌≤◌, ◌↔◌, List, ℕ, length, IfSome, IfErr, IsTrue};
 ghost use Rattle.std.specs.Io.KnownBytes.{Consumes};

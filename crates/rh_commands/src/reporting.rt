@@ -1,4 +1,4 @@
-//! Reports on histories and counts of dumps that are told in other ways.
+//! `replay` and `dump` with `--echo` or `--json`.
 
 ghost use Rattle.std.specs.Prelude.{◌≡◌, ◌≤◌, List, ℕ, Ok, false, length, IfOk, IfSome, IfErr, IsErrOf, IsOk};
 ghost use Rattle.std.specs.Io.KnownBytes.{Consumes};

@@ -1,4 +1,4 @@
-//! Running a trace: on a heap that its own lines collect, or on one that collects or grows by itself.
+//! `run`: a trace is run in any way, with its answers printed.
 
 ghost use Rattle.std.specs.Prelude.{◌≡◌, ◌↔◌, List, ℕ, IfSome, IfErr, IsOk, IsTrue};
 ghost use Rattle.std.specs.Io.KnownBytes.{Consumes};

@@ -1,4 +1,4 @@
-//! Playing the commands of a trace on a shared heap, with mutators and replicators in threads.
+//! `threads`: a trace is played by threads on one shared heap.
 
 ghost use Rattle.std.specs.Prelude.{◌≡◌, ◌↔◌, List, ℕ, IfSome, IfErr, IsOk, IsTrue};
 ghost use Rattle.std.specs.Io.KnownBytes.{Consumes};

@@ -1,4 +1,4 @@
-//! Telling how what was asked ended.
+//! The message and the exit status with which a subcommand ends.
 
 ghost use Rattle.std.specs.Prelude.{◌≡◌, ◌⊎◌};
 ghost use Rattle.rh_commands.specs.Fault.{status_of, status_after};

@@ -1,4 +1,4 @@
-//! The calls of what is viewed, and whether one failed.
+//! The logs of the writers of a viewed run: whether a write or a flush failed.
 
 ghost use Rattle.std.specs.Prelude.{◌≡◌, true, OnErr, OnOk};
 ghost use Rattle.std.specs.Io.KnownBytes.{Keeps};

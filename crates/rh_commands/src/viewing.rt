@@ -1,4 +1,4 @@
-//! Runs of traces that are seen in other ways.
+//! `run` with `--echo`, `--json`, `--history` or `--cycles`, in any way.
 
 ghost use Rattle.std.specs.Prelude.{◌≡◌, List, ℕ, false, IfSome, IfErr};
 ghost use Rattle.std.specs.Io.KnownBytes.{Consumes};

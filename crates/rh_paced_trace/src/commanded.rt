@@ -1,4 +1,4 @@
-//! Heaps that collect by themselves, as what the lines of a trace are played on.
+//! The player for traces of commands alone: it takes any heap that takes commands.
 
 ghost use Rattle.std.specs.Prelude.{◌≡◌, false, []};
 ghost use Rattle.rh_paced_trace.specs.Commanded.{CommandSteps, total_at};

@@ -1,4 +1,4 @@
-//! The lines of a trace that are no commands, and the biggest object that its commands ask for.
+//! Checks of the lines of a trace: the first that is no command, and the biggest object.
 
 ghost use Rattle.std.specs.Prelude.{◌≡◌, ◌<◌, length};
 ghost use Rattle.rh_paced_trace.specs.Lines.{biggest_of, commands_in, other_fault, words_asked};

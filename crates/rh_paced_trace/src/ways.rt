@@ -1,4 +1,4 @@
-//! How traces of commands are run on heaps that collect by themselves.
+//! The paced and the growing way: a trace of commands on a heap that collects, or grows, by itself.
 
 ghost use Rattle.std.specs.Prelude.{◌≡◌, None, IfErr, IfOk};
 ghost use Rattle.rh_mutator.specs.Config.{fault_of};

@@ -1,4 +1,4 @@
-//! The answers of a run, and the line that ends them.
+//! The listener that writes each answer, and the line at the end: what `rheap run` prints.
 
 ghost use Rattle.std.specs.Prelude.{◌≡◌, ◌≤◌, ◌++◌, ◌∷◌, [], false, length, IsErrOf};
 ghost use Rattle.rh_text.specs.IoLog.{AreSpent, AreSpentSince, CountsDown, MadeSince};

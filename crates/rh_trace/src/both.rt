@@ -1,4 +1,4 @@
-//! Two listeners of one run.
+//! The listener that hands each line to two others.
 
 ghost use Rattle.std.specs.Prelude.{◌⊎◌};
 ghost use Rattle.std.proofs.Common.{inl};

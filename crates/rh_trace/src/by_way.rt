@@ -1,4 +1,4 @@
-//! A trace run on what a way makes for it.
+//! `run`: a trace is read, a way makes its heap, and a listener hears its lines.
 
 ghost use Rattle.std.specs.Prelude.{◌≡◌, ◌≤◌, ◌⊎◌, List, ℕ, length, false, IfOk, IsErrOf, IfSome};
 ghost use Rattle.std.specs.Io.KnownBytes.{Consumes};

@@ -1,4 +1,4 @@
-//! The way of a heap that has the sizes of the first line, and that the trace's own lines collect.
+//! The fixed way: a heap of the sizes in the first line, collected by the trace's own lines.
 
 ghost use Rattle.std.specs.Prelude.{◌≡◌};
 ghost use Rattle.rh_trace.specs.Fixed.{IsFixedRefusal, IsFixedRun};

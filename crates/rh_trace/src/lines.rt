@@ -1,4 +1,4 @@
-//! The lines of a trace, played one after the other, and handed to a listener.
+//! The loop of every run: each line is played, and handed with its answer to a listener.
 
 ghost use Rattle.std.specs.Prelude.{◌≡◌, ◌⊎◌, ◌+◌, ◌<◌, ◌≤◌, ◌^◌, ℕ, suc, List, None, Err, false, length, IsErrOf, OnErr, OnOk};
 ghost use Rattle.std.specs.List.{AllByRecursion};

@@ -1,4 +1,4 @@
-//! What is done with the lines of a trace and their answers.
+//! The trait of listeners: what is done with each line of a run and its answer.
 
 ghost use Rattle.std.specs.Prelude.{◌≡◌, ◌<◌, ◌⊎◌, ℕ, suc, false, List, [], Option, None, IsErrOf, OnErr, OnOk};
 ghost use Rattle.rh_core.specs.Config.{fault_of};

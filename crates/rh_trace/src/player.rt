@@ -1,4 +1,4 @@
-//! What the lines of a trace are played on.
+//! The trait of players: what the lines of a trace are played on.
 
 ghost use Rattle.std.specs.Prelude.{◌≡◌, false, IfOk};
 ghost use Rattle.rh_core.specs.Heap.{HeapState};

@@ -1,4 +1,4 @@
-//! The requests of a trace, run and answered.
+//! One request of a trace, played on the engine of traces.
 
 ghost use Rattle.std.specs.Prelude.{◌≡◌, ◌<◌, ◌≤◌, ◌+◌, ◌^◌, false, IsErrOf, OnOk};
 ghost use Rattle.rh_text.specs.IoLog.{AreSpent, AreSpentSince, MadeSince};

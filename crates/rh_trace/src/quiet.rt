@@ -1,4 +1,4 @@
-//! A run of which nothing is written.
+//! The listener that writes nothing.
 
 ghost use Rattle.std.specs.Prelude.{None, []};
 

@@ -1,4 +1,4 @@
-//! A trace read whole.
+//! A trace is read whole from a reader.
 
 ghost use Rattle.std.specs.Prelude.{◌≡◌, ◌≤◌, List, ℕ, length, false, IfOk, IsErrOf, IfSome};
 ghost use Rattle.std.specs.Io.KnownBytes.{Consumes};

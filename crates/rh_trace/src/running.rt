@@ -1,4 +1,4 @@
-//! A trace run on a new heap.
+//! `run_trace`: a trace is read, run on a new heap, and its answers are written.
 
 ghost use Rattle.std.specs.Prelude.{◌≡◌, ◌≤◌, ◌⊎◌, List, ℕ, length, IfOk, IsErrOf, IfSome};
 ghost use Rattle.std.specs.List.{flat_map};

@@ -1,4 +1,4 @@
-//! What a run of a trace adds up to.
+//! What a run adds up to: commands, refusals, cycles and so on, as its last line prints them.
 
 /// The numbers of the line that ends the answers of a trace.
 #[derive(Clone, Copy, Debug, PartialEq, Eq)]

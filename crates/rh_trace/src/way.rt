@@ -1,4 +1,4 @@
-//! How a trace is run: what its lines are played on.
+//! The trait of ways: which heap is made for a trace, and why none is.
 
 ghost use Rattle.std.specs.Prelude.{◌≡◌, List, None, IfErr, IfOk};
 ghost use Rattle.std.specs.List.{AllByRecursion};

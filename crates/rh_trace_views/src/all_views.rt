@@ -1,4 +1,4 @@
-//! All that is seen of a run: each line with its answer, the history, and the lines of cycles.
+//! The listeners of all views as one.
 
 ghost use Rattle.std.specs.Prelude.{◌≡◌, None};
 ghost use Rattle.rh_trace_views.specs.Listening.{history_in};

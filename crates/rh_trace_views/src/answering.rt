@@ -1,4 +1,4 @@
-//! What is told of an answer.
+//! The text of an answer under `--echo` and `--json`.
 
 ghost use Rattle.std.specs.Prelude.{◌≡◌, ◌++◌, OnOk};
 ghost use Rattle.rh_core.specs.Heap.{HeapState};

@@ -1,4 +1,4 @@
-//! The lines of a run's cycles.
+//! The listener for `--cycles`: it writes a line for each cycle that ended.
 
 ghost use Rattle.std.specs.Prelude.{◌≡◌, [], Option, None, Some, IsErrOf, false};
 ghost use Rattle.rh_cycles.specs.Cycles.{told_cycles};

@@ -1,4 +1,4 @@
-//! What reads the cycles of what the lines of a trace are played on.
+//! How the listener for `--cycles` reads the cycles of what lines are played on.
 
 ghost use Rattle.std.specs.Prelude.{◌≡◌, ℕ, Option};
 ghost use Rattle.rh_core.specs.Stat.{stat_of};

@@ -1,4 +1,4 @@
-//! The picture of a heap partway through a trace.
+//! `draw`: the picture of a heap partway through a trace.
 
 ghost use Rattle.std.specs.Prelude.{◌≡◌, ℕ, List, false, OnOk, IfErr, IsErrOf};
 ghost use Rattle.std.specs.Io.KnownBytes.{Appends, Keeps};

@@ -1,4 +1,4 @@
-//! The report on a history, and the line of its first wrong call.
+//! The report of `replay --echo` on a history, and the line of its first wrong call.
 
 ghost use Rattle.std.specs.Prelude.{◌≡◌, ◌-◌, [], ◌∷◌, ◌++◌, IfOk, OnOk, slice_get};
 ghost use Rattle.rh_syntax.specs.CommandAnswers.{answer_text};

@@ -1,4 +1,4 @@
-//! What is told as JSON of a heap's numbers, of trays, and of what a run adds up to.
+//! Parts of `--json`: the numbers of a `stat`, the trays, and what a run adds up to.
 
 ghost use Rattle.std.specs.Prelude.{◌≡◌, ◌++◌, IfOk, OnOk};
 ghost use Rattle.std.specs.List.{flat_map};

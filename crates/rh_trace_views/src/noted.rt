@@ -1,4 +1,4 @@
-//! The history of a run's commands.
+//! The listener for `--history`: it notes the commands of a run, and writes their history.
 
 ghost use Rattle.std.specs.Prelude.{◌≡◌, ◌<◌, ℕ, suc, length, [], Option, None};
 ghost use Rattle.rh_replay.specs.History.{HistoryState};

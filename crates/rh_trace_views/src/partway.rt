@@ -1,4 +1,4 @@
-//! A trace that is run up to one of its lines.
+//! A trace is run up to one of its lines, for a picture of the heap there.
 
 ghost use Rattle.std.specs.Prelude.{◌≡◌, ◌<◌, length, Some, Err, IfOk, IsErrOf, take};
 ghost use Rattle.rh_mutator.specs.declared.config.ConfigFault.{ConfigFault};

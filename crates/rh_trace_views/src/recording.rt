@@ -1,4 +1,4 @@
-//! The recorder of a run's history.
+//! The recorder behind `--history`.
 
 ghost use Rattle.std.specs.Prelude.{◌≡◌, ◌≤◌, None, IfOk};
 ghost use Rattle.rh_core.specs.Config.{fault_of};

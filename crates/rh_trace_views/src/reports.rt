@@ -1,4 +1,4 @@
-//! Faults, reports on histories, and dumps as JSON.
+//! Faults, reports on histories, and counts of dumps, as objects of JSON.
 
 ghost use Rattle.std.specs.Prelude.{◌≡◌, ◌<◌, ◌++◌, IfOk, OnOk};
 ghost use Rattle.std.specs.Option.{option_map};

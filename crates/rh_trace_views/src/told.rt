@@ -1,4 +1,4 @@
-//! Each line of a run, told with its answer.
+//! The listener for `--echo` and `--json`: it writes each line with its answer.
 
 ghost use Rattle.std.specs.Prelude.{◌≡◌, [], IsErrOf, false};
 ghost use Rattle.rh_choices.specs.declared.telling.Telling.{Telling as TellingOf};

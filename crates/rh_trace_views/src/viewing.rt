@@ -1,4 +1,4 @@
-//! What a telling puts for a line, and at the end.
+//! The text of a line under `--echo` and `--json`, and of the line at the end.
 
 ghost use Rattle.std.specs.Prelude.{◌≡◌, ◌++◌, OnOk};
 ghost use Rattle.rh_trace_views.specs.Views.{echo_start, is_structured, json_dump_line, json_dump_lines, json_start, json_told, listing_start, total_text, unended, view_of};

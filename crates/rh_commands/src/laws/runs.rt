@@ -1,4 +1,4 @@
-//! Laws of how runs conclude: what is said of any way is, of each, what its input says.
+//! Laws of how the subcommand `run` ends, by its way: what it writes and its faults.
 
 ghost use Rattle.std.specs.Prelude.{ℕ, List, Option};
 ghost use Rattle.rh_trace.specs.Fixed.{FixedEnds};

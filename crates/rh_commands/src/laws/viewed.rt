@@ -1,4 +1,4 @@
-//! Laws of viewed runs of commands alone.
+//! Laws of viewed runs of paced and growing heaps.
 
 ghost use Rattle.std.specs.Prelude.{◌≡◌, ℕ, Bool, List, None, Option, Result, IfOk};
 ghost use Rattle.std.specs.Io.KnownBytes.{Consumes};
