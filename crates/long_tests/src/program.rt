@@ -4,32 +4,32 @@ use crate::expectations::{Row, ample, expect_bytes, expect_equal};
 use rh_cli::{Ask, KeptReader, PLAIN, Subcommand, drive, drive_explained};
 use samples::devices::InterruptedReader;
 use samples::texts::repeated;
+use std::io::Read;
 use std::process::Abort;
 use std::sync::Wait;
 use std::thread::Threads;
 
-/// Does as asked where the read of this number, counted from 1, comes to the end, and each other is
-/// interrupted. Answers the status, the reads, the bytes that are answered, and what is told. No test
-/// needs what `drive` promises beside it.
-fn ended<R: AllocGlobal + Threads + Wait + Sync>(
+/// Does as asked with what a reader gives. Answers the status, the bytes that are answered, and what
+/// is told. No test needs what `drive` promises beside it.
+fn driven<R: AllocGlobal + Threads + Wait + Sync, T: Read>(
     rt: &R,
     subcommand: Subcommand,
-    ends_at: u32,
-) -> (u8, u32, usize, Vec<u8>) {
+    reader: &mut T,
+) -> (u8, usize, Vec<u8>) {
     let ask = Ask {
         subcommand,
         file: "-",
         explain: false,
         views: PLAIN,
     };
-    let mut reader = InterruptedReader { reads: 0, ends_at };
     let mut out = Vec::new(rt.alloc());
     let mut err = Vec::new(rt.alloc());
-    let status = drive(rt, rt.alloc(), &ask, &mut reader, &mut out, &mut err);
-    (status, reader.reads, out.len(), err)
+    let status = drive(rt, rt.alloc(), &ask, reader, &mut out, &mut err);
+    (status, out.len(), err)
 }
 
-/// Expects status 1, so many reads, no answer, and what is told.
+/// Does as asked where the read of this number, counted from 1, comes to the end, and each other is
+/// interrupted. Expects status 1, so many reads, no answer, and what is told.
 fn expect_reads<R: AllocGlobal + Abort + Threads + Wait + Sync>(
     rt: &R,
     subcommand: Subcommand,
@@ -37,8 +37,9 @@ fn expect_reads<R: AllocGlobal + Abort + Threads + Wait + Sync>(
     reads: u32,
     told: &[u8],
 ) {
-    let (status, read, answered, err) = ended(rt, subcommand, ends_at);
-    expect_equal(rt, (status, read, answered), (1, reads, 0));
+    let mut reader = InterruptedReader { reads: 0, ends_at };
+    let (status, answered, err) = driven(rt, subcommand, &mut reader);
+    expect_equal(rt, (status, reader.reads, answered), (1, reads, 0));
     expect_bytes(rt, &err, told);
 }
 
@@ -49,15 +50,36 @@ const THREADS: Subcommand = Subcommand::Threads {
 
 const PACED: Subcommand = Subcommand::RunPaced { mark: None };
 
+const DRAW: Subcommand = Subcommand::Draw { line: None };
+
 #[test]
 fn reads_of_traces_and_histories_end(rt: HostRuntime) {
-    let asked = [Subcommand::Run, PACED, THREADS, Subcommand::Replay];
+    let asked = [Subcommand::Run, PACED, THREADS, DRAW, Subcommand::Replay];
     for (row, &subcommand) in asked.iter().enumerate() {
         let rt = Row { rt: &rt, row };
         let empty = b"rheap: line 1: Empty\n";
         expect_reads(&rt, subcommand, 33_554_432, 33_554_432, empty);
         let failed = b"rheap: read failed\n";
         expect_reads(&rt, subcommand, 33_554_433, 33_554_432, failed);
+    }
+}
+
+/// Expects that a trace is told as too long, and nothing is answered.
+fn expect_too_long<R: AllocGlobal + Abort + Threads + Wait + Sync>(
+    rt: &R,
+    subcommand: Subcommand,
+    mut text: &[u8],
+) {
+    let (status, answered, err) = driven(rt, subcommand, &mut text);
+    expect_equal(rt, (status, answered), (1, 0));
+    expect_bytes(rt, &err, b"rheap: too long\n");
+}
+
+#[test]
+fn traces_have_at_most_so_many_bytes(rt: HostRuntime) {
+    let text = ample(&rt, repeated(&rt, b"", b"\n", 16_777_217));
+    for (row, &subcommand) in [Subcommand::Run, PACED, THREADS, DRAW].iter().enumerate() {
+        expect_too_long(&Row { rt: &rt, row }, subcommand, &text);
     }
 }
 

@@ -54,6 +54,13 @@ pub const DOT: Ask<'static> = Ask {
     views: PLAIN,
 };
 
+pub const DRAW: Ask<'static> = Ask {
+    subcommand: Subcommand::Draw { line: None },
+    file: "-",
+    explain: false,
+    views: PLAIN,
+};
+
 /// Does what is asked, and answers the status. No test needs what `drive` promises beside it.
 pub fn status_of<R, A, T, O, E>(
     rt: &R,

@@ -2,7 +2,7 @@
 //! refused, at each place in turn.
 
 use crate::expectations::{Row, ample, expect_bytes, expect_equal, expect_prefix, expect_refusals};
-use crate::program::driving::{DOT, DUMP, PACED, REPLAY, RUN, THREADS, is_refused, status_of};
+use crate::program::driving::{DOT, DRAW, DUMP, PACED, REPLAY, RUN, THREADS, is_refused, status_of};
 use crate::texts::{STORED, STORED_HISTORY, TWO_FLIPS_ANSWERS, ended_lines};
 use refusing::refused_in_turn;
 use rh_cli::{Ask, PLAIN, Subcommand};
@@ -222,6 +222,8 @@ fn fail_devices<R: AllocGlobal + Abort + Threads + Wait + Sync>(
 #[test]
 fn devices_that_fail(rt: HostRuntime) {
     expect_equal(&rt, fail_devices(&rt, all_played()), 14);
+    expect_unflushed(&rt, &DRAW, WHOLE_CYCLE);
+    expect_untold(&rt, &DRAW);
 }
 
 /// The first eight reads of a text that comes a byte a time, and the two after its last byte.

@@ -2,6 +2,7 @@
 
 use crate::expectations::{Row, expect_equal};
 use rh_core::ConfigFault;
+use rh_syntax::{Kind, TraceFault};
 use rh_text::IoLog;
 use rh_trace_views::{RunFault, draw_trace};
 use samples::devices::{Broken, SlowReader, SlowWriter};
@@ -121,6 +122,13 @@ fn what_ends_a_drawing_is_told(rt: HostRuntime) {
     let mut reader = SlowReader::new(b"heap 7 1 1 1 1\n", 0);
     let small = draw(rt.alloc(), &mut reader, 1, &mut writer);
     expect_equal(&rt, small, Err(RunFault::New(ConfigFault::BadSpace)));
+    let mut reader = SlowReader::new(b"heap 16 8 4 2 2\nbegun\n", 0);
+    let fault = TraceFault {
+        line: 2,
+        kind: Kind::Word,
+    };
+    let faulty = draw(rt.alloc(), &mut reader, 1, &mut writer);
+    expect_equal(&rt, faulty, Err(RunFault::Trace(fault)));
     assert!(rt; writer.text.is_empty());
     let mut reader = SlowReader::new(WHOLE_CYCLE, 0);
     let unwritten = draw(rt.alloc(), &mut reader, 1, &mut Broken);
