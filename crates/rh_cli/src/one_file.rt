@@ -1,4 +1,4 @@
-//! Whether names are those of one file.
+//! Whether two paths lead to the same file.
 
 use crate::program::is_standard_input;
 use rh_command_line::Views;

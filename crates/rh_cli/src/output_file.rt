@@ -1,4 +1,4 @@
-//! A file for a text, which keeps what it had until the text comes.
+//! An output file that keeps what it had until there is a text for it.
 
 use std::fs::{File, OpenFile};
 use std::io::{self, Write};

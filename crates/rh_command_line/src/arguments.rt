@@ -1,4 +1,4 @@
-//! What a command line asks, by what clap took it apart into.
+//! Turns the matches of clap into an `Ask`.
 
 ghost use Rattle.std.specs.Prelude.{◌≡◌, ◌≢◌, ◌≤◌, ◌⊎◌, [], map, option_map, Ok, Err, IsTrue, IfOk, IfErr};
 ghost use Rattle.clap.specs.Words.{kind_of, subcommand_rows_of};

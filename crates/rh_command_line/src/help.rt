@@ -1,5 +1,5 @@
-//! What the help of each command ends with. A function lends each text, so that no other proof writes
-//! it out.
+//! The text below the options in `rheap COMMAND --help`, from which share/make makes the man page.
+//! A function lends each text, so that no other proof writes it out.
 
 /// Lends what the help of the command of this name ends with.
 pub(crate) fn after<'a>(name: &str) -> &'a str {

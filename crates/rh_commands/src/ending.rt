@@ -1,4 +1,4 @@
-//! The endings of a subcommand without a fault, each with its exit status.
+//! The endings of a subcommand without a fault: status 0, or 4 for a history that is wrong.
 
 ghost use Rattle.std.specs.Prelude.{◌≡◌};
 ghost use Rattle.rh_commands.specs.Fault.{ending_status};

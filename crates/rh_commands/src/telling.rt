@@ -1,4 +1,4 @@
-//! The message and the exit status with which a subcommand ends.
+//! Writes the message of a fault, and returns its exit status.
 
 ghost use Rattle.std.specs.Prelude.{◌≡◌, ◌⊎◌};
 ghost use Rattle.rh_commands.specs.Fault.{status_of, status_after};

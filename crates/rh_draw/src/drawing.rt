@@ -1,4 +1,4 @@
-//! The picture of a heap, put together and written.
+//! Puts the picture of a heap together from its parts, and writes it as SVG.
 
 ghost use Rattle.std.specs.Prelude.{◌≡◌, false, IsErrOf, OnOk};
 ghost use Rattle.std.specs.String.{string_bytes};

@@ -1,4 +1,4 @@
-//! A block of text that shows the faulty part of a line.
+//! The message with a line and carets under its faulty part.
 
 ghost use Rattle.std.specs.Prelude.{◌≡◌, ◌+◌, ◌≤◌, ◌<◌, ◌⊎◌, ◌++◌, length, take, replicate};
 ghost use Rattle.rh_explain.specs.Block.{cut_mark, hex_digit, shown, shown_byte, shown_from};

@@ -1,4 +1,4 @@
-//! A history checked against the heap that never moves.
+//! Checks that a history is legal: each call is answered as the heap that never moves answers it.
 
 ghost use Rattle.std.specs.Prelude.{◌≡◌, ◌↔◌, IsTrue, IfOk, OnOk};
 ghost use Rattle.rh_model.specs.Plain.{step};

@@ -1,4 +1,4 @@
-//! Who calls a shared heap.
+//! A mutator: the handle by which one thread calls a shared heap.
 
 ghost use Rattle.std.specs.Prelude.{◌≡◌, ◌<◌, ◌≤◌, IfOk, length, Err};
 ghost use Rattle.rh_shared.specs.Start.{HasRoots};

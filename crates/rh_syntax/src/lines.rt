@@ -1,4 +1,4 @@
-//! Each line of a trace, read and written by what it contains.
+//! Finds the kind of a line, and hands it to the file that reads or writes it.
 
 pub mod commands;
 pub mod header;

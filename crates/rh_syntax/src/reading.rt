@@ -1,4 +1,4 @@
-//! A raw line of a trace, read by its limits, its form and its parts, with its first fault.
+//! Reads one line of a trace, or names its first fault.
 
 ghost use Rattle.std.specs.Prelude.{◌≡◌};
 ghost use Rattle.rh_text.specs.Parts.{parts_left};

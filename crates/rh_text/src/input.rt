@@ -1,4 +1,4 @@
-//! An input read whole.
+//! Reads an input whole, up to a limit.
 
 ghost use Rattle.std.specs.Prelude.{◌≡◌, ◌++◌, ◌+◌, ◌<◌, ◌≤◌, length, false, IfOk, OnOk, IsErrOf};
 ghost use Rattle.rh_text.specs.IoLog.{AreSpent, CountsDown};

@@ -1,4 +1,4 @@
-//! The calls of a reader or a writer, whether one failed, and whether one came to the end.
+//! A log of reads or writes, by which contracts say whether one failed or came to the end.
 
 ghost use Rattle.std.specs.IoError.{error_kind};
 ghost use Rattle.std.specs.Prelude.{◌≡◌, ◌↔◌, ◌+◌, ◌<◌, length, IsTrue, true, false, Ok};

@@ -1,4 +1,4 @@
-//! What a part says: a number, or a whole number with sign.
+//! Reads a number, or a whole number with a sign, from a part of a line.
 
 ghost use Rattle.std.specs.Prelude.{◌≡◌};
 ghost use Rattle.rh_text.specs.Number.{number_of, integer_of};

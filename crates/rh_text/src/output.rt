@@ -1,4 +1,4 @@
-//! A text sent whole.
+//! Sends a whole text to a writer.
 
 ghost use Rattle.std.specs.Prelude.{◌≡◌, false, OnOk, OnErr};
 ghost use Rattle.std.specs.Io.KnownBytes.{Appends};

@@ -1,4 +1,4 @@
-//! What a part says: a root.
+//! Reads a root from a part of a line.
 
 ghost use Rattle.std.specs.Prelude.{◌≡◌};
 ghost use Rattle.rh_text.specs.Root.{root_of};

@@ -1,4 +1,4 @@
-//! The text of an answer under `--echo` and `--json`.
+//! Makes the text of an answer under `--echo` and `--json`, for `told.rt` to write.
 
 ghost use Rattle.std.specs.Prelude.{◌≡◌, ◌++◌, OnOk};
 ghost use Rattle.rh_core.specs.Heap.{HeapState};

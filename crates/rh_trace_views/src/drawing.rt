@@ -1,4 +1,4 @@
-//! `draw`: the picture of a heap partway through a trace.
+//! `rheap draw`: runs a trace up to a line, and has the heap there drawn.
 
 ghost use Rattle.std.specs.Prelude.{◌≡◌, ℕ, List, false, OnOk, IfErr, IsErrOf};
 ghost use Rattle.std.specs.Io.KnownBytes.{Appends, Keeps};

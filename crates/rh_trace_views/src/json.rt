@@ -1,4 +1,4 @@
-//! Parts of `--json`: the numbers of a `stat`, the trays, and what a run adds up to.
+//! The JSON of a `stat`, of trays and of the last line; `told.rt` writes the rest.
 
 ghost use Rattle.std.specs.Prelude.{◌≡◌, ◌++◌, IfOk, OnOk};
 ghost use Rattle.std.specs.List.{flat_map};

@@ -1,4 +1,4 @@
-//! Of which sort the answer to a request is.
+//! Sorts requests by what their answer is: one line, the trays, a `stat` or a dump.
 
 ghost use Rattle.std.specs.Prelude.{◌≡◌};
 ghost use Rattle.rh_trace_views.specs.Views.{sort_of};

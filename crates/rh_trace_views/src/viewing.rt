@@ -1,4 +1,4 @@
-//! The text of a line under `--echo` and `--json`, and of the line at the end.
+//! Makes the text of a line under `--echo` and `--json`, for `told.rt` to write.
 
 ghost use Rattle.std.specs.Prelude.{◌≡◌, ◌++◌, OnOk};
 ghost use Rattle.rh_trace_views.specs.Views.{echo_start, is_structured, json_dump_line, json_dump_lines, json_start, json_told, listing_start, total_text, unended, view_of};

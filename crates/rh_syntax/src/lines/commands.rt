@@ -1,4 +1,5 @@
-//! Command lines, each keyword's reading and spelling side by side.
+//! The lines of commands (`1 alloc 1.0 2` and so on), each keyword's reading and writing side by
+//! side.
 
 ghost use Rattle.std.specs.Prelude.{◌≡◌, ◌≤◌, length};
 ghost use Rattle.rh_layout.specs.declared.command.Command.TheVariants.{Alloc, Raw, Load, Store, Copy, Same, Drop};
