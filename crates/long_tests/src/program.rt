@@ -1,4 +1,4 @@
-//! Reads of the program that run out, and a dump that is too long.
+//! Reads of the program that run out, and a trace and a dump that are too long.
 
 use crate::expectations::{Row, ample, expect_bytes, expect_equal};
 use rh_cli::{Ask, KeptReader, PLAIN, Subcommand, drive, drive_explained};

@@ -1,5 +1,5 @@
 -- What the statuses say of how a subcommand ended.
-use Rattle.std.proofs.Common.{◌≡◌, ◌≢◌, ◌⊎◌, ◌↔◌, inl, inr, ℕ, Bool, List, Option, Some, Result, Ok, Err, refl, sym, ap, ◌∙◌, arith}
+use Rattle.std.proofs.Common.{◌≡◌, ◌≢◌, ◌⊎◌, ◌↔◌, inl, inr, ℕ, Bool, List, Option, Some, Result, Ok, Err, refl, sym, ap, subst, ◌∙◌, arith}
 use Rattle.std.specs.Io.KnownBytes.{Appends, Keeps}
 use Rattle.clap.specs.Words.{kind_of}
 use Rattle.clap.specs.declared.error.Error.{Error as ClapError}
@@ -22,11 +22,15 @@ use Rattle.rh_text.specs.declared.output.Write.{Write}
 use Rattle.rh_trace.specs.Run.{Ends, StopsBeforeTotal, run_of, text_of}
 use Rattle.rh_trace.specs.declared.run_fault.RunFault.{RunFault}
 use Rattle.rh_trace.specs.declared.run_fault.RunFault.TheVariants as run_faults
+use Rattle.rh_trace.specs.declared.way_fault.WayFault.{WayFault}
+use Rattle.rh_trace.specs.declared.way_fault.WayFault.TheVariants as ends
+use Rattle.rh_trace.specs.Fixed.{by_way}
+use Rattle.rh_trace.specs.Ways.{of_run_fault}
 use Rattle.rh_trace.specs.declared.summary.Summary.{Summary}
 use Rattle.rh_commands.specs.Count.{DumpEnds, IsCountStatus, IsSentStatus, counts_line}
 use Rattle.rh_commands.specs.Draw.{DrawEnds, SentEnds}
 use Rattle.rh_cli.specs.Drive.{Concludes}
-use Rattle.rh_commands.specs.Run.{IsRunStatus, run_status}
+use Rattle.rh_commands.specs.Runs.{ConcludesGrowing, ConcludesPaced, IsWayStatus, way_status}
 use Rattle.rh_command_line.specs.Fault.{arguments_status, line_status}
 use Rattle.rh_command_line.specs.declared.fault.CommandLineFault.{CommandLineFault}
 use Rattle.rh_command_line.specs.declared.fault.CommandLineFault.TheVariants as line_faults
@@ -34,11 +38,10 @@ use Rattle.rh_command_line.specs.lemmas.Statuses.{line_at_most_2}
 use Rattle.rh_commands.specs.Fault.{ending_status, status_of, IsLateStatus}
 use Rattle.rh_syntax.specs.Spelling.{Script}
 use Rattle.rh_pace.specs.declared.pace.Pace.{Pace}
-use Rattle.rh_paced_trace.specs.Run.{Ends as PacedEnds, IsRun, text_of as paced_text_of}
-use Rattle.rh_paced_trace.specs.Growing.{EndsGrowing, IsGrowingRun, growing_text_of}
-use Rattle.rh_commands.specs.Paced.{ConcludesGrowing, ConcludesPaced, IsPacedStatus, paced_status}
-use Rattle.rh_paced_trace.specs.declared.fault.PacedFault.{PacedFault}
-use Rattle.rh_paced_trace.specs.declared.fault.PacedFault.TheVariants as paced_faults
+use Rattle.rh_paced_trace.specs.Run.{CommandsEnd, Ends as PacedEnds, HasNoPace, IsRun, text_of as paced_text_of}
+use Rattle.rh_paced_trace.specs.Growing.{EndsGrowing, HasNoGrowth, IsGrowingRun, growing_text_of, growth_of}
+use Rattle.rh_paced_trace.specs.declared.fault.Unpaced.{Unpaced}
+use Rattle.rh_paced_trace.specs.declared.fault.Unpaced.TheVariants as unpaced
 use Rattle.rh_cli.proofs.LispStatuses.{lisp_is_0, lisp_is_0_1_or_3, lisp_is_3, lisp_session_is_0_1_or_3}
 use Rattle.rh_lisp_run.specs.Run.{IsNewMachine, IsRun as IsLispRun}
 use Rattle.rh_choices.specs.declared.limits.Limits.{Limits}
@@ -70,21 +73,41 @@ wrong_is_4 Done = (λ is. absurd (omega (arith, is)), λ is. cc)
 wrong_is_4 WrongHistory = (λ is. refl, λ is. refl)
 
 -- a run's fault has 1, or 3 for want of memory
-pub run_memory_is_3 : (fault : RunFault) → (run_status fault ≡ 3) ↔ (fault ≡ run_faults.OutOfMemory)
-run_memory_is_3 run_faults.Read = (λ is. absurd (omega (arith, is)), λ is. cc)
-run_memory_is_3 run_faults.Long = (λ is. absurd (omega (arith, is)), λ is. cc)
-run_memory_is_3 (run_faults.Trace fault) = (λ is. absurd (omega (arith, is)), λ is. cc)
-run_memory_is_3 (run_faults.New fault) = (λ is. absurd (omega (arith, is)), λ is. cc)
-run_memory_is_3 run_faults.Write = (λ is. absurd (omega (arith, is)), λ is. cc)
-run_memory_is_3 run_faults.OutOfMemory = (λ is. refl, λ is. refl)
+pub way_memory_is_3 : (fault : WayFault Unpaced) → (way_status fault ≡ 3) ↔ (fault ≡ ends.OutOfMemory)
+way_memory_is_3 ends.Read = (λ is. absurd (omega (arith, is)), λ is. cc)
+way_memory_is_3 ends.Long = (λ is. absurd (omega (arith, is)), λ is. cc)
+way_memory_is_3 (ends.Trace fault) = (λ is. absurd (omega (arith, is)), λ is. cc)
+way_memory_is_3 (ends.New fault) = (λ is. absurd (omega (arith, is)), λ is. cc)
+way_memory_is_3 (ends.Way unpaced.Limits) = (λ is. absurd (omega (arith, is)), λ is. cc)
+way_memory_is_3 (ends.Way (unpaced.Pace why)) = (λ is. absurd (omega (arith, is)), λ is. cc)
+way_memory_is_3 ends.Write = (λ is. absurd (omega (arith, is)), λ is. cc)
+way_memory_is_3 ends.OutOfMemory = (λ is. refl, λ is. refl)
 
-pub run_fault_is_1_or_3 : (fault : RunFault) → (run_status fault ≡ 1) ⊎ (run_status fault ≡ 3)
-run_fault_is_1_or_3 run_faults.Read = inl refl
-run_fault_is_1_or_3 run_faults.Long = inl refl
-run_fault_is_1_or_3 (run_faults.Trace fault) = inl refl
-run_fault_is_1_or_3 (run_faults.New fault) = inl refl
-run_fault_is_1_or_3 run_faults.Write = inl refl
-run_fault_is_1_or_3 run_faults.OutOfMemory = inr refl
+pub way_fault_is_1_or_3 : (fault : WayFault Unpaced) → (way_status fault ≡ 1) ⊎ (way_status fault ≡ 3)
+way_fault_is_1_or_3 ends.Read = inl refl
+way_fault_is_1_or_3 ends.Long = inl refl
+way_fault_is_1_or_3 (ends.Trace fault) = inl refl
+way_fault_is_1_or_3 (ends.New fault) = inl refl
+way_fault_is_1_or_3 (ends.Way unpaced.Limits) = inl refl
+way_fault_is_1_or_3 (ends.Way (unpaced.Pace why)) = inl refl
+way_fault_is_1_or_3 ends.Write = inl refl
+way_fault_is_1_or_3 ends.OutOfMemory = inr refl
+
+pub way_fault_is_not_0 : (fault : WayFault Unpaced) → 0 ≡ way_status fault → ⊥
+way_fault_is_not_0 fault is = elim (way_fault_is_1_or_3 fault) [ inl one ↦ omega (arith, is, one) | inr three ↦ omega (arith, is, three) ]
+
+-- so the status after a run is one of 0, 1 and 3
+pub way_is_0_1_or_3 : (outcome : Result Summary (WayFault Unpaced)) (status : ℕ) → IsWayStatus outcome status → (status ≡ 0) ⊎ ((status ≡ 1) ⊎ (status ≡ 3))
+way_is_0_1_or_3 (Ok summary) status (inl is) = inl is
+way_is_0_1_or_3 (Ok summary) status (inr is) = inr (inl is)
+way_is_0_1_or_3 (Err fault) status is =
+    elim (way_fault_is_1_or_3 fault) [ inl one ↦ inr (inl (is ∙ one)) | inr three ↦ inr (inr (is ∙ three)) ]
+
+-- it is 1 or 3 where the run can't come to its end
+way_is_1_or_3 : (outcome : Result Summary (WayFault Unpaced)) (status : ℕ) → ((summary : Summary) → outcome ≡ Ok summary → ⊥) → IsWayStatus outcome status → (status ≡ 1) ⊎ (status ≡ 3)
+way_is_1_or_3 (Ok summary) status none own = absurd (none summary refl)
+way_is_1_or_3 (Err fault) status none own =
+    elim (way_fault_is_1_or_3 fault) [ inl one ↦ inl (own ∙ one) | inr three ↦ inr (own ∙ three) ]
 
 -- of all faults want of memory alone has 3
 pub memory_is_3 : (fault : LineFault) → (status_of fault ≡ 3) ↔ (fault ≡ faults.OutOfMemory)
@@ -200,21 +223,13 @@ no_help_is_2 DisplayVersion help version = absurd (version refl)
 no_help_is_2 kind help version = refl
 
 -- a run ends with 0 where it gave all that was due
-run_is_0 : (due : Result (List ℕ × Summary) RunFault) (outcome : Result Summary RunFault) (old new : Option (List ℕ)) → Ends due outcome old new → IsRunStatus outcome 0
+run_is_0 : (due : Result (List ℕ × Summary) RunFault) (outcome : Result Summary RunFault) (old new : Option (List ℕ)) → Ends due outcome old new → IsWayStatus (by_way outcome) 0
     → (run : List ℕ × Summary) × (due ≡ Ok run) × Appends old new run.0
 run_is_0 due (Ok summary) old new ends status = ((text_of due, summary), ends.0, ends.1)
-run_is_0 due (Err fault) old new ends status =
-    elim (run_fault_is_1_or_3 fault) [ inl one ↦ absurd (omega (arith, status, one)) | inr three ↦ absurd (omega (arith, status, three)) ]
-
--- the status after a run is one of 0, 1 and 3
-pub run_is_0_1_or_3 : (outcome : Result Summary RunFault) (status : ℕ) → IsRunStatus outcome status → (status ≡ 0) ⊎ ((status ≡ 1) ⊎ (status ≡ 3))
-run_is_0_1_or_3 (Ok summary) status (inl is) = inl is
-run_is_0_1_or_3 (Ok summary) status (inr is) = inr (inl is)
-run_is_0_1_or_3 (Err fault) status is =
-    elim (run_fault_is_1_or_3 fault) [ inl one ↦ inr (inl (is ∙ one)) | inr three ↦ inr (inr (is ∙ three)) ]
+run_is_0 due (Err fault) old new ends status = absurd (way_fault_is_not_0 (of_run_fault fault) status)
 
 -- a run that was refused memory has written nothing of its total line
-run_is_3 : (due : Result (List ℕ × Summary) RunFault) (outcome : Result Summary RunFault) (old new : Option (List ℕ)) → Ends due outcome old new → IsRunStatus outcome 3 → StopsBeforeTotal due old new
+run_is_3 : (due : Result (List ℕ × Summary) RunFault) (outcome : Result Summary RunFault) (old new : Option (List ℕ)) → Ends due outcome old new → IsWayStatus (by_way outcome) 3 → StopsBeforeTotal due old new
 run_is_3 due (Ok summary) old new ends (inl is) = absurd (omega (arith, is))
 run_is_3 due (Ok summary) old new ends (inr is) = absurd (omega (arith, is))
 run_is_3 due (Err run_faults.Read) old new ends is = absurd (omega (arith, is))
@@ -226,27 +241,9 @@ run_is_3 due (Err run_faults.OutOfMemory) old new ends is = ends
 
 -- a run of an input with a fault ends with 1 or 3
 run_of_fault : (due : Result (List ℕ × Summary) RunFault) (fault : RunFault) (outcome : Result Summary RunFault) (status : ℕ) (old new : Option (List ℕ))
-    → due ≡ Err fault → Ends due outcome old new → IsRunStatus outcome status → (status ≡ 1) ⊎ (status ≡ 3)
+    → due ≡ Err fault → Ends due outcome old new → IsWayStatus (by_way outcome) status → (status ≡ 1) ⊎ (status ≡ 3)
 run_of_fault due fault (Ok summary) status old new is ends own = absurd (let done = ends.0 in cc)
-run_of_fault due fault (Err other) status old new is ends own =
-    elim (run_fault_is_1_or_3 other) [ inl one ↦ inl (own ∙ one) | inr three ↦ inr (own ∙ three) ]
-
-pub paced_fault_is_1_or_3 : (fault : PacedFault) → (paced_status fault ≡ 1) ⊎ (paced_status fault ≡ 3)
-paced_fault_is_1_or_3 paced_faults.Read = inl refl
-paced_fault_is_1_or_3 paced_faults.Long = inl refl
-paced_fault_is_1_or_3 (paced_faults.Trace fault) = inl refl
-paced_fault_is_1_or_3 (paced_faults.New fault) = inl refl
-paced_fault_is_1_or_3 paced_faults.Limits = inl refl
-paced_fault_is_1_or_3 (paced_faults.Pace why) = inl refl
-paced_fault_is_1_or_3 paced_faults.Write = inl refl
-paced_fault_is_1_or_3 paced_faults.OutOfMemory = inr refl
-
--- the status after a paced run is one of 0, 1 and 3
-pub paced_is_0_1_or_3 : (outcome : Result Summary PacedFault) (status : ℕ) → IsPacedStatus outcome status → (status ≡ 0) ⊎ ((status ≡ 1) ⊎ (status ≡ 3))
-paced_is_0_1_or_3 (Ok summary) status (inl is) = inl is
-paced_is_0_1_or_3 (Ok summary) status (inr is) = inr (inl is)
-paced_is_0_1_or_3 (Err fault) status is =
-    elim (paced_fault_is_1_or_3 fault) [ inl one ↦ inr (inl (is ∙ one)) | inr three ↦ inr (inr (is ∙ three)) ]
+run_of_fault due fault (Err other) status old new is ends own = way_is_1_or_3 (Err (of_run_fault other)) status (λ summary is. absurd cc) own
 
 -- a check ends with no other fault than those that come once the command line is understood
 replay_fault_is_1_or_3 : (input : List ℕ) (fault : LineFault) (old new : Option (List ℕ)) → ReplayEnds input (Err fault) old new → (status_of fault ≡ 1) ⊎ (status_of fault ≡ 3)
@@ -450,9 +447,9 @@ pub concludes_lisp_3 : (limits : Limits) (input : List ℕ) (old new : Option (L
 concludes_lisp_3 limits input old new c = lisp_is_3 c.0 limits.steps input old new c.1 c.2
 
 pub concludes_late : (subcommand : Subcommand) (input : List ℕ) (status : ℕ) (old new : Option (List ℕ)) → Concludes subcommand input status old new → IsLateStatus status
-concludes_late Run input status old new c = late_of_three status (run_is_0_1_or_3 c.0 status c.2)
-concludes_late (RunPaced mark) input status old new c = late_of_three status (paced_is_0_1_or_3 c.0 status c.2)
-concludes_late (RunGrowing at_most) input status old new c = late_of_three status (paced_is_0_1_or_3 c.0 status c.2)
+concludes_late Run input status old new c = late_of_three status (way_is_0_1_or_3 (by_way c.0) status c.2)
+concludes_late (RunPaced mark) input status old new c = late_of_three status (way_is_0_1_or_3 c.0 status c.2)
+concludes_late (RunGrowing at_most) input status old new c = late_of_three status (way_is_0_1_or_3 c.0 status c.2)
 concludes_late (Threads replicators idle) input status old new c = late_of_four status (shared_is_0_1_3_or_4 c.0 status c.2)
 concludes_late Replay input status old new c = late_of_four status (replay_is_0_1_3_or_4 input c.0 status old new c.1 c.2)
 concludes_late Dump input status old new c = late_of_three status (count_is_0_1_or_3 counts_line input c.0 status old new c.1 c.2)
@@ -491,9 +488,9 @@ concludes_dot_3 input old new c = count_is_3 dot_text input c.0 old new c.1 c.2
 pub concludes_4 : (subcommand : Subcommand) (input : List ℕ) (old new : Option (List ℕ)) → Concludes subcommand input 4 old new
     → ((subcommand ≡ Replay) × ((h : HistoryState) × (at : ℕ) × (expected : Result Reply Refusal) × IsJudged input h (Wrong at expected) × Appends old new (report_text h (Wrong at expected))))
     ⊎ ((replicators : ℕ) × (idle : ℕ) × (subcommand ≡ Threads replicators idle) × Keeps old new)
-concludes_4 Run input old new c = absurd (not_2_or_4 4 4 (inr refl) (run_is_0_1_or_3 c.0 4 c.2) refl)
-concludes_4 (RunPaced mark) input old new c = absurd (not_2_or_4 4 4 (inr refl) (paced_is_0_1_or_3 c.0 4 c.2) refl)
-concludes_4 (RunGrowing at_most) input old new c = absurd (not_2_or_4 4 4 (inr refl) (paced_is_0_1_or_3 c.0 4 c.2) refl)
+concludes_4 Run input old new c = absurd (not_2_or_4 4 4 (inr refl) (way_is_0_1_or_3 (by_way c.0) 4 c.2) refl)
+concludes_4 (RunPaced mark) input old new c = absurd (not_2_or_4 4 4 (inr refl) (way_is_0_1_or_3 c.0 4 c.2) refl)
+concludes_4 (RunGrowing at_most) input old new c = absurd (not_2_or_4 4 4 (inr refl) (way_is_0_1_or_3 c.0 4 c.2) refl)
 concludes_4 (Threads replicators idle) input old new c =
     inr (replicators, idle, refl, shared_is_4 (record { replicators = replicators; idle = idle }) input c.0 old new c.1 c.2)
 concludes_4 Replay input old new c = inl (refl, replay_is_4 input c.0 old new c.1 c.2)
@@ -530,114 +527,74 @@ history_of_fault input fault (Err other) status old new is ends own =
 pub concludes_replay_fault : (input : List ℕ) (fault : HistoryFault) (status : ℕ) (old new : Option (List ℕ)) → history_of input ≡ Err fault → Concludes Replay input status old new → (status ≡ 1) ⊎ (status ≡ 3)
 concludes_replay_fault input fault status old new is c = history_of_fault input fault c.0 status old new is c.1 c.2
 
--- A paced or a growing run ends with 0 where it came to its end; one that was refused memory has
--- written nothing.
-module _ (E : Result Summary PacedFault → Option (List ℕ) → Option (List ℕ) → Type 0) (keeps : (old new : Option (List ℕ)) → E (Err paced_faults.OutOfMemory) old new → Keeps old new) where
-  paced_memory_keeps : (fault : PacedFault) (old new : Option (List ℕ)) → E (Err fault) old new → 3 ≡ paced_status fault → Keeps old new
-  paced_memory_keeps paced_faults.Read old new ends is = absurd (omega (arith, is))
-  paced_memory_keeps paced_faults.Long old new ends is = absurd (omega (arith, is))
-  paced_memory_keeps (paced_faults.Trace fault) old new ends is = absurd (omega (arith, is))
-  paced_memory_keeps (paced_faults.New fault) old new ends is = absurd (omega (arith, is))
-  paced_memory_keeps paced_faults.Limits old new ends is = absurd (omega (arith, is))
-  paced_memory_keeps (paced_faults.Pace why) old new ends is = absurd (omega (arith, is))
-  paced_memory_keeps paced_faults.Write old new ends is = absurd (omega (arith, is))
-  paced_memory_keeps paced_faults.OutOfMemory old new ends is = keeps old new ends
+-- A run ends with 0 where it came to its end; one of commands that was refused memory has written
+-- nothing.
+module _ (E : Result Summary (WayFault Unpaced) → Type 0) where
+  pub way_is_0 : (outcome : Result Summary (WayFault Unpaced)) → E outcome → IsWayStatus outcome 0 → (summary : Summary) × E (Ok summary)
+  way_is_0 (Ok summary) ends is = (summary, ends)
+  way_is_0 (Err fault) ends is = absurd (way_fault_is_not_0 fault is)
 
-  paced_is_3 : (outcome : Result Summary PacedFault) (old new : Option (List ℕ)) → E outcome old new → IsPacedStatus outcome 3 → Keeps old new
-  paced_is_3 (Ok summary) old new ends (inl is) = absurd (omega (arith, is))
-  paced_is_3 (Ok summary) old new ends (inr is) = absurd (omega (arith, is))
-  paced_is_3 (Err fault) old new ends is = paced_memory_keeps fault old new ends is
-
-  paced_is_0 : (outcome : Result Summary PacedFault) (old new : Option (List ℕ)) → E outcome old new → IsPacedStatus outcome 0 → (summary : Summary) × E (Ok summary) old new
-  paced_is_0 (Ok summary) old new ends is = (summary, ends)
-  paced_is_0 (Err fault) old new ends is =
-      elim (paced_fault_is_1_or_3 fault) [ inl one ↦ absurd (omega (arith, is, one)) | inr three ↦ absurd (omega (arith, is, three)) ]
+  way_is_3 : (outcome : Result Summary (WayFault Unpaced)) → E outcome → IsWayStatus outcome 3 → E (Err ends.OutOfMemory)
+  way_is_3 (Ok summary) ends (inl is) = absurd (omega (arith, is))
+  way_is_3 (Ok summary) ends (inr is) = absurd (omega (arith, is))
+  way_is_3 (Err fault) ends is = subst (λ (f : WayFault Unpaced). E (Err f)) ((way_memory_is_3 fault).0 (sym is)) ends
 
   -- where it can't come to its end it has 1 or 3
-  paced_of_fault : (outcome : Result Summary PacedFault) (status : ℕ) (old new : Option (List ℕ)) → ((summary : Summary) → E (Ok summary) old new → ⊥)
-      → E outcome old new → IsPacedStatus outcome status → (status ≡ 1) ⊎ (status ≡ 3)
-  paced_of_fault (Ok summary) status old new none ends own = absurd (none summary ends)
-  paced_of_fault (Err fault) status old new none ends own =
-      elim (paced_fault_is_1_or_3 fault) [ inl one ↦ inl (own ∙ one) | inr three ↦ inr (own ∙ three) ]
+  way_of_fault : (outcome : Result Summary (WayFault Unpaced)) (status : ℕ) → ((summary : Summary) → E (Ok summary) → ⊥) → E outcome → IsWayStatus outcome status → (status ≡ 1) ⊎ (status ≡ 3)
+  way_of_fault outcome status none ends own = way_is_1_or_3 outcome status (λ summary is. none summary (subst E is ends)) own
 
-pub concludes_paced_0 : (mark : Option ℕ) (input : List ℕ) (old new : Option (List ℕ)) → ConcludesPaced mark input 0 old new → (summary : Summary) × PacedEnds mark input (Ok summary) old new
-concludes_paced_0 mark input old new c = paced_is_0 (PacedEnds mark input) (λ old new ends. ends) c.0 old new c.1 c.2
+-- what wasn't done and wasn't cut has written nothing
+commands_unwritten : (lacks : Script → Unpaced → Type 0) (Whole : Summary → Type 0) (Half Left : Type 0) (input : List ℕ) (outcome : Result Summary (WayFault Unpaced)) → ((summary : Summary) → Whole summary → ⊥) → (Half → ⊥) → CommandsEnd lacks Whole Half Left Left input outcome → Left
+commands_unwritten lacks Whole Half Left input (Ok summary) undone uncut end = absurd (undone summary end)
+commands_unwritten lacks Whole Half Left input (Err ends.Write) undone uncut end = absurd (uncut end)
+commands_unwritten lacks Whole Half Left input (Err ends.Long) undone uncut end = end.1
+commands_unwritten lacks Whole Half Left input (Err (ends.Trace fault)) undone uncut end = end.2
+commands_unwritten lacks Whole Half Left input (Err (ends.New fault)) undone uncut end = end.3
+commands_unwritten lacks Whole Half Left input (Err (ends.Way why)) undone uncut end = end.4
+commands_unwritten lacks Whole Half Left input (Err ends.Read) undone uncut end = end
+commands_unwritten lacks Whole Half Left input (Err ends.OutOfMemory) undone uncut end = end
 
-pub concludes_paced_3 : (mark : Option ℕ) (input : List ℕ) (old new : Option (List ℕ)) → ConcludesPaced mark input 3 old new → Keeps old new
-concludes_paced_3 mark input old new c = paced_is_3 (PacedEnds mark input) (λ old new ends. ends) c.0 old new c.1 c.2
+module _ (mark : Option ℕ) (input : List ℕ) (old new : Option (List ℕ)) where
+  abbrev EndsPaced : Result Summary (WayFault Unpaced) → Type 0
+  EndsPaced outcome = PacedEnds mark input outcome old new
 
-pub concludes_growing_0 : (at_most : ℕ) (input : List ℕ) (old new : Option (List ℕ)) → ConcludesGrowing at_most input 0 old new → (summary : Summary) × EndsGrowing at_most input (Ok summary) old new
-concludes_growing_0 at_most input old new c = paced_is_0 (EndsGrowing at_most input) (λ old new ends. ends) c.0 old new c.1 c.2
+  pub concludes_paced_0 : ConcludesPaced mark input 0 old new → (summary : Summary) × EndsPaced (Ok summary)
+  concludes_paced_0 c = way_is_0 EndsPaced c.0 c.1 c.2
 
-pub concludes_growing_3 : (at_most : ℕ) (input : List ℕ) (old new : Option (List ℕ)) → ConcludesGrowing at_most input 3 old new → Keeps old new
-concludes_growing_3 at_most input old new c = paced_is_3 (EndsGrowing at_most input) (λ old new ends. ends) c.0 old new c.1 c.2
+  pub concludes_paced_3 : ConcludesPaced mark input 3 old new → Keeps old new
+  concludes_paced_3 c = way_is_3 EndsPaced c.0 c.1 c.2
 
--- so its whole text is written, and it is one of a trace of commands at its pace
-pub concludes_paced_run : (mark : Option ℕ) (input : List ℕ) (old new : Option (List ℕ)) → ConcludesPaced mark input 0 old new
-    → (script : Script) × (pace : Pace) × IsRun mark input script pace × Appends old new (paced_text_of script pace)
-concludes_paced_run mark input old new c =
-    let done = concludes_paced_0 mark input old new c in
-    (done.1.0, done.1.1, done.1.2, done.1.4)
+  -- so its whole text is written, and it is one of a trace of commands at its pace
+  pub concludes_paced_run : ConcludesPaced mark input 0 old new → (script : Script) × (pace : Pace) × IsRun mark input script pace × Appends old new (paced_text_of script pace)
+  concludes_paced_run c =
+      let done = concludes_paced_0 c in
+      (done.1.0, done.1.1, done.1.2, done.1.4)
 
--- or of one whose heap grows
-pub concludes_growing_run : (at_most : ℕ) (input : List ℕ) (old new : Option (List ℕ)) → ConcludesGrowing at_most input 0 old new
-    → (script : Script) × (given : ℕ → Bool) × IsGrowingRun at_most input script × Appends old new (growing_text_of script at_most given)
-concludes_growing_run at_most input old new c =
-    let done = concludes_growing_0 at_most input old new c in
-    (done.1.0, done.1.1, done.1.2, done.1.4)
+  -- what can't be run has one of these, and nothing is written
+  pub concludes_paced_fault : (status : ℕ) → ¬ ((script : Script) × (pace : Pace) × IsRun mark input script pace) → ConcludesPaced mark input status old new → ((status ≡ 1) ⊎ (status ≡ 3)) × Keeps old new
+  concludes_paced_fault status none c = (
+    way_of_fault EndsPaced c.0 status (λ summary ends. none (ends.0, ends.1, ends.2)) c.1 c.2,
+    commands_unwritten (HasNoPace mark) (λ summary. EndsPaced (Ok summary)) (EndsPaced (Err ends.Write)) (Keeps old new) input c.0 (λ summary ends. none (ends.0, ends.1, ends.2)) (λ ends. none (ends.0, ends.1, ends.2)) c.1,
+  )
 
--- of a paced run's faults want of memory alone has 3
-pub paced_memory_is_3 : (fault : PacedFault) → (paced_status fault ≡ 3) ↔ (fault ≡ paced_faults.OutOfMemory)
-paced_memory_is_3 paced_faults.Read = (λ is. absurd (omega (arith, is)), λ is. cc)
-paced_memory_is_3 paced_faults.Long = (λ is. absurd (omega (arith, is)), λ is. cc)
-paced_memory_is_3 (paced_faults.Trace fault) = (λ is. absurd (omega (arith, is)), λ is. cc)
-paced_memory_is_3 (paced_faults.New fault) = (λ is. absurd (omega (arith, is)), λ is. cc)
-paced_memory_is_3 paced_faults.Limits = (λ is. absurd (omega (arith, is)), λ is. cc)
-paced_memory_is_3 (paced_faults.Pace why) = (λ is. absurd (omega (arith, is)), λ is. cc)
-paced_memory_is_3 paced_faults.Write = (λ is. absurd (omega (arith, is)), λ is. cc)
-paced_memory_is_3 paced_faults.OutOfMemory = (λ is. refl, λ is. refl)
+-- or on a heap that grows
+module _ (at_most : ℕ) (input : List ℕ) (old new : Option (List ℕ)) where
+  abbrev EndsSo : Result Summary (WayFault Unpaced) → Type 0
+  EndsSo outcome = EndsGrowing at_most input outcome old new
 
--- the input is a trace of commands that has a pace
-abbrev pub CanRun : Option ℕ → List ℕ → Type 0
-CanRun mark input = (script : Script) × (pace : Pace) × IsRun mark input script pace
+  pub concludes_growing_0 : ConcludesGrowing at_most input 0 old new → (summary : Summary) × EndsSo (Ok summary)
+  concludes_growing_0 c = way_is_0 EndsSo c.0 c.1 c.2
 
-paced_unwritten : (mark : Option ℕ) (input : List ℕ) (outcome : Result Summary PacedFault) (old new : Option (List ℕ)) → ¬ CanRun mark input → PacedEnds mark input outcome old new → Keeps old new
-paced_unwritten mark input (Ok summary) old new none ends = absurd (none (ends.0, ends.1, ends.2))
-paced_unwritten mark input (Err paced_faults.Write) old new none ends = absurd (none (ends.0, ends.1, ends.2))
-paced_unwritten mark input (Err paced_faults.Long) old new none ends = ends.1
-paced_unwritten mark input (Err (paced_faults.Trace fault)) old new none ends = ends.2
-paced_unwritten mark input (Err (paced_faults.New fault)) old new none ends = ends.3
-paced_unwritten mark input (Err paced_faults.Limits) old new none ends = absurd ends
-paced_unwritten mark input (Err (paced_faults.Pace why)) old new none ends = ends.4
-paced_unwritten mark input (Err paced_faults.Read) old new none ends = ends
-paced_unwritten mark input (Err paced_faults.OutOfMemory) old new none ends = ends
+  pub concludes_growing_3 : ConcludesGrowing at_most input 3 old new → Keeps old new
+  concludes_growing_3 c = way_is_3 EndsSo c.0 c.1 c.2
 
--- what can't be run has one of these, and nothing is written
-pub concludes_paced_fault : (mark : Option ℕ) (input : List ℕ) (status : ℕ) (old new : Option (List ℕ)) → ¬ CanRun mark input → ConcludesPaced mark input status old new
-    → ((status ≡ 1) ⊎ (status ≡ 3)) × Keeps old new
-concludes_paced_fault mark input status old new none c = (
-  paced_of_fault (PacedEnds mark input) (λ old new ends. ends) c.0 status old new (λ summary ends. none (ends.0, ends.1, ends.2)) c.1 c.2,
-  paced_unwritten mark input c.0 old new none c.1,
-)
+  pub concludes_growing_run : ConcludesGrowing at_most input 0 old new → (script : Script) × (given : ℕ → Bool) × IsGrowingRun at_most input script × Appends old new (growing_text_of script at_most given)
+  concludes_growing_run c =
+      let done = concludes_growing_0 c in
+      (done.1.0, done.1.1, done.1.2, done.1.4)
 
--- the input is a trace of commands whose heap can grow so
-abbrev pub CanGrow : ℕ → List ℕ → Type 0
-CanGrow at_most input = (script : Script) × IsGrowingRun at_most input script
-
-growing_unwritten : (at_most : ℕ) (input : List ℕ) (outcome : Result Summary PacedFault) (old new : Option (List ℕ)) → ¬ CanGrow at_most input → EndsGrowing at_most input outcome old new → Keeps old new
-growing_unwritten at_most input (Ok summary) old new none ends = absurd (none (ends.0, ends.2))
-growing_unwritten at_most input (Err paced_faults.Write) old new none ends = absurd (none (ends.0, ends.2))
-growing_unwritten at_most input (Err paced_faults.Long) old new none ends = ends.1
-growing_unwritten at_most input (Err (paced_faults.Trace fault)) old new none ends = ends.2
-growing_unwritten at_most input (Err (paced_faults.New fault)) old new none ends = ends.3
-growing_unwritten at_most input (Err paced_faults.Limits) old new none ends = ends.4
-growing_unwritten at_most input (Err (paced_faults.Pace why)) old new none ends = ends.4
-growing_unwritten at_most input (Err paced_faults.Read) old new none ends = ends
-growing_unwritten at_most input (Err paced_faults.OutOfMemory) old new none ends = ends
-
-pub concludes_growing_fault : (at_most : ℕ) (input : List ℕ) (status : ℕ) (old new : Option (List ℕ)) → ¬ CanGrow at_most input → ConcludesGrowing at_most input status old new
-    → ((status ≡ 1) ⊎ (status ≡ 3)) × Keeps old new
-concludes_growing_fault at_most input status old new none c = (
-  paced_of_fault (EndsGrowing at_most input) (λ old new ends. ends) c.0 status old new (λ summary ends. none (ends.0, ends.2)) c.1 c.2,
-  growing_unwritten at_most input c.0 old new none c.1,
-)
+  pub concludes_growing_fault : (status : ℕ) → ¬ ((script : Script) × IsGrowingRun at_most input script) → ConcludesGrowing at_most input status old new → ((status ≡ 1) ⊎ (status ≡ 3)) × Keeps old new
+  concludes_growing_fault status none c = (
+    way_of_fault EndsSo c.0 status (λ summary ends. none (ends.0, ends.2)) c.1 c.2,
+    commands_unwritten (λ script. HasNoGrowth (growth_of script at_most)) (λ summary. EndsSo (Ok summary)) (EndsSo (Err ends.Write)) (Keeps old new) input c.0 (λ summary ends. none (ends.0, ends.2)) (λ ends. none (ends.0, ends.2)) c.1,
+  )

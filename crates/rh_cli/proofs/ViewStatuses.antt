@@ -13,16 +13,20 @@ use Rattle.rh_replay.specs.Spelling.{spelling}
 use Rattle.rh_trace.specs.declared.summary.Summary.{Summary}
 use Rattle.rh_trace.specs.declared.run_fault.RunFault.{RunFault}
 use Rattle.rh_trace.specs.declared.run_fault.RunFault.TheVariants as run_faults
+use Rattle.rh_trace.specs.Run.{answers_of}
+use Rattle.rh_trace.specs.declared.way_fault.WayFault.{WayFault}
+use Rattle.rh_trace.specs.declared.way_fault.WayFault.TheVariants as way_faults
+use Rattle.rh_trace.specs.Fixed.{by_way}
+use Rattle.rh_trace.specs.Ways.{of_run_fault}
 use Rattle.rh_choices.specs.declared.telling.Telling.{Telling}
 use Rattle.rh_trace_views.specs.Cycles.{cycles_text}
-use Rattle.rh_trace_views.specs.Run.{Ends, IsRun, Written, run_cycles, run_history, view_of_run}
-use Rattle.rh_commands.specs.Ways.{EndsGrowing, EndsPaced, IsTold, growing_answered, growing_cycles, paced_answered, paced_cycles}
+use Rattle.rh_trace_views.specs.Run.{Ends, IsRun, IsTold, Written, run_cycles, run_history, view_of_run}
+use Rattle.rh_commands.specs.Ways.{EndsGrowing, EndsPaced, growing_answered, growing_cycles, paced_answered, paced_cycles}
 use Rattle.rh_pace.specs.declared.pace.Pace.{Pace}
-use Rattle.rh_paced_trace.specs.declared.fault.PacedFault.{PacedFault}
+use Rattle.rh_paced_trace.specs.declared.fault.Unpaced.{Unpaced}
 use Rattle.rh_paced_trace.specs.Growing.{IsGrowingRun, growing_sum_of}
 use Rattle.rh_paced_trace.specs.Run.{IsRun as IsPacedRun, sum_of}
-use Rattle.rh_commands.specs.Run.{IsRunStatus, run_status}
-use Rattle.rh_commands.specs.Paced.{IsPacedStatus, paced_status}
+use Rattle.rh_commands.specs.Runs.{IsWayStatus}
 use Rattle.rh_commands.specs.Fault.{IsLateStatus, status_of}
 use Rattle.rh_commands.specs.Replay.{IsJudged, IsReplayStatus}
 use Rattle.rh_commands.specs.ViewLog.{HasCause, ViewLogState}
@@ -32,26 +36,22 @@ use Rattle.rh_command_line.specs.declared.ask.Subcommand.{Subcommand}
 use Rattle.rh_command_line.specs.declared.ask.Subcommand.TheVariants.{Run, RunPaced, RunGrowing, Threads, Replay, Dump, Dot, Draw, Session, Lisp, LispSession, Completions}
 use Rattle.rh_commands.specs.declared.fault.LineFault.{LineFault}
 use Rattle.rh_commands.specs.declared.fault.LineFault.TheVariants as faults
-use Rattle.rh_cli.proofs.StatusLaws.{concludes_late, count_is_0, count_is_0_1_or_3, late_of_four, late_of_three, paced_fault_is_1_or_3, paced_is_0_1_or_3, run_fault_is_1_or_3, run_is_0_1_or_3}
+use Rattle.rh_cli.proofs.StatusLaws.{concludes_late, count_is_0, count_is_0_1_or_3, late_of_four, late_of_three, way_fault_is_not_0, way_is_0, way_is_0_1_or_3}
 
-run_fault_is_not_0 : (fault : RunFault) → 0 ≡ run_status fault → ⊥
-run_fault_is_not_0 fault is = elim (run_fault_is_1_or_3 fault) [ inl one ↦ omega (arith, is, one) | inr three ↦ omega (arith, is, three) ]
-
-paced_fault_is_not_0 : (fault : PacedFault) → 0 ≡ paced_status fault → ⊥
-paced_fault_is_not_0 fault is = elim (paced_fault_is_1_or_3 fault) [ inl one ↦ omega (arith, is, one) | inr three ↦ omega (arith, is, three) ]
-
-view_is_0 : (outcome : Result Summary RunFault) (telling : Telling) (input : List ℕ) (w : Written) → Ends telling input outcome w → IsRunStatus outcome 0
+view_is_0 : (outcome : Result Summary RunFault) (telling : Telling) (input : List ℕ) (w : Written) → Ends telling input outcome w → IsWayStatus (by_way outcome) 0
     → (script : Script) × IsRun input script × Appends w.old w.new (view_of_run telling script) × Appends w.history_old w.history_new (spelling (run_history script))
     × Appends w.cycles_old w.cycles_new (cycles_text (run_cycles script))
-view_is_0 (Ok summary) telling input w ends is = (ends.0, ends.1, ends.3, ends.4, ends.5)
-view_is_0 (Err fault) telling input w ends is = absurd (run_fault_is_not_0 fault is)
+view_is_0 (Ok summary) telling input w ends is =
+    let told = subst (λ (s : Summary). IsTold telling ends.0 (answers_of ends.0) s (run_cycles ends.0) w) ends.2 ends.3 in
+    (ends.0, ends.1, told.0, told.1, told.2)
+view_is_0 (Err fault) telling input w ends is = absurd (way_fault_is_not_0 (of_run_fault fault) is)
 
 some_is_not_none : (A : Type 0) (o : Option A) (x : A) → o ≡ Some x → o ≢ None
 some_is_not_none A o x is none = absurd cc
 
 -- 1 comes from a fault of the input, or from a call that failed
-view_is_1 : (outcome : Result Summary RunFault) (telling : Telling) (input : List ℕ) (log : ViewLogState) (w : Written) → Ends telling input outcome w → IsRunStatus outcome 1
-    → HasCause Summary RunFault run_faults.Read run_faults.Write outcome 1 log → HasRunFault input ⊎ HasFailed log
+view_is_1 : (outcome : Result Summary RunFault) (telling : Telling) (input : List ℕ) (log : ViewLogState) (w : Written) → Ends telling input outcome w → IsWayStatus (by_way outcome) 1
+    → HasCause Summary (WayFault Unpaced) way_faults.Read way_faults.Write (by_way outcome) 1 log → HasRunFault input ⊎ HasFailed log
 view_is_1 (Ok summary) telling input log w ends is cause = inr (inr (inr ((cause.flush_failed refl).0 refl)))
 view_is_1 (Err run_faults.Read) telling input log w ends is cause = inr (inl (cause.read_failed refl))
 view_is_1 (Err run_faults.Write) telling input log w ends is cause = inr (inr (inl (cause.write_failed refl)))
@@ -98,9 +98,9 @@ report_is_4 telling input (Err fault) old new ends is =
     elim (report_fault_is_1_or_3 telling input fault old new ends) [ inl one ↦ absurd (omega (arith, is, one)) | inr three ↦ absurd (omega (arith, is, three)) ]
 
 pub viewed_late : (telling : Telling) (subcommand : Subcommand) (input : List ℕ) (status : ℕ) (log : ViewLogState) (w : Written) → ConcludesViewed telling subcommand input status log w → IsLateStatus status
-viewed_late telling Run input status log w c = late_of_three status (run_is_0_1_or_3 c.0 status c.2)
-viewed_late telling (RunPaced mark) input status log w c = late_of_three status (paced_is_0_1_or_3 c.0 status c.2)
-viewed_late telling (RunGrowing at_most) input status log w c = late_of_three status (paced_is_0_1_or_3 c.0 status c.2)
+viewed_late telling Run input status log w c = late_of_three status (way_is_0_1_or_3 (by_way c.0) status c.2)
+viewed_late telling (RunPaced mark) input status log w c = late_of_three status (way_is_0_1_or_3 c.0 status c.2)
+viewed_late telling (RunGrowing at_most) input status log w c = late_of_three status (way_is_0_1_or_3 c.0 status c.2)
 viewed_late telling Replay input status log w c = late_of_four status (report_is_0_1_3_or_4 telling input c.0.0 status w.old w.new c.0.1 c.0.2)
 viewed_late telling Dump input status log w c = late_of_three status (count_is_0_1_or_3 (told_counts telling) input c.0.0 status w.old w.new c.0.1 c.0.2)
 viewed_late telling (Threads replicators idle) input status log w c = concludes_late (Threads replicators idle) input status w.old w.new c.0
@@ -121,36 +121,27 @@ unflushed : (failed : Bool) → (◌≡◌ {A = ℕ} 0 1) ↔ (failed ≡ true) 
 unflushed true iff = absurd (omega (arith, iff.1 refl))
 unflushed false iff = refl
 
-unfailed : (outcome : Result Summary RunFault) (log : ViewLogState) → IsRunStatus outcome 0 → HasCause Summary RunFault run_faults.Read run_faults.Write outcome 0 log
+unfailed : (outcome : Result Summary RunFault) (log : ViewLogState) → IsWayStatus (by_way outcome) 0 → HasCause Summary (WayFault Unpaced) way_faults.Read way_faults.Write (by_way outcome) 0 log
     → (log.reads.failed ≡ false) × (log.writes.failed ≡ false) × (log.flush_failed ≡ false)
 unfailed (Ok summary) log is cause = (cause.no_read_failed (λ e. absurd cc), cause.no_write_failed (λ e. absurd cc), unflushed log.flush_failed (cause.flush_failed refl))
-unfailed (Err fault) log is cause = absurd (run_fault_is_not_0 fault is)
+unfailed (Err fault) log is cause = absurd (way_fault_is_not_0 (of_run_fault fault) is)
 
 pub viewed_run_unfailed : (telling : Telling) (input : List ℕ) (log : ViewLogState) (w : Written) → ConcludesViewed telling Run input 0 log w → (log.reads.failed ≡ false) × (log.writes.failed ≡ false) × (log.flush_failed ≡ false)
 viewed_run_unfailed telling input log w c = unfailed c.0 log c.2 c.3
 
 -- of a paced run, and of a growing one
-paced_is_told : (outcome : Result Summary PacedFault) (mark : Option ℕ) (telling : Telling) (input : List ℕ) (w : Written) → EndsPaced mark telling input outcome w → IsPacedStatus outcome 0
-    → (script : Script) × (pace : Pace) × IsPacedRun mark input script pace × IsTold telling script (paced_answered script pace) (sum_of script pace) (paced_cycles script pace) w
-paced_is_told (Ok summary) mark telling input w ends is =
-    (ends.0, ends.1, ends.2, subst (λ (s : Summary). IsTold telling ends.0 (paced_answered ends.0 ends.1) s (paced_cycles ends.0 ends.1) w) ends.3 ends.4)
-paced_is_told (Err fault) mark telling input w ends is = absurd (paced_fault_is_not_0 fault is)
-
-growing_is_told : (outcome : Result Summary PacedFault) (at_most : ℕ) (telling : Telling) (input : List ℕ) (w : Written) → EndsGrowing at_most telling input outcome w → IsPacedStatus outcome 0
-    → (script : Script) × (given : ℕ → Bool) × IsGrowingRun at_most input script
-    × IsTold telling script (growing_answered script at_most given) (growing_sum_of script at_most given) (growing_cycles script at_most given) w
-growing_is_told (Ok summary) at_most telling input w ends is =
-    (ends.0, ends.1, ends.2, subst (λ (s : Summary). IsTold telling ends.0 (growing_answered ends.0 at_most ends.1) s (growing_cycles ends.0 at_most ends.1) w) ends.3 ends.4)
-growing_is_told (Err fault) at_most telling input w ends is = absurd (paced_fault_is_not_0 fault is)
-
 pub viewed_paced_0 : (mark : Option ℕ) (telling : Telling) (input : List ℕ) (log : ViewLogState) (w : Written) → ConcludesViewed telling (RunPaced mark) input 0 log w
     → (script : Script) × (pace : Pace) × IsPacedRun mark input script pace × IsTold telling script (paced_answered script pace) (sum_of script pace) (paced_cycles script pace) w
-viewed_paced_0 mark telling input log w c = paced_is_told c.0 mark telling input w c.1 c.2
+viewed_paced_0 mark telling input log w c =
+    let ends = (way_is_0 (λ outcome. EndsPaced mark telling input outcome w) c.0 c.1 c.2).1 in
+    (ends.0, ends.1, ends.2, subst (λ (s : Summary). IsTold telling ends.0 (paced_answered ends.0 ends.1) s (paced_cycles ends.0 ends.1) w) ends.3 ends.4)
 
 pub viewed_growing_0 : (at_most : ℕ) (telling : Telling) (input : List ℕ) (log : ViewLogState) (w : Written) → ConcludesViewed telling (RunGrowing at_most) input 0 log w
     → (script : Script) × (given : ℕ → Bool) × IsGrowingRun at_most input script
     × IsTold telling script (growing_answered script at_most given) (growing_sum_of script at_most given) (growing_cycles script at_most given) w
-viewed_growing_0 at_most telling input log w c = growing_is_told c.0 at_most telling input w c.1 c.2
+viewed_growing_0 at_most telling input log w c =
+    let ends = (way_is_0 (λ outcome. EndsGrowing at_most telling input outcome w) c.0 c.1 c.2).1 in
+    (ends.0, ends.1, ends.2, subst (λ (s : Summary). IsTold telling ends.0 (growing_answered ends.0 at_most ends.1) s (growing_cycles ends.0 at_most ends.1) w) ends.3 ends.4)
 
 pub viewed_replay_0 : (telling : Telling) (input : List ℕ) (log : ViewLogState) (w : Written) → ConcludesViewed telling Replay input 0 log w
     → (h : HistoryState) × (count : ℕ) × IsJudged input h (Legal count) × Appends w.old w.new (told_report telling h (Legal count))

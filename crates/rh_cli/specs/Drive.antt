@@ -5,9 +5,8 @@ use Rattle.rh_command_line.specs.declared.ask.Subcommand.{Subcommand}
 use Rattle.rh_command_line.specs.declared.ask.Subcommand.TheVariants.{Run, RunPaced, RunGrowing, Threads, Replay, Dump, Dot, Draw, Session, Lisp, LispSession, Completions}
 use Rattle.rh_commands.specs.Count.{ConcludesCount, ConcludesDot}
 use Rattle.rh_commands.specs.Draw.{ConcludesDraw, ConcludesSent}
-use Rattle.rh_commands.specs.Paced.{ConcludesGrowing, ConcludesPaced}
 use Rattle.rh_commands.specs.Replay.{ConcludesReplay}
-use Rattle.rh_commands.specs.Run.{ConcludesRun}
+use Rattle.rh_commands.specs.Runs.{ConcludesGrowing, ConcludesPaced, ConcludesRun}
 use Rattle.rh_commands.specs.Session.{ConcludesSession}
 use Rattle.rh_commands.specs.Shared.{ConcludesShared}
 use Rattle.rh_cli.specs.Lisp.{ConcludesLisp, ConcludesLispSession}

@@ -1,4 +1,4 @@
-//! The words of a command line, read into what is asked.
+//! The arguments of the program, read into what is asked.
 
 ghost use Rattle.std.specs.Prelude.{◌≡◌, ◌≢◌, ◌⊎◌, [], map, option_map, Ok, IsTrue, IfOk, IfErr};
 ghost use Rattle.rh_cli.specs.Arguments.{IsArgumentsFault, IsClapFault, IsDueFault};

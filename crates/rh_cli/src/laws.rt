@@ -23,22 +23,22 @@ ghost use Rattle.rh_replay.specs.Report.{report_text};
 ghost use Rattle.rh_replay.specs.Spelling.{spelling};
 ghost use Rattle.rh_trace.specs.Run.{StopsBeforeTotal, run_of};
 ghost use Rattle.rh_trace.specs.declared.run_fault.RunFault.{RunFault as RunFaultOf};
+ghost use Rattle.rh_trace.specs.declared.way_fault.WayFault.{WayFault as WayFaultOf};
 ghost use Rattle.rh_trace.specs.declared.summary.Summary.{Summary as SummaryOf};
 ghost use Rattle.rh_core.specs.runs.Programs.{CommandAnswers};
 ghost use Rattle.rh_syntax.specs.Reading.{trace_of};
 ghost use Rattle.rh_syntax.specs.Spelling.{Script};
 ghost use Rattle.rh_syntax.specs.declared.fault.TraceFault.{TraceFault as TraceFaultOf};
 ghost use Rattle.rh_pace.specs.declared.pace.Pace.{Pace as PaceOf};
-ghost use Rattle.rh_paced_trace.specs.declared.fault.PacedFault.{PacedFault as PacedFaultOf};
+ghost use Rattle.rh_paced_trace.specs.declared.fault.Unpaced.{Unpaced as UnpacedOf};
 ghost use Rattle.rh_paced_trace.specs.Growing.{IsGrowingRun, growing_sum_of, growing_text_of};
 ghost use Rattle.rh_paced_trace.specs.Run.{IsPlainRun, IsRun, AreSumsOf, output_of, sum_of, text_of};
 ghost use Rattle.rh_shared_trace.specs.Run.{IsHistoryOf, IsSharedRun};
 ghost use Rattle.rh_commands.specs.Count.{counts_line};
 ghost use Rattle.rh_cli.specs.Drive.{Concludes};
-ghost use Rattle.rh_commands.specs.Run.{run_status};
+ghost use Rattle.rh_commands.specs.Runs.{way_status};
 ghost use Rattle.rh_commands.specs.Fault.{ending_status, status_of, IsLateStatus};
 ghost use Rattle.rh_cli.specs.Lisp.{ConcludesLispCycles};
-ghost use Rattle.rh_commands.specs.Paced.{paced_status};
 ghost use Rattle.rh_commands.specs.Replay.{IsJudged};
 ghost use Rattle.rh_text.specs.RawLine.{lines_of};
 ghost use Rattle.rh_shell.specs.Session.{IsSession};
@@ -47,8 +47,8 @@ ghost use Rattle.rh_commands.specs.Views.{told_counts, told_report};
 ghost use Rattle.rh_cli.specs.Views.{ConcludesViewed, HasFailed, HasRunFault};
 ghost use Rattle.rh_choices.specs.declared.telling.Telling.{Telling as TellingOf};
 ghost use Rattle.rh_trace_views.specs.Cycles.{cycles_text};
-ghost use Rattle.rh_trace_views.specs.Run.{run_cycles, run_history, view_of_run, IsRun as IsViewedRun, Written};
-ghost use Rattle.rh_commands.specs.Ways.{IsTold, growing_answered, growing_cycles, paced_answered, paced_cycles};
+ghost use Rattle.rh_trace_views.specs.Run.{run_cycles, run_history, view_of_run, IsRun as IsViewedRun, IsTold, Written};
+ghost use Rattle.rh_commands.specs.Ways.{growing_answered, growing_cycles, paced_answered, paced_cycles};
 ghost use Rattle.rh_lisp.specs.Printed.{output_text as lisp_text};
 ghost use Rattle.rh_lisp.specs.Program.{ProgramState};
 ghost use Rattle.rh_machine.specs.declared.ending.Ending.TheVariants.{Halted};
@@ -203,10 +203,8 @@ pub fn status_2_says_that_the_command_line_is_not_understood()
 /// for Graphviz and a picture nothing at all.
 pub fn status_3_says_want_of_memory()
     ensures fault { (fault : FaultOf) → (status_of fault ≡ 3) ↔ (fault ≡ FaultOf.OutOfMemory) }
-    ensures run_fault { (fault : RunFaultOf)
-        → (run_status fault ≡ 3) ↔ (fault ≡ RunFaultOf.OutOfMemory) }
-    ensures paced_fault { (fault : PacedFaultOf)
-        → (paced_status fault ≡ 3) ↔ (fault ≡ PacedFaultOf.OutOfMemory) }
+    ensures run_fault { (fault : WayFaultOf UnpacedOf)
+        → (way_status fault ≡ 3) ↔ (fault ≡ WayFaultOf.OutOfMemory) }
     ensures run { (input : List ℕ) (old new : Option (List ℕ))
         → Concludes SubcommandOf.Run input 3 old new → StopsBeforeTotal (run_of input) old new }
     ensures paced { (mark : Option ℕ) (input : List ℕ) (old new : Option (List ℕ))

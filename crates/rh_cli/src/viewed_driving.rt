@@ -1,10 +1,12 @@
-//! Runs a trace under `--echo`, `--json`, `--history` or `--cycles`.
+//! Does what was asked under `--echo`, `--json`, `--history` or `--cycles`: runs a trace, checks a
+//! history or counts a dump.
 
 ghost use Rattle.std.specs.Prelude.{◌≡◌, ◌≢◌, ◌⊎◌, List, ℕ, false, IfSome, IfErr, IsOk};
 ghost use Rattle.std.specs.Io.KnownBytes.{Consumes, IsAtEnd, Keeps};
 ghost use Rattle.rh_commands.specs.Fault.{status_of, status_after, IsLateFault, IsLateStatus};
 ghost use Rattle.rh_text.specs.IoLog.{CountsDown};
 ghost use Rattle.rh_commands.specs.ViewLog.{FlushedSince};
+ghost use Rattle.rh_trace_views.specs.Listening.{views_contents, written_of};
 ghost use Rattle.rh_cli.specs.Views.{ConcludesViewed, reads_given, viewed_texts};
 ghost use Rattle.rh_command_line.specs.declared.ask.Subcommand.TheVariants.{LispSession, Replay};
 ghost use Rattle.rh_choices.specs.declared.limits.Limits.{Limits as LimitsOf};
@@ -71,25 +73,15 @@ where
     // For a reader that tells its bytes: by what is due for the bytes that it had, and by the calls
     // of the log.
     ensures told { IfSome (R.remaining reader.old.reader) (λ input.
-        ConcludesViewed ask.now.views.telling ask.now.subcommand input result log.new (record {
-          old = O.contents out.old.first;
-          new = O.contents out.new.first;
-          history_old = H.contents out.old.second.first;
-          history_new = H.contents out.new.second.first;
-          cycles_old = C.contents out.old.second.second;
-          cycles_new = C.contents out.new.second.second;
-        })) }
+        ConcludesViewed ask.now.views.telling ask.now.subcommand input result log.new (written_of
+        (views_contents O.contents H.contents C.contents out.old)
+        (views_contents O.contents H.contents C.contents out.new))) }
     // Of the bytes that were taken.
     ensures read { (input : List ℕ)
         × Consumes (R.remaining reader.old.reader) (R.remaining reader.new.reader) input
-        × ConcludesViewed ask.now.views.telling ask.now.subcommand input result log.new (record {
-          old = O.contents out.old.first;
-          new = O.contents out.new.first;
-          history_old = H.contents out.old.second.first;
-          history_new = H.contents out.new.second.first;
-          cycles_old = C.contents out.old.second.second;
-          cycles_new = C.contents out.new.second.second;
-        }) }
+        × ConcludesViewed ask.now.views.telling ask.now.subcommand input result log.new (written_of
+        (views_contents O.contents H.contents C.contents out.old)
+        (views_contents O.contents H.contents C.contents out.new)) }
     // Where it is done, and where a history that was read is wrong, nothing is told of a fault.
     ensures quiet { (result ≡ 0) ⊎ ((result ≡ 4) × (ask.now.subcommand ≡ Replay))
         → Keeps (E.contents err.old) (E.contents err.new) }
@@ -138,24 +130,14 @@ where
     requires no_read_failed { log.old.reads.failed ≡ false }
     requires no_write_failed { log.old.writes.failed ≡ false }
     ensures told { IfSome (R.remaining reader.old) (λ input.
-        ConcludesViewed telling subcommand input (status_after result) log.new (record {
-          old = O.contents out.old.first;
-          new = O.contents out.new.first;
-          history_old = H.contents out.old.second.first;
-          history_new = H.contents out.new.second.first;
-          cycles_old = C.contents out.old.second.second;
-          cycles_new = C.contents out.new.second.second;
-        })) }
+        ConcludesViewed telling subcommand input (status_after result) log.new (written_of
+        (views_contents O.contents H.contents C.contents out.old)
+        (views_contents O.contents H.contents C.contents out.new))) }
     ensures read { (input : List ℕ)
         × Consumes (R.remaining reader.old) (R.remaining reader.new) input
-        × ConcludesViewed telling subcommand input (status_after result) log.new (record {
-          old = O.contents out.old.first;
-          new = O.contents out.new.first;
-          history_old = H.contents out.old.second.first;
-          history_new = H.contents out.new.second.first;
-          cycles_old = C.contents out.old.second.second;
-          cycles_new = C.contents out.new.second.second;
-        }) }
+        × ConcludesViewed telling subcommand input (status_after result) log.new (written_of
+        (views_contents O.contents H.contents C.contents out.old)
+        (views_contents O.contents H.contents C.contents out.new)) }
     ensures ended { (limits : LimitsOf) → subcommand ≡ LispSession limits
         → status_after result ≡ 0 → IsAtEnd (R.remaining reader.new) }
     ensures late { IfErr result (λ fault. IsLateFault fault) }

@@ -6,10 +6,11 @@ use Rattle.rh_text.specs.Output.{AppendsLess}
 use Rattle.rh_text.specs.lemmas.Appends.{Keeps-same}
 use Rattle.rh_trace.specs.declared.run_fault.RunFault.{RunFault}
 use Rattle.rh_trace.specs.declared.run_fault.RunFault.TheVariants as run_faults
+use Rattle.rh_trace.specs.Ways.{of_run_fault}
 use Rattle.rh_commands.specs.declared.fault.LineFault.{LineFault}
 use Rattle.rh_commands.specs.declared.fault.LineFault.TheVariants as faults
 use Rattle.rh_commands.specs.Draw.{ConcludesDraw, DrawEnds, SentEnds}
-use Rattle.rh_commands.specs.Run.{run_told_as}
+use Rattle.rh_commands.specs.Runs.{way_told_as}
 use Rattle.rh_commands.proofs.Flushed.{Appends-kept, AppendsLess-kept, Keeps-kept}
 
 -- nothing was drawn, since a read failed
@@ -25,7 +26,7 @@ pub undrawn_memory : (a : Option (List ℕ)) → ConcludesDraw 3 a a
 undrawn_memory a = (Err faults.OutOfMemory, Keeps-same a, refl)
 
 -- how a picture of the trace's heap ended, by the fault that it ended with
-pub drawn_fault : (fault : RunFault) (told : LineFault) (old new : Option (List ℕ)) → told ≡ run_told_as fault
+pub drawn_fault : (fault : RunFault) (told : LineFault) (old new : Option (List ℕ)) → told ≡ way_told_as (of_run_fault fault)
     → (fault ≡ run_faults.Write → (text : List ℕ) × AppendsLess old new text) → (¬ (fault ≡ run_faults.Write) → Keeps old new) → DrawEnds (Err told) old new
 drawn_fault run_faults.Read told old new is prefix nothing = rw is (nothing (λ e. cc))
 drawn_fault run_faults.Long told old new is prefix nothing = rw is (nothing (λ e. cc))

@@ -7,7 +7,6 @@ pub mod Reported
 pub mod RunsFlushed
 pub mod Sessions
 pub mod Statuses
-pub mod WaysConclude
 pub mod CommandRuns
 pub mod WayRuns
 pub mod WayPlain

@@ -1,11 +1,10 @@
 -- What a flush leaves of how a run by a way ended.
 use Rattle.std.proofs.Common.{◌≡◌, ◌⊎◌, inl, inr, ℕ, List, [], Option, None, Result, Ok, Err, subst}
-use Rattle.std.specs.Io.KnownBytes.{Appends, Keeps}
+use Rattle.std.specs.Io.KnownBytes.{Keeps}
 use Rattle.rh_text.specs.Output.{AppendsLess, AppendsPrefix}
 use Rattle.rh_syntax.specs.declared.line.Header.{Header}
 use Rattle.rh_syntax.specs.declared.request.Request.{Request}
 use Rattle.rh_syntax.specs.Spelling.{Script}
-use Rattle.rh_trace.specs.declared.run_fault.RunFault.{RunFault}
 use Rattle.rh_trace.specs.declared.stop.Stop.{Stop}
 use Rattle.rh_trace.specs.declared.stop.Stop.TheVariants as stops
 use Rattle.rh_trace.specs.declared.summary.Summary.{Summary}
@@ -15,7 +14,7 @@ use Rattle.rh_trace.specs.declared.way_fault.WayFault.TheVariants as ends
 use Rattle.rh_trace.specs.Answers.{Answered, answered_text, total_line}
 use Rattle.rh_trace.specs.Either.{by_either}
 use Rattle.rh_trace.specs.Fixed.{AnswersEnd}
-use Rattle.rh_trace.specs.Lines.{LinesEnd, IsCutIn, Seen, kept_by, lines_text, summary_in, whole_text}
+use Rattle.rh_trace.specs.Lines.{LinesEnd, Seen, kept_by, lines_text, summary_in, whole_text}
 use Rattle.rh_trace.specs.Ways.{Ends, IsPlayedTrace, KeepsAll, TraceEnds}
 use Rattle.rh_choices.specs.declared.telling.Telling.{Telling}
 use Rattle.rh_cycles.specs.declared.cycle.Cycle.{Cycle}
@@ -40,15 +39,15 @@ module _ {W : Type 0} (old mid new : W → Option (List ℕ)) (flushed : KeepsAl
     lines_flushed : (l : L) (s : S) (requests : List Request) (r : Result Summary Stop) → LinesEnd Steps total next show closing lead opening Needs l s requests r old mid
         → LinesEnd Steps total next show closing lead opening Needs l s requests r old new
     lines_flushed l s requests (Ok summary) e =
-        (e.0, e.1, e.2, λ w. Appends-kept (old w) (mid w) (new w) (whole_text Steps total next show closing lead opening l e.0 summary w) (e.3 w) (flushed w))
+        (e.0, e.1, e.2, λ w. Appends-kept (old w) (mid w) (new w) (whole_text next show closing opening l e.0 summary w) (e.3 w) (flushed w))
     lines_flushed l s requests (Err stops.Write) (inl e) =
-        inl (e.0, e.1, e.2, prefixes (lines_text Steps total next show closing lead opening l e.1) e.3)
+        inl (e.0, e.1, e.2, prefixes (lines_text next show opening l e.1) e.3)
     lines_flushed l s requests (Err stops.Write) (inr e) =
-        let sum = summary_in Steps total next show closing lead opening s e.0 in
-        let text = whole_text Steps total next show closing lead opening l e.0 sum in
-        inr (e.0, e.1, prefixes text e.2, cut_at lead (closing (kept_by next l e.0) sum lead) (text lead) e.3)
+        let sum = summary_in total s e.0 in
+        let text = whole_text next show closing opening l e.0 sum in
+        inr (e.0, e.1, (prefixes text e.2.0, cut_at lead (closing (kept_by next l e.0) sum lead) (text lead) e.2.1))
     lines_flushed l s requests (Err stops.OutOfMemory) e =
-        (e.0, (e.1.0, e.1.1, e.1.2, prefixes (lines_text Steps total next show closing lead opening l e.1.1) e.1.3))
+        (e.0, (e.1.0, e.1.1, e.1.2, prefixes (lines_text next show opening l e.1.1) e.1.3))
 
     played_flushed : (l : L) (script : Script) (r : Result Summary Stop) → IsPlayedTrace Steps total next show closing lead opening begun fits Needs l script r old mid
         → IsPlayedTrace Steps total next show closing lead opening begun fits Needs l script r old new

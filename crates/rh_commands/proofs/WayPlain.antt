@@ -14,7 +14,8 @@ use Rattle.rh_replay.specs.Legal.{IsLegal}
 use Rattle.rh_replay.specs.Spelling.{spelling}
 use Rattle.rh_trace.specs.declared.summary.Summary.{Summary}
 use Rattle.rh_trace.specs.Run.{config_of}
-use Rattle.rh_paced_trace.specs.declared.fault.PacedFault.{PacedFault}
+use Rattle.rh_trace.specs.declared.way_fault.WayFault.{WayFault}
+use Rattle.rh_paced_trace.specs.declared.fault.Unpaced.{Unpaced}
 use Rattle.rh_paced_trace.specs.Growing.{growing_answers_of, growth_of}
 use Rattle.rh_paced_trace.specs.Lines.{commands_in, other_fault}
 use Rattle.rh_paced_trace.specs.Run.{AreSumsOf, AreTransparent, IsCommandTrace, new_run}
@@ -45,7 +46,7 @@ module _ (legal : RepliesAreLegal) (telling : Telling) (input : List ℕ) (from 
   }
 
   pub told-paced : ((script : Script) → fault_of (config_of script.header) ≡ None → (pace : Pace) → AreTransparent (empty_plain script.header.owners script.header.slots) (commands_in script.requests) (paced_replies (new_run script pace) (commands_in script.requests)))
-      → (mark : Option ℕ) (result : Result Summary PacedFault) → EndsPaced mark telling input result w → IfOk result (λ summary. IsToldPlainly telling from to w summary)
+      → (mark : Option ℕ) (result : Result Summary (WayFault Unpaced)) → EndsPaced mark telling input result w → IfOk result (λ summary. IsToldPlainly telling from to w summary)
   told-paced plainly mark (Err fault) ends = tt
   told-paced plainly mark (Ok summary) ends =
       let script = ends.0 in
@@ -53,7 +54,7 @@ module _ (legal : RepliesAreLegal) (telling : Telling) (input : List ℕ) (from 
       plainly_told script answers summary ends.2.trace (plainly script ends.2.sizes ends.1) (subst (AreSumsOf answers) (sym ends.3) (record { commands = refl; refused = refl })) ends.4.0 ends.4.1
 
   pub told-growing : ((script : Script) (at_most : ℕ) → IsGrowth (growth_of script at_most) → (given : ℕ → Bool) → AreTransparent (empty_plain script.header.owners script.header.slots) (commands_in script.requests) (growing_answers_of script at_most given))
-      → (at_most : ℕ) (result : Result Summary PacedFault) → EndsGrowing at_most telling input result w → IfOk result (λ summary. IsToldPlainly telling from to w summary)
+      → (at_most : ℕ) (result : Result Summary (WayFault Unpaced)) → EndsGrowing at_most telling input result w → IfOk result (λ summary. IsToldPlainly telling from to w summary)
   told-growing plainly at_most (Err fault) ends = tt
   told-growing plainly at_most (Ok summary) ends =
       let script = ends.0 in

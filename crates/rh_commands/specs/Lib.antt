@@ -1,9 +1,7 @@
 pub mod Count
 pub mod Draw
 pub mod Fault
-pub mod Paced
 pub mod Replay
-pub mod Run
 pub mod Runs
 pub mod Session
 pub mod Shared

@@ -8,10 +8,11 @@ use Rattle.rh_replay.specs.History.{HistoryState}
 use Rattle.rh_replay.specs.Reading.{history_of}
 use Rattle.rh_replay.specs.Report.{report_text}
 use Rattle.rh_trace.specs.declared.run_fault.RunFault.{RunFault}
-use Rattle.rh_trace.specs.declared.run_fault.RunFault.TheVariants as run_faults
 use Rattle.rh_trace.specs.declared.summary.Summary.{Summary}
-use Rattle.rh_paced_trace.specs.declared.fault.PacedFault.{PacedFault}
-use Rattle.rh_paced_trace.specs.declared.fault.PacedFault.TheVariants as paced_faults
+use Rattle.rh_trace.specs.declared.way_fault.WayFault.{WayFault}
+use Rattle.rh_trace.specs.declared.way_fault.WayFault.TheVariants as ends
+use Rattle.rh_trace.specs.Fixed.{by_way}
+use Rattle.rh_paced_trace.specs.declared.fault.Unpaced.{Unpaced}
 use Rattle.rh_choices.specs.declared.telling.Telling.{Telling}
 use Rattle.rh_choices.specs.declared.telling.Telling.TheVariants.{Answers, Echo, Json}
 use Rattle.rh_trace_views.specs.Json.{json_dump, json_report}
@@ -21,31 +22,27 @@ use Rattle.rh_commands.specs.Ways.{EndsGrowing, EndsPaced}
 use Rattle.rh_commands.specs.declared.fault.LineFault.{LineFault}
 use Rattle.rh_commands.specs.declared.fault.LineFault.TheVariants as faults
 use Rattle.rh_commands.specs.Count.{DumpEnds, IsCountStatus, counts_line}
-use Rattle.rh_commands.specs.Paced.{IsPacedStatus}
 use Rattle.rh_commands.specs.Replay.{IsJudged, IsReplayStatus}
-use Rattle.rh_commands.specs.Run.{IsRunStatus}
+use Rattle.rh_commands.specs.Runs.{ConcludesViewedBy, IsWayStatus}
 use Rattle.rh_commands.specs.ViewLog.{HasCause, ViewLogState}
 
 -- the viewed run ended in a way that fits its input and what was written, the status is that
 -- ending's, and its calls went so that it ended so
 abbrev pub ConcludesView : Telling → List ℕ → ℕ → ViewLogState → Written → Type 0
 ConcludesView telling input status log w =
-    (outcome : Result Summary RunFault) × Ends telling input outcome w × IsRunStatus outcome status
-    × HasCause Summary RunFault run_faults.Read run_faults.Write outcome status log
+    (outcome : Result Summary RunFault) × Ends telling input outcome w
+    × IsWayStatus (by_way outcome) status
+    × HasCause Summary (WayFault Unpaced) ends.Read ends.Write (by_way outcome) status log
 
 -- the same of a run at this mark
 abbrev pub ConcludesViewPaced : Option ℕ → Telling → List ℕ → ℕ → ViewLogState → Written → Type 0
 ConcludesViewPaced mark telling input status log w =
-    (outcome : Result Summary PacedFault) × EndsPaced mark telling input outcome w
-    × IsPacedStatus outcome status
-    × HasCause Summary PacedFault paced_faults.Read paced_faults.Write outcome status log
+    ConcludesViewedBy (λ outcome. EndsPaced mark telling input outcome w) status log
 
 -- and of one on a heap that grows to at most so many words
 abbrev pub ConcludesViewGrowing : ℕ → Telling → List ℕ → ℕ → ViewLogState → Written → Type 0
 ConcludesViewGrowing at_most telling input status log w =
-    (outcome : Result Summary PacedFault) × EndsGrowing at_most telling input outcome w
-    × IsPacedStatus outcome status
-    × HasCause Summary PacedFault paced_faults.Read paced_faults.Write outcome status log
+    ConcludesViewedBy (λ outcome. EndsGrowing at_most telling input outcome w) status log
 
 -- the report on a history with this verdict
 abbrev pub told_report : Telling → HistoryState → Verdict → List ℕ

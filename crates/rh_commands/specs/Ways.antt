@@ -1,16 +1,13 @@
 -- What viewed runs on heaps that collect by themselves give, and how they end.
-use Rattle.std.specs.Prelude.{◌≡◌, ◌⊎◌, ℕ, suc, Bool, ◌<◌, ◌≤◌, List, [], ◌∷◌, ◌++◌, length, Option, Some, None, Result, Ok, Err}
-use Rattle.std.specs.Io.KnownBytes.{Appends, Keeps}
+use Rattle.std.specs.Prelude.{◌≡◌, ◌⊎◌, ℕ, suc, Bool, List, [], ◌∷◌, ◌++◌, Option, Result}
+use Rattle.std.specs.Io.KnownBytes.{Appends}
 use Rattle.rh_layout.specs.declared.command.Command.{Command}
 use Rattle.rh_layout.specs.declared.command.Reply.{Reply}
 use Rattle.rh_layout.specs.declared.refusal.Refusal.{Refusal}
-use Rattle.rh_mutator.specs.Config.{fault_of}
 use Rattle.rh_core.specs.runs.Programs.{CommandAnswers}
-use Rattle.rh_text.specs.Output.{AppendsLess, AppendsPrefix}
 use Rattle.rh_pace.specs.InTime.{paced_replies}
 use Rattle.rh_pace.specs.Paced.{PacedState, paced_step}
 use Rattle.rh_pace.specs.declared.pace.Pace.{Pace}
-use Rattle.rh_syntax.specs.Reading.{trace_of}
 use Rattle.rh_syntax.specs.Spelling.{Script}
 use Rattle.rh_replay.specs.Legal.{IsLegal}
 use Rattle.rh_replay.specs.Spelling.{spelling}
@@ -18,26 +15,19 @@ use Rattle.rh_cycles.specs.declared.cycle.Cycle.{Cycle}
 use Rattle.rh_cycles.specs.Cycles.{told_cycles}
 use Rattle.rh_cycles.specs.Heaps.{CyclesState, after_step}
 use Rattle.rh_growing.specs.Growing.{growing_step}
-use Rattle.rh_growing.specs.Growth.{fault_of_growth}
-use Rattle.rh_growing.specs.declared.errors.GrowingError.TheVariants as growing_errors
 use Rattle.rh_trace.specs.declared.summary.Summary.{Summary}
 use Rattle.rh_trace.specs.declared.way_fault.WayFault.{WayFault}
 use Rattle.rh_trace.specs.Answers.{Answered}
-use Rattle.rh_trace.specs.Run.{config_of}
-use Rattle.rh_paced_trace.specs.declared.fault.PacedFault.{PacedFault}
-use Rattle.rh_paced_trace.specs.declared.fault.PacedFault.TheVariants as faults
-use Rattle.rh_paced_trace.specs.Growing.{IsGrowingRun, growing_answers_of, growing_sum_of, growth_of, new_growing_run}
+use Rattle.rh_paced_trace.specs.Growing.{HasNoGrowth, IsGrowingRun, growing_answers_of, growing_sum_of, growth_of, new_growing_run}
 use Rattle.rh_paced_trace.specs.declared.fault.Unpaced.{Unpaced}
 use Rattle.rh_paced_trace.specs.Commanded.{CommandSteps, answered_by, total_at}
-use Rattle.rh_paced_trace.specs.Lines.{Commands, commands_in, fault_in}
-use Rattle.rh_paced_trace.specs.Pacing.{IsPaceOf}
-use Rattle.rh_paced_trace.specs.Run.{AreSumsOf, IsCommandTrace, IsPlainRun, IsRun, new_run, sum_of}
+use Rattle.rh_paced_trace.specs.Lines.{Commands, commands_in}
+use Rattle.rh_paced_trace.specs.Run.{AreSumsOf, CommandsEnd, HasNoPace, IsPlainRun, IsRun, new_run, sum_of}
 use Rattle.rh_paced_trace.specs.Ways.{IsGrowingStart, IsPacedStart, LacksGrowth, LacksPace}
 use Rattle.rh_choices.specs.declared.telling.Telling.{Telling}
-use Rattle.rh_trace_views.specs.Cycles.{cycles_text, first_read}
+use Rattle.rh_trace_views.specs.Cycles.{first_read}
 use Rattle.rh_trace_views.specs.Listening.{ViewsEnd, ViewsWriter}
-use Rattle.rh_trace_views.specs.Run.{KeepsAll, Written, history_with, told_of}
-use Rattle.rh_trace_views.specs.Views.{numbered, views_text}
+use Rattle.rh_trace_views.specs.Run.{IsCut, IsStopped, IsTold, KeepsAll, Written, history_with, told_of}
 
 module _ {X S : Type 0} (paced : S → PacedState)
     (step : X → S → ℕ → Command → S × Result Reply Refusal) where
@@ -72,84 +62,39 @@ growing_cycles script at_most given =
     (first_read (new_growing_run script at_most).paced) (new_growing_run script at_most)
     (commands_in script.requests)
 
--- All texts of a run that was answered so, and in which these cycles ended, were written; or a
--- prefix of each, and not all of the first; or a prefix of what is told of the lines and of their
--- cycles, and nothing of the history.
-abbrev pub IsTold : Telling → Script → List Answered → Summary → List Cycle → Written → Type 0
-IsTold telling script answered summary cycles w =
-    Appends w.old w.new (told_of telling script.requests answered summary)
-    × Appends w.history_old w.history_new (spelling (history_with script answered))
-    × Appends w.cycles_old w.cycles_new (cycles_text cycles)
-
-abbrev pub IsCut : Telling → Script → List Answered → Summary → List Cycle → Written → Type 0
-IsCut telling script answered summary cycles w =
-    AppendsLess w.old w.new (told_of telling script.requests answered summary)
-    × AppendsPrefix w.history_old w.history_new (spelling (history_with script answered))
-    × AppendsPrefix w.cycles_old w.cycles_new (cycles_text cycles)
-
-abbrev pub IsStopped : Telling → Script → List Answered → List Cycle → Written → Type 0
-IsStopped telling script answered cycles w =
-    AppendsPrefix w.old w.new (views_text telling (numbered 2 script.requests answered))
-    × Keeps w.history_old w.history_new
-    × AppendsPrefix w.cycles_old w.cycles_new (cycles_text cycles)
-
 -- How a viewed run at a mark, or at the pace of its sizes, ends, as a viewed run does: of the faults
 -- of the input the first is answered, and nothing was written.
-abbrev pub EndsPaced : Option ℕ → Telling → List ℕ → Result Summary PacedFault → Written → Type 0
-EndsPaced mark telling input (Ok summary) w =
-    (script : Script) × (pace : Pace) × IsRun mark input script pace
+abbrev pub EndsPaced : Option ℕ → Telling → List ℕ → Result Summary (WayFault Unpaced) → Written
+    → Type 0
+EndsPaced mark telling input result w =
+    CommandsEnd (HasNoPace mark)
+    (λ summary. (script : Script) × (pace : Pace) × IsRun mark input script pace
     × (summary ≡ sum_of script pace)
-    × IsTold telling script (paced_answered script pace) summary (paced_cycles script pace) w
-EndsPaced mark telling input (Err faults.Write) w =
-    (script : Script) × (pace : Pace) × IsRun mark input script pace
+    × IsTold telling script (paced_answered script pace) summary (paced_cycles script pace) w)
+    ((script : Script) × (pace : Pace) × IsRun mark input script pace
     × IsCut telling script (paced_answered script pace) (sum_of script pace)
-    (paced_cycles script pace) w
-EndsPaced mark telling input (Err faults.OutOfMemory) w =
-    KeepsAll w ⊎ ((script : Script) × (pace : Pace) × IsRun mark input script pace
-    × IsStopped telling script (paced_answered script pace) (paced_cycles script pace) w)
-EndsPaced mark telling input (Err faults.Long) w = (16777216 < length input) × KeepsAll w
-EndsPaced mark telling input (Err (faults.Trace fault)) w =
-    (length input ≤ 16777216) × (fault_in (trace_of input) ≡ Some fault) × KeepsAll w
-EndsPaced mark telling input (Err (faults.New fault)) w =
-    (script : Script) × IsCommandTrace input script
-    × (fault_of (config_of script.header) ≡ Some fault) × KeepsAll w
-EndsPaced mark telling input (Err (faults.Pace why)) w =
-    (script : Script) × IsCommandTrace input script
-    × (fault_of (config_of script.header) ≡ None) × IsPaceOf mark script (Err why) × KeepsAll w
-EndsPaced mark telling input (Err faults.Limits) w = ⊥
-EndsPaced mark telling input (Err faults.Read) w = KeepsAll w
+    (paced_cycles script pace) w)
+    (KeepsAll w ⊎ ((script : Script) × (pace : Pace) × IsRun mark input script pace
+    × IsStopped telling script (paced_answered script pace) (paced_cycles script pace) w))
+    (KeepsAll w) input result
 
 -- The same of a growing run. Where something of its texts was written, the allocator gave what it
 -- gave.
-abbrev pub EndsGrowing : ℕ → Telling → List ℕ → Result Summary PacedFault → Written → Type 0
-EndsGrowing at_most telling input (Ok summary) w =
-    (script : Script) × (given : ℕ → Bool) × IsGrowingRun at_most input script
+abbrev pub EndsGrowing : ℕ → Telling → List ℕ → Result Summary (WayFault Unpaced) → Written
+    → Type 0
+EndsGrowing at_most telling input result w =
+    CommandsEnd (λ script. HasNoGrowth (growth_of script at_most))
+    (λ summary. (script : Script) × (given : ℕ → Bool) × IsGrowingRun at_most input script
     × (summary ≡ growing_sum_of script at_most given)
     × IsTold telling script (growing_answered script at_most given) summary
-    (growing_cycles script at_most given) w
-EndsGrowing at_most telling input (Err faults.Write) w =
-    (script : Script) × (given : ℕ → Bool) × IsGrowingRun at_most input script
-    × IsCut telling script (growing_answered script at_most given)
-    (growing_sum_of script at_most given) (growing_cycles script at_most given) w
-EndsGrowing at_most telling input (Err faults.OutOfMemory) w =
-    KeepsAll w ⊎ ((script : Script) × (given : ℕ → Bool) × IsGrowingRun at_most input script
-    × IsStopped telling script (growing_answered script at_most given)
     (growing_cycles script at_most given) w)
-EndsGrowing at_most telling input (Err faults.Long) w = (16777216 < length input) × KeepsAll w
-EndsGrowing at_most telling input (Err (faults.Trace fault)) w =
-    (length input ≤ 16777216) × (fault_in (trace_of input) ≡ Some fault) × KeepsAll w
-EndsGrowing at_most telling input (Err (faults.New fault)) w =
-    (script : Script) × IsCommandTrace input script
-    × (fault_of (config_of script.header) ≡ Some fault) × KeepsAll w
-EndsGrowing at_most telling input (Err faults.Limits) w =
-    (script : Script) × IsCommandTrace input script
-    × (fault_of (config_of script.header) ≡ None)
-    × (fault_of_growth (growth_of script at_most) ≡ Some growing_errors.BadLimits) × KeepsAll w
-EndsGrowing at_most telling input (Err (faults.Pace why)) w =
-    (script : Script) × IsCommandTrace input script
-    × (fault_of (config_of script.header) ≡ None)
-    × (fault_of_growth (growth_of script at_most) ≡ Some (growing_errors.Pace why)) × KeepsAll w
-EndsGrowing at_most telling input (Err faults.Read) w = KeepsAll w
+    ((script : Script) × (given : ℕ → Bool) × IsGrowingRun at_most input script
+    × IsCut telling script (growing_answered script at_most given)
+    (growing_sum_of script at_most given) (growing_cycles script at_most given) w)
+    (KeepsAll w ⊎ ((script : Script) × (given : ℕ → Bool) × IsGrowingRun at_most input script
+    × IsStopped telling script (growing_answered script at_most given)
+    (growing_cycles script at_most given) w))
+    (KeepsAll w) input result
 
 -- Said of the plain heap alone: the bytes that a reader gave spell a trace of commands, these are
 -- its answers but for limits, what was told and noted is theirs, and that history is legal.

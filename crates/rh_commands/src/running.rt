@@ -2,9 +2,9 @@
 
 ghost use Rattle.std.specs.Prelude.{◌≡◌, ◌↔◌, List, ℕ, IfSome, IfErr, IsOk, IsTrue};
 ghost use Rattle.std.specs.Io.KnownBytes.{Consumes};
-ghost use Rattle.rh_commands.specs.Run.{run_status, run_told_as};
+ghost use Rattle.rh_trace.specs.Ways.{of_run_fault};
 ghost use Rattle.rh_commands.specs.Runs.{ConcludesWay, IsWayStatus, way_told_as};
-ghost use Rattle.rh_commands.specs.Fault.{status_of, status_after, IsUsualFault};
+ghost use Rattle.rh_commands.specs.Fault.{status_after, IsUsualFault};
 
 use crate::ending::Ending;
 use crate::fault::LineFault;
@@ -90,10 +90,9 @@ fn fault_of_way(fault: WayFault<Unpaced>) -> LineFault
 
 /// The fault that is told of a picture's run.
 pub(crate) fn fault_of_run(fault: RunFault) -> LineFault
-    ensures status { status_of result ≡ run_status fault }
-    ensures late { IsUsualFault result }
     // It is told as what it is.
-    ensures told { result ≡ run_told_as fault }
+    ensures told { result ≡ way_told_as (of_run_fault fault) }
+    ensures late { IsUsualFault result }
 {
     match fault {
         RunFault::Read => LineFault::Read,

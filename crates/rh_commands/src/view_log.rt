@@ -1,11 +1,14 @@
-//! The logs of the writers of a viewed run: whether a write or a flush failed.
+//! The log of what is viewed: whether a read, a write or a flush failed, and how many were flushed.
 
 ghost use Rattle.std.specs.Prelude.{◌≡◌, true, OnErr, OnOk};
 ghost use Rattle.std.specs.Io.KnownBytes.{Keeps};
 ghost use Rattle.rh_text.specs.IoLog.{one_more};
+ghost use Rattle.rh_trace.specs.Ways.{KeepsAll};
+ghost use Rattle.rh_trace_views.specs.Listening.{views_contents};
 ghost use Rattle.rh_commands.specs.ViewLog.{new_log};
 
 use rh_text::IoLog;
+use rh_trace_views::Writers;
 use std::io::{self, Write};
 use std::marker::Model;
 
@@ -81,24 +84,18 @@ impl ViewLog {
         flushed
     }
 
-    /// Flushes three writers, each of them whether another fails or not.
-    pub(crate) fn flush_all<O: Write, H: Write, C: Write>(
-        &mut self,
-        out: &mut O,
-        history: &mut H,
-        cycles: &mut C,
-    )
-        ensures out { Keeps (O.contents out.old) (O.contents out.new) }
-        ensures history { Keeps (H.contents history.old) (H.contents history.new) }
-        ensures cycles { Keeps (C.contents cycles.old) (C.contents cycles.new) }
+    /// Flushes the writers of views, each of them whether another fails or not.
+    pub(crate) fn flush_all<O: Write, H: Write, C: Write>(&mut self, out: &mut Writers<O, H, C>)
+        ensures kept { KeepsAll (views_contents O.contents H.contents C.contents out.old)
+            (views_contents O.contents H.contents C.contents out.new) }
         ensures reads { self.new.reads ≡ self.old.reads }
         ensures writes { self.new.writes ≡ self.old.writes }
         // Once a flush failed, that stays known.
         ensures failed { self.old.flush_failed ≡ true → self.new.flush_failed ≡ true }
         ensures flushes { self.new.flushes ≡ one_more (one_more (one_more self.old.flushes)) }
     {
-        let _ = self.flush(out);
-        let _ = self.flush(history);
-        let _ = self.flush(cycles);
+        let _ = self.flush(&mut out.first);
+        let _ = self.flush(&mut out.second.first);
+        let _ = self.flush(&mut out.second.second);
     }
 }

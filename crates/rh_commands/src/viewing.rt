@@ -3,7 +3,7 @@
 ghost use Rattle.std.specs.Prelude.{◌≡◌, List, ℕ, false, IfSome, IfErr};
 ghost use Rattle.std.specs.Io.KnownBytes.{Consumes};
 ghost use Rattle.rh_text.specs.IoLog.{CountsDown};
-ghost use Rattle.rh_trace.specs.Either.{by_either};
+ghost use Rattle.rh_trace_views.specs.Listening.{views_contents};
 ghost use Rattle.rh_commands.specs.Fault.{status_after, IsUsualFault};
 ghost use Rattle.rh_commands.specs.Runs.{ConcludesViewedWay};
 ghost use Rattle.rh_commands.specs.ViewLog.{FlushedSince};
@@ -42,18 +42,14 @@ where
     requires no_write_failed { log.old.writes.failed ≡ false }
     ensures told { IfSome (R.remaining reader.old) (λ input. ConcludesViewedWay P.Steps P.total
         Q.first Q.read (Y.fits way.now) (Y.refuses way.now) telling input (status_after result)
-        log.new (by_either (λ w. O.contents out.old.first) (by_either
-        (λ w. H.contents out.old.second.first) (λ w. C.contents out.old.second.second)))
-        (by_either (λ w. O.contents out.new.first) (by_either
-        (λ w. H.contents out.new.second.first) (λ w. C.contents out.new.second.second)))) }
+        log.new (views_contents O.contents H.contents C.contents out.old)
+        (views_contents O.contents H.contents C.contents out.new)) }
     ensures read { (input : List ℕ)
         × Consumes (R.remaining reader.old) (R.remaining reader.new) input
         × ConcludesViewedWay P.Steps P.total Q.first Q.read (Y.fits way.now) (Y.refuses way.now)
-        telling input (status_after result) log.new (by_either (λ w. O.contents out.old.first)
-        (by_either (λ w. H.contents out.old.second.first)
-        (λ w. C.contents out.old.second.second)))
-        (by_either (λ w. O.contents out.new.first) (by_either
-        (λ w. H.contents out.new.second.first) (λ w. C.contents out.new.second.second))) }
+        telling input (status_after result) log.new
+        (views_contents O.contents H.contents C.contents out.old)
+        (views_contents O.contents H.contents C.contents out.new) }
     ensures late { IfErr result (λ fault. IsUsualFault fault) }
     ensures reads_counted { CountsDown log.old.reads.left log.old.reads log.new.reads }
     ensures flushed { FlushedSince 3 log.old log.new }
@@ -68,10 +64,6 @@ where
         out,
         &mut log.writes,
     );
-    log.flush_all(
-        &mut out.first,
-        &mut out.second.first,
-        &mut out.second.second,
-    );
+    log.flush_all(out);
     conclude(ran, !log.has_flush_failed())
 }

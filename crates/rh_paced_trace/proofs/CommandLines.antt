@@ -71,7 +71,7 @@ given_first x others (suc i) = others i
 
 module _ {X S : Type 0} (usual : X) (step : X → S → ℕ → Command → S × Result Reply Refusal) where
   -- all of them were played
-  pub by_steps : (line : ℕ) (s : S) (requests : List Request) (seen : List (Seen S)) → Runs (CommandSteps step) line s requests seen
+  unfoldable pub by_steps : (line : ℕ) (s : S) (requests : List Request) (seen : List (Seen S)) → Runs (CommandSteps step) line s requests seen
       → (given : ℕ → X) × (answers_in seen ≡ answered_by (replies_by step given s (commands_in requests))) × (left_by s seen ≡ after_by step given s (commands_in requests))
   by_steps line s [] [] all = ((λ i. usual), refl, refl)
   by_steps line s [] (one ∷ seen) all = absurd all
@@ -167,7 +167,7 @@ module _ {X S : Type 0} (usual : X) (step : X → S → ℕ → Command → S ×
     abbrev pub IsCut : Type 0
     IsCut = (given : ℕ → X) × AppendsLess (old tt) (new tt) (output_by step paced given s commands)
 
-    cut_before : IsCutIn (CommandSteps step) total next show closing tt opening tt s requests old new → IsCut
+    cut_before : IsCutIn next show opening (CommandSteps step) tt s requests old new → IsCut
     cut_before cut =
         let first = first_by_steps usual step 2 s cut.0 requests cut.1 cut.2 in
         let given = first.0 in
@@ -188,7 +188,7 @@ module _ {X S : Type 0} (usual : X) (step : X → S → ℕ → Command → S ×
 
     -- and their text
     whole_is : (seen : List (Seen S)) (given : ℕ → X) (summary : Summary) → answers_in seen ≡ answered_by (replies_by step given s commands) → summary ≡ summary_by step paced given s commands
-        → whole_text (CommandSteps step) total next show closing tt opening tt seen summary tt ≡ output_by step paced given s commands
+        → whole_text next show closing opening tt seen summary tt ≡ output_by step paced given s commands
     whole_is seen given summary answers is =
         ap (λ (t : List ℕ). t ++ total_line summary) (shown_is seen ∙ ap (flat_map answered_text) answers ∙ text_is (replies_by step given s commands))
         ∙ ap (λ (sum : Summary). flat_map answer_line (replies_by step given s commands) ++ total_line sum) is
@@ -210,7 +210,7 @@ module _ {X S : Type 0} (usual : X) (step : X → S → ℕ → Command → S ×
         let played = by_steps usual step 2 s requests seen cut.1 in
         let summary = total (left_by s seen) (summary_of (answers_in seen)) in
         let is = summary_is seen played.0 played.1 played.2 in
-        elim cut.3 as (λ _. IsCut) [
+        elim cut.2.1 as (λ _. IsCut) [
           | inl none ↦ absurd (omega (arith, ap length none, total_filled [] summary))
           | inr less ↦ (played.0, subst (AppendsLess (old tt) (new tt)) (whole_is seen played.0 summary played.1 is) less)
         ]

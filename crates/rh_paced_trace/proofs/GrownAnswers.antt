@@ -1,6 +1,6 @@
 -- What a growing run writes are the answers of a plain heap.
 use Rattle.std.proofs.Common.{ℕ, suc, Bool, false, List, [], ◌∷◌, Option, Result, Ok, Err, refl, sym, subst}
-use Rattle.std.specs.Prelude.{IfOk, IsErrOf}
+use Rattle.std.specs.Prelude.{IfOk}
 use Rattle.std.specs.Io.KnownBytes.{Appends, Consumes}
 use Rattle.rh_model.specs.Plain.{PlainHeap, empty_plain}
 use Rattle.rh_mutator.specs.Commands.{is_limit_answer, plain_unless}
@@ -8,12 +8,13 @@ use Rattle.rh_core.specs.runs.Programs.{CommandAnswers}
 use Rattle.rh_text.specs.Output.{AppendsLess}
 use Rattle.rh_syntax.specs.Spelling.{Script}
 use Rattle.rh_trace.specs.declared.summary.Summary.{Summary}
+use Rattle.rh_trace.specs.declared.way_fault.WayFault.{WayFault}
+use Rattle.rh_trace.specs.declared.way_fault.WayFault.TheVariants as faults
 use Rattle.rh_pace.proofs.PacedPrograms.{ProgramLaws}
 use Rattle.rh_growing.specs.Growing.{GrowingState, growing_step}
 use Rattle.rh_growing.specs.Growth.{IsGrowth}
 use Rattle.rh_growing.proofs.Programs.{GrowingStands, plainly-growing}
-use Rattle.rh_paced_trace.specs.declared.fault.PacedFault.{PacedFault}
-use Rattle.rh_paced_trace.specs.declared.fault.PacedFault.TheVariants as faults
+use Rattle.rh_paced_trace.specs.declared.fault.Unpaced.{Unpaced}
 use Rattle.rh_paced_trace.specs.Growing.{EndsGrowing, IsGrowingRun, growing_answers_of, growing_replies, growing_sum_of, growth_of}
 use Rattle.rh_paced_trace.specs.Lines.{Commands, commands_in}
 use Rattle.rh_paced_trace.specs.Run.{AreSumsOf, AreTransparent, IsPlainRun, output_of}
@@ -43,7 +44,7 @@ module _ (plainly : AnswersPlainly) (at_most : ℕ) (input : List ℕ) (from to 
   sums : (script : Script) (given : ℕ → Bool) → AreSumsOf (growing_answers_of script at_most given) (growing_sum_of script at_most given)
   sums script given = record { commands = refl; refused = refl }
 
-  pub grown-plain : (result : Result Summary PacedFault) → EndsGrowing at_most input result old new
+  pub grown-plain : (result : Result Summary (WayFault Unpaced)) → EndsGrowing at_most input result old new
       → IfOk result (λ summary. (script : Script) × (answers : CommandAnswers) × IsPlainRun script answers from to × AreSumsOf answers summary × Appends old new (output_of answers summary))
   grown-plain (Err fault) ends = tt
   grown-plain (Ok summary) ends =
@@ -55,8 +56,5 @@ module _ (plainly : AnswersPlainly) (at_most : ℕ) (input : List ℕ) (from to 
         subst (λ (s : Summary). Appends old new (output_of answers s)) (sym ends.3) ends.4,
       )
 
-  pub grown-plain_prefix : (result : Result Summary PacedFault) → EndsGrowing at_most input result old new → IsErrOf result faults.Write
-      → (script : Script) × (answers : CommandAnswers) × (summary : Summary) × IsPlainRun script answers from to × AreSumsOf answers summary × AppendsLess old new (output_of answers summary)
-  grown-plain_prefix result ends failed =
-      let cut = subst (λ (r : Result Summary PacedFault). EndsGrowing at_most input r old new) failed ends in
-      (cut.0, growing_answers_of cut.0 at_most cut.1, growing_sum_of cut.0 at_most cut.1, grown_run cut.0 cut.1 cut.2, sums cut.0 cut.1, cut.3)
+  pub grown-plain_prefix : EndsGrowing at_most input (Err faults.Write) old new → (script : Script) × (answers : CommandAnswers) × (summary : Summary) × IsPlainRun script answers from to × AreSumsOf answers summary × AppendsLess old new (output_of answers summary)
+  grown-plain_prefix cut = (cut.0, growing_answers_of cut.0 at_most cut.1, growing_sum_of cut.0 at_most cut.1, grown_run cut.0 cut.1 cut.2, sums cut.0 cut.1, cut.3)

@@ -1,6 +1,6 @@
 -- What a paced run writes are the answers of a plain heap.
 use Rattle.std.proofs.Common.{◌≡◌, ℕ, false, inl, inr, List, [], ◌∷◌, Option, None, Result, Ok, Err, refl, sym, ap, subst, ◌∙◌}
-use Rattle.std.specs.Prelude.{IfOk, IsErrOf}
+use Rattle.std.specs.Prelude.{IfOk}
 use Rattle.std.specs.Io.KnownBytes.{Appends, Consumes}
 use Rattle.std.proofs.lemmas.List.Elements.{All-head, All-tail}
 use Rattle.rh_layout.specs.declared.command.Command.{Command}
@@ -28,12 +28,13 @@ use Rattle.rh_text.specs.Output.{AppendsLess}
 use Rattle.rh_syntax.specs.Spelling.{Script}
 use Rattle.rh_syntax.specs.lemmas.ReadIsSpelled.{trace_of-means}
 use Rattle.rh_trace.specs.declared.summary.Summary.{Summary}
+use Rattle.rh_trace.specs.declared.way_fault.WayFault.{WayFault}
+use Rattle.rh_trace.specs.declared.way_fault.WayFault.TheVariants as faults
 use Rattle.rh_trace.specs.Run.{config_of}
 use Rattle.rh_pace.specs.declared.pace.Pace.{Pace}
 use Rattle.rh_pace.specs.InTime.{paced_replies}
 use Rattle.rh_pace.specs.Paced.{PacedState, after_answer, paced_step, with_command}
-use Rattle.rh_paced_trace.specs.declared.fault.PacedFault.{PacedFault}
-use Rattle.rh_paced_trace.specs.declared.fault.PacedFault.TheVariants as faults
+use Rattle.rh_paced_trace.specs.declared.fault.Unpaced.{Unpaced}
 use Rattle.rh_paced_trace.specs.Lines.{Commands, commands_in}
 use Rattle.rh_paced_trace.specs.Run.{new_run, output_of, sum_of, IsCommandTrace, IsRun, Ends, AreTransparent, IsPlainRun, AreSumsOf}
 use Rattle.rh_paced_trace.proofs.CollectorWork.{WorkLaws, answered}
@@ -168,7 +169,7 @@ module _ {A : Type 0} (laws : PlainLaws A) where
   sums script pace = record { commands = refl; refused = refl }
 
   module _ (mark : Option ℕ) (input : List ℕ) (from to old new : Option (List ℕ)) (consumed : Consumes from to input) where
-    pub plain : (result : Result Summary PacedFault) → Ends mark input result old new
+    pub plain : (result : Result Summary (WayFault Unpaced)) → Ends mark input result old new
         → IfOk result (λ summary. (script : Script) × (answers : CommandAnswers) × IsPlainRun script answers from to × AreSumsOf answers summary × Appends old new (output_of answers summary))
     plain (Err fault) ends = tt
     plain (Ok summary) ends =
@@ -180,8 +181,5 @@ module _ {A : Type 0} (laws : PlainLaws A) where
           subst (λ (s : Summary). Appends old new (output_of answers s)) (sym ends.3) ends.4,
         )
 
-    pub plain_prefix : (result : Result Summary PacedFault) → Ends mark input result old new → IsErrOf result faults.Write
-        → (script : Script) × (answers : CommandAnswers) × (summary : Summary) × IsPlainRun script answers from to × AreSumsOf answers summary × AppendsLess old new (output_of answers summary)
-    plain_prefix result ends failed =
-        let cut = subst (λ (r : Result Summary PacedFault). Ends mark input r old new) failed ends in
-        (cut.0, answers_of cut.0 cut.1, sum_of cut.0 cut.1, plain_run mark input cut.0 cut.1 from to cut.2 consumed, sums cut.0 cut.1, cut.3)
+    pub plain_prefix : Ends mark input (Err faults.Write) old new → (script : Script) × (answers : CommandAnswers) × (summary : Summary) × IsPlainRun script answers from to × AreSumsOf answers summary × AppendsLess old new (output_of answers summary)
+    plain_prefix cut = (cut.0, answers_of cut.0 cut.1, sum_of cut.0 cut.1, plain_run mark input cut.0 cut.1 from to cut.2 consumed, sums cut.0 cut.1, cut.3)

@@ -1,13 +1,13 @@
 -- What a growing run of an input gives, and how it ends.
-use Rattle.std.specs.Prelude.{◌≡◌, ◌⊎◌, ℕ, suc, Bool, ◌<◌, ◌≤◌, List, [], ◌∷◌, length, Option, Some, None, Result, Ok, Err, IsSome}
+use Rattle.std.specs.Prelude.{◌≡◌, ◌⊎◌, ℕ, suc, Bool, List, [], ◌∷◌, Option, Some, None, Result, Err, IsSome}
 use Rattle.std.specs.Io.KnownBytes.{Appends, Keeps}
 use Rattle.rh_layout.specs.declared.refusal.Refusal.TheVariants.{SpaceFull}
 use Rattle.rh_mutator.specs.Config.{fault_of}
 use Rattle.rh_core.specs.runs.Programs.{CommandAnswers}
 use Rattle.rh_text.specs.Output.{AppendsLess}
-use Rattle.rh_syntax.specs.Reading.{trace_of}
 use Rattle.rh_syntax.specs.Spelling.{Script}
 use Rattle.rh_trace.specs.declared.summary.Summary.{Summary}
+use Rattle.rh_trace.specs.declared.way_fault.WayFault.{WayFault}
 use Rattle.rh_trace.specs.Run.{config_of}
 use Rattle.rh_pace.specs.InTime.{HasRoom}
 use Rattle.rh_pace.specs.Reaching.{AreEpochsSpent}
@@ -15,11 +15,11 @@ use Rattle.rh_growing.specs.declared.errors.GrowingError.TheVariants as growing_
 use Rattle.rh_growing.specs.declared.growth.Growth.{Growth}
 use Rattle.rh_growing.specs.Growth.{IsGrowth, fault_of_growth}
 use Rattle.rh_growing.specs.Growing.{GrowingState, growing_heap, growing_step}
-use Rattle.rh_paced_trace.specs.declared.fault.PacedFault.{PacedFault}
-use Rattle.rh_paced_trace.specs.declared.fault.PacedFault.TheVariants as faults
-use Rattle.rh_paced_trace.specs.Lines.{Commands, biggest_of, commands_in, fault_in}
+use Rattle.rh_paced_trace.specs.declared.fault.Unpaced.{Unpaced}
+use Rattle.rh_paced_trace.specs.declared.fault.Unpaced.TheVariants as unpaced
+use Rattle.rh_paced_trace.specs.Lines.{Commands, biggest_of, commands_in}
 use Rattle.rh_paced_trace.specs.Playing.{after_by, replies_by}
-use Rattle.rh_paced_trace.specs.Run.{IsCommandTrace, output_of, summary_of}
+use Rattle.rh_paced_trace.specs.Run.{CommandsEnd, IsCommandTrace, output_of, summary_of}
 
 -- how the heap of a run grows: from the words of the first line to so many, to twice the words that
 -- a flip left; for the biggest object that the trace asks for
@@ -69,35 +69,23 @@ pub record IsGrowingRun (at_most : ℕ) (input : List ℕ) (script : Script) : T
   pub sizes : fault_of (config_of script.header) ≡ None
   pub grows : IsGrowth (growth_of script at_most)
 
+-- why no heap grows so: a fault of its limits or of its pace
+abbrev pub HasNoGrowth : Growth → Unpaced → Type 0
+HasNoGrowth growth unpaced.Limits = fault_of_growth growth ≡ Some growing_errors.BadLimits
+HasNoGrowth growth (unpaced.Pace why) = fault_of_growth growth ≡ Some (growing_errors.Pace why)
+
 -- How a growing run of an input ends, as a paced run does. Where its text was written, whole or a
 -- prefix, the allocator gave what it gave.
-abbrev pub EndsGrowing : ℕ → List ℕ → Result Summary PacedFault → Option (List ℕ)
+abbrev pub EndsGrowing : ℕ → List ℕ → Result Summary (WayFault Unpaced) → Option (List ℕ)
     → Option (List ℕ) → Type 0
-EndsGrowing at_most input (Ok summary) old new =
-    (script : Script) × (given : ℕ → Bool) × IsGrowingRun at_most input script
+EndsGrowing at_most input result old new =
+    CommandsEnd (λ script. HasNoGrowth (growth_of script at_most))
+    (λ summary. (script : Script) × (given : ℕ → Bool) × IsGrowingRun at_most input script
     × (summary ≡ growing_sum_of script at_most given)
-    × Appends old new (growing_text_of script at_most given)
-EndsGrowing at_most input (Err faults.Write) old new =
-    (script : Script) × (given : ℕ → Bool) × IsGrowingRun at_most input script
-    × AppendsLess old new (growing_text_of script at_most given)
-EndsGrowing at_most input (Err faults.Long) old new = (16777216 < length input) × Keeps old new
-EndsGrowing at_most input (Err (faults.Trace fault)) old new =
-    (length input ≤ 16777216) × (fault_in (trace_of input) ≡ Some fault) × Keeps old new
-EndsGrowing at_most input (Err (faults.New fault)) old new =
-    (script : Script) × IsCommandTrace input script
-    × (fault_of (config_of script.header) ≡ Some fault) × Keeps old new
-EndsGrowing at_most input (Err faults.Limits) old new =
-    (script : Script) × IsCommandTrace input script
-    × (fault_of (config_of script.header) ≡ None)
-    × (fault_of_growth (growth_of script at_most) ≡ Some growing_errors.BadLimits)
-    × Keeps old new
-EndsGrowing at_most input (Err (faults.Pace why)) old new =
-    (script : Script) × IsCommandTrace input script
-    × (fault_of (config_of script.header) ≡ None)
-    × (fault_of_growth (growth_of script at_most) ≡ Some (growing_errors.Pace why))
-    × Keeps old new
-EndsGrowing at_most input (Err faults.Read) old new = Keeps old new
-EndsGrowing at_most input (Err faults.OutOfMemory) old new = Keeps old new
+    × Appends old new (growing_text_of script at_most given))
+    ((script : Script) × (given : ℕ → Bool) × IsGrowingRun at_most input script
+    × AppendsLess old new (growing_text_of script at_most given)) (Keeps old new)
+    (Keeps old new) input result
 
 -- Laws.
 

@@ -11,13 +11,15 @@ use Rattle.rh_text.specs.Output.{AppendsLess}
 use Rattle.rh_syntax.specs.Reading.{trace_of}
 use Rattle.rh_syntax.specs.Spelling.{Script, IsScript, spelling}
 use Rattle.rh_trace.specs.declared.summary.Summary.{Summary}
+use Rattle.rh_trace.specs.declared.way_fault.WayFault.{WayFault}
+use Rattle.rh_trace.specs.declared.way_fault.WayFault.TheVariants as ends
 use Rattle.rh_trace.specs.Answers.{answer_line, total_line}
 use Rattle.rh_trace.specs.Run.{config_of}
 use Rattle.rh_pace.specs.declared.pace.Pace.{Pace}
 use Rattle.rh_pace.specs.Paced.{PacedState, paced_heap}
 use Rattle.rh_pace.specs.InTime.{paced_after, paced_replies}
-use Rattle.rh_paced_trace.specs.declared.fault.PacedFault.{PacedFault}
-use Rattle.rh_paced_trace.specs.declared.fault.PacedFault.TheVariants as faults
+use Rattle.rh_paced_trace.specs.declared.fault.Unpaced.{Unpaced}
+use Rattle.rh_paced_trace.specs.declared.fault.Unpaced.TheVariants as unpaced
 use Rattle.rh_paced_trace.specs.Lines.{Commands, commands_in, fault_in, other_fault}
 use Rattle.rh_paced_trace.specs.Pacing.{IsPaceOf}
 
@@ -66,31 +68,41 @@ pub record IsRun (mark : Option ℕ) (input : List ℕ) (script : Script) (pace 
   pub sizes : fault_of (config_of script.header) ≡ None
   pub paced : IsPaceOf mark script (Ok pace)
 
--- How a paced run of an input ends: with its whole text written; with the first fault of the input,
--- or why there is no pace, and nothing written; where a write failed with a prefix of its text
--- written, and not all; and where a read failed or memory was refused with nothing written. It has
--- no limits of words, so that these are never bad.
-abbrev pub Ends : Option ℕ → List ℕ → Result Summary PacedFault → Option (List ℕ)
+module _ (lacks : Script → Unpaced → Type 0) (Done : Summary → Type 0)
+    (Cut Refused Kept : Type 0) where
+  -- How a run of commands of an input ends: with all done; with the first fault of the input, or why
+  -- it lacks a heap, and nothing written; with a write that failed, or memory that was refused, and
+  -- what is said then; and where a read failed with nothing written.
+  abbrev pub CommandsEnd : List ℕ → Result Summary (WayFault Unpaced) → Type 0
+  CommandsEnd input (Ok summary) = Done summary
+  CommandsEnd input (Err ends.Write) = Cut
+  CommandsEnd input (Err ends.OutOfMemory) = Refused
+  CommandsEnd input (Err ends.Long) = (16777216 < length input) × Kept
+  CommandsEnd input (Err (ends.Trace fault)) =
+      (length input ≤ 16777216) × (fault_in (trace_of input) ≡ Some fault) × Kept
+  CommandsEnd input (Err (ends.New fault)) =
+      (script : Script) × IsCommandTrace input script
+      × (fault_of (config_of script.header) ≡ Some fault) × Kept
+  CommandsEnd input (Err (ends.Way why)) =
+      (script : Script) × IsCommandTrace input script
+      × (fault_of (config_of script.header) ≡ None) × lacks script why × Kept
+  CommandsEnd input (Err ends.Read) = Kept
+
+-- why a paced run has no pace: it has no limits of words, so that these are never bad
+abbrev pub HasNoPace : Option ℕ → Script → Unpaced → Type 0
+HasNoPace mark script (unpaced.Pace why) = IsPaceOf mark script (Err why)
+HasNoPace mark script unpaced.Limits = ⊥
+
+-- How a paced run of an input ends: with its whole text written; where a write failed with a prefix
+-- of it, and not all; and else with nothing.
+abbrev pub Ends : Option ℕ → List ℕ → Result Summary (WayFault Unpaced) → Option (List ℕ)
     → Option (List ℕ) → Type 0
-Ends mark input (Ok summary) old new =
-    (script : Script) × (pace : Pace) × IsRun mark input script pace
-    × (summary ≡ sum_of script pace) × Appends old new (text_of script pace)
-Ends mark input (Err faults.Write) old new =
-    (script : Script) × (pace : Pace) × IsRun mark input script pace
-    × AppendsLess old new (text_of script pace)
-Ends mark input (Err faults.Long) old new = (16777216 < length input) × Keeps old new
-Ends mark input (Err (faults.Trace fault)) old new =
-    (length input ≤ 16777216) × (fault_in (trace_of input) ≡ Some fault) × Keeps old new
-Ends mark input (Err (faults.New fault)) old new =
-    (script : Script) × IsCommandTrace input script
-    × (fault_of (config_of script.header) ≡ Some fault) × Keeps old new
-Ends mark input (Err (faults.Pace why)) old new =
-    (script : Script) × IsCommandTrace input script
-    × (fault_of (config_of script.header) ≡ None) × IsPaceOf mark script (Err why)
-    × Keeps old new
-Ends mark input (Err faults.Limits) old new = ⊥
-Ends mark input (Err faults.Read) old new = Keeps old new
-Ends mark input (Err faults.OutOfMemory) old new = Keeps old new
+Ends mark input result old new =
+    CommandsEnd (HasNoPace mark)
+    (λ summary. (script : Script) × (pace : Pace) × IsRun mark input script pace
+    × (summary ≡ sum_of script pace) × Appends old new (text_of script pace))
+    ((script : Script) × (pace : Pace) × IsRun mark input script pace
+    × AppendsLess old new (text_of script pace)) (Keeps old new) (Keeps old new) input result
 
 -- The answers to commands are those of a plain heap, one by one, but for limits; it goes on by each
 -- command that no limit refused.

@@ -1,4 +1,4 @@
-//! The player for traces of commands alone: it takes any heap that takes commands.
+//! The player for traces of commands alone, over any heap that collects by itself.
 
 ghost use Rattle.std.specs.Prelude.{◌≡◌, false, []};
 ghost use Rattle.rh_paced_trace.specs.Commanded.{CommandSteps, total_at};

@@ -6,15 +6,13 @@ mod commanded;
 mod fault;
 pub mod laws;
 mod lines;
-mod outcome;
 mod pacing;
 mod ways;
 
 pub use commanded::Commanded;
-pub use fault::{PacedFault, Unpaced};
+pub use fault::Unpaced;
 pub use lines::other_fault;
-pub use outcome::told;
 pub use pacing::{growth_of, pace_of};
 pub use rh_pace::{Pace, PaceError};
-pub use rh_trace::Summary;
+pub use rh_trace::{Summary, WayFault};
 pub use ways::{Growing, Paced};

@@ -1,4 +1,4 @@
-//! The words that only a session has: `cycles`, `draw` and `help`.
+//! The keywords that only a session has: `cycles`, `draw` and `help`.
 
 ghost use Rattle.std.specs.Prelude.{◌≡◌, ◌<◌, length};
 ghost use Rattle.rh_shell.specs.Session.{own_of};

@@ -1,10 +1,9 @@
 -- Lines that an engine plays, and whose answers are written.
-use Rattle.std.proofs.Common.{◌≡◌, ℕ, ◌+◌, ◌<◌, List, [], ◌∷◌, ◌++◌, length, take, drop, Option, Result, Ok, Err, refl, sym, ap, subst, ◌∙◌, inl, inr, append_assoc, arith}
+use Rattle.std.proofs.Common.{◌≡◌, ℕ, ◌+◌, ◌<◌, List, [], ◌∷◌, ◌++◌, length, Option, Result, Ok, Err, refl, ap, subst, ◌∙◌, inl, inr, append_assoc, arith}
 use Rattle.std.specs.Prelude.{IfOk}
 use Rattle.std.specs.List.{flat_map, AllByRecursion}
 use Rattle.std.specs.Io.KnownBytes.{Appends}
-use Rattle.std.proofs.lemmas.List.{length-append, take-append-drop}
-use Rattle.std.proofs.lemmas.List.Concat.{flat_map-append}
+use Rattle.std.proofs.lemmas.List.{length-append}
 use Rattle.rh_text.specs.Output.{AppendsLess, AppendsPrefix}
 use Rattle.rh_syntax.specs.declared.request.Request.{Request}
 use Rattle.rh_engine.specs.Engine.{EngineState}
@@ -13,9 +12,9 @@ use Rattle.rh_trace.specs.declared.stop.Stop.TheVariants as stops
 use Rattle.rh_trace.specs.declared.summary.Summary.{Summary}
 use Rattle.rh_trace.specs.Answers.{Answered, answered_text, total_line}
 use Rattle.rh_trace.specs.Lines.{IsCutIn, LinesEnd, Runs, Seen, answers_in, shown, whole_text}
-use Rattle.rh_trace.specs.Run.{answers_to, engine_after, output_of, request_step, summary_of, Writes}
-use Rattle.rh_trace.proofs.LinesInTurn.{prefix_at, prefix_more}
-use Rattle.rh_trace.proofs.TraceParts.{answers_to-parts}
+use Rattle.rh_trace.specs.Run.{answers_to, output_of, request_step, summary_of, Writes}
+use Rattle.rh_trace.proofs.LinesInTurn.{prefix_at}
+use Rattle.rh_trace.proofs.RunsGoOn.{cut_of_all}
 
 -- the steps of an engine
 abbrev pub Steps : EngineState → Request → EngineState → Answered → Type 0
@@ -25,6 +24,9 @@ Steps s request t answered = (t ≡ (request_step s request).0) × (answered ≡
 pub all_played : (requests : List Request) → AllByRecursion (λ request. Unit {0}) requests
 all_played [] = tt
 all_played (request ∷ others) = (tt, all_played others)
+
+pub engine_plays : (e : EngineState) (request : Request) → Unit {0} → (t : EngineState) × (answered : Answered) × Steps e request t answered
+engine_plays e request any = ((request_step e request).0, (request_step e request).1, (refl, refl))
 
 -- what its lines are answered
 pub answers_of_runs : (line : ℕ) (e : EngineState) (requests : List Request) (seen : List (Seen EngineState)) → Runs Steps line e requests seen → answers_in seen ≡ answers_to e requests
@@ -69,16 +71,10 @@ module _ (e : EngineState) (requests : List Request) (old new : Unit {0} → Opt
   all = answers_to e requests
 
   -- a prefix of the answers to the first lines is one of all answers
-  cut_before : IsCutIn Steps total next show closing tt opening tt e requests old new → AppendsPrefix (old tt) (new tt) (flat_map answered_text all)
+  cut_before : IsCutIn next show opening Steps tt e requests old new → AppendsPrefix (old tt) (new tt) (flat_map answered_text all)
   cut_before cut =
-      let k = cut.0 in
-      let seen = cut.1 in
-      let first = answers_to e (take k requests) in
-      let rest = answers_to (engine_after e (take k requests)) (drop k requests) in
-      let parts : all ≡ first ++ rest = ap (answers_to e) (sym (take-append-drop k requests)) ∙ answers_to-parts e (take k requests) (drop k requests) in
-      let text : shown next show tt seen tt ≡ flat_map answered_text first = shown_is seen ∙ ap (flat_map answered_text) (answers_of_runs 2 e (take k requests) seen cut.2) in
-      prefix_at (old tt) (new tt) (flat_map answered_text first ++ flat_map answered_text rest) (flat_map answered_text all) (sym (ap (flat_map answered_text) parts ∙ flat_map-append answered_text first rest))
-      (prefix_more (old tt) (new tt) (flat_map answered_text first) (flat_map answered_text rest) (prefix_at (old tt) (new tt) (shown next show tt seen tt) (flat_map answered_text first) text (cut.3 tt)))
+      let some = cut_of_all Steps (λ request. Unit {0}) engine_plays next show opening tt e requests old new (all_played requests) cut in
+      prefix_at (old tt) (new tt) (shown next show tt some.0 tt) (flat_map answered_text all) (shown_is some.0 ∙ ap (flat_map answered_text) (answers_of_runs 2 e requests some.0 some.1)) (some.2 tt)
 
   -- a prefix of the answers, before the total line, isn't all
   less_than_all : AppendsPrefix (old tt) (new tt) (flat_map answered_text all) → AppendsLess (old tt) (new tt) (output_of all)
@@ -86,7 +82,7 @@ module _ (e : EngineState) (requests : List Request) (old new : Unit {0} → Opt
       let total = total_line (summary_of all) in
       (cut.0, cut.1 ++ total, ap (λ (t : List ℕ). t ++ total) cut.2 ∙ append_assoc cut.0 cut.1 total, total_filled cut.1 (summary_of all), cut.3)
 
-  whole_is : (seen : List (Seen EngineState)) (summary : Summary) → Runs Steps 2 e requests seen → summary ≡ summary_of (answers_in seen) → whole_text Steps total next show closing tt opening tt seen summary tt ≡ output_of all
+  whole_is : (seen : List (Seen EngineState)) (summary : Summary) → Runs Steps 2 e requests seen → summary ≡ summary_of (answers_in seen) → whole_text next show closing opening tt seen summary tt ≡ output_of all
   whole_is seen summary runs sum =
       let answers = answers_of_runs 2 e requests seen runs in
       ap (λ (t : List ℕ). t ++ total_line summary) (shown_is seen) ∙ ap (λ (s : Summary). flat_map answered_text (answers_in seen) ++ total_line s) sum ∙ ap output_of answers
@@ -106,7 +102,7 @@ module _ (e : EngineState) (requests : List Request) (old new : Unit {0} → Opt
   written (Err stops.OutOfMemory) ends = less_than_all (cut_before ends.1)
   written (Err stops.Write) (inl cut) = less_than_all (cut_before cut)
   written (Err stops.Write) (inr cut) =
-      elim cut.3 as (λ _. AppendsLess (old tt) (new tt) (output_of all)) [
+      elim cut.2.1 as (λ _. AppendsLess (old tt) (new tt) (output_of all)) [
         | inl none ↦ absurd (omega (arith, ap length none, total_filled [] (summary_of (answers_in cut.0))))
         | inr less ↦ subst (AppendsLess (old tt) (new tt)) (whole_is cut.0 (summary_of (answers_in cut.0)) cut.1 refl) less
       ]

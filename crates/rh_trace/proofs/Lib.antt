@@ -16,6 +16,7 @@ pub mod HeapDump
 pub mod OneTotal
 pub mod LinesInTurn
 pub mod EitherText
+pub mod RunsGoOn
 pub mod EngineLines
 pub mod WaysInTurn
 pub mod FixedRuns

@@ -137,7 +137,7 @@ module _ {S L W : Type 0} (Steps : S → Request → S → Answered → Type 0) 
   }
 
   -- it was stopped before the first line
-  pub Played-none : (from : S) (begun : L) (old new : W → Option (List ℕ)) (all : List Request) → ((w : W) → AppendsPrefix (old w) (new w) (opening w)) → IsCutIn Steps total next show closing lead opening begun from all old new
+  pub Played-none : (from : S) (begun : L) (old new : W → Option (List ℕ)) (all : List Request) → ((w : W) → AppendsPrefix (old w) (new w) (opening w)) → IsCutIn next show opening Steps begun from all old new
   Played-none from begun old new all cut = (0, [], tt, λ w. prefix_more (old w) (new w) (opening w) [] (cut w))
 
   module _ (from : S) (begun : L) (old : W → Option (List ℕ)) (now t : S) (kept after : L) (counted more : Summary) (mid new : W → Option (List ℕ)) (all : List Request) (i line : ℕ) (request : Request)
@@ -171,7 +171,7 @@ module _ {S L W : Type 0} (Steps : S → Request → S → Answered → Type 0) 
               (Appends-then (old w) (mid w) (new w) (opening w ++ shown next show begun played.seen w) (show kept one w) (played.text w) (step.4 w));
         }
 
-    pub Played-cut : IsStopped Steps next show line now request t kept mid new → IsCutIn Steps total next show closing lead opening begun from all old new
+    pub Played-cut : IsStopped Steps next show line now request t kept mid new → IsCutIn next show opening Steps begun from all old new
     Played-cut (inl keeps) = (i, played.seen, played.runs, λ w. whole_prefix (old w) (new w) (opening w ++ shown next show begun played.seen w) (Appends-keeps (old w) (mid w) (new w) (opening w ++ shown next show begun played.seen w) (played.text w) (keeps w)))
     Played-cut (inr step) =
         let one : Seen S = seen_of line request step.0 t in (
@@ -183,14 +183,14 @@ module _ {S L W : Type 0} (Steps : S → Request → S → Answered → Type 0) 
         )
 
   -- how lines end that were stopped
-  pub stopped_in : (X : Type 0) (begun : L) (from : S) (all : List Request) (stop : Stop) (old new : W → Option (List ℕ)) → (stop ≡ stops.OutOfMemory → X ⊎ HasOther all) → IsCutIn Steps total next show closing lead opening begun from all old new → LinesEnd Steps total next show closing lead opening X begun from all (Err stop) old new
+  pub stopped_in : (X : Type 0) (begun : L) (from : S) (all : List Request) (stop : Stop) (old new : W → Option (List ℕ)) → (stop ≡ stops.OutOfMemory → X ⊎ HasOther all) → IsCutIn next show opening Steps begun from all old new → LinesEnd Steps total next show closing lead opening X begun from all (Err stop) old new
   stopped_in X begun from all stops.Write old new memory cut = inl cut
   stopped_in X begun from all stops.OutOfMemory old new memory cut = (memory refl, cut)
 
   module _ (from : S) (begun : L) (old : W → Option (List ℕ)) (now : S) (kept : L) (counted summary : Summary) (mid new : W → Option (List ℕ)) (all : List Request)
       (played : Played from begun old all now kept counted mid) (sum : summary ≡ total now counted) where
     -- what they add up to
-    adds_up : summary ≡ summary_in Steps total next show closing lead opening from played.seen
+    adds_up : summary ≡ summary_in total from played.seen
     adds_up = sum ∙ ap (λ (s : S). total s counted) played.left ∙ ap (total (left_by from played.seen)) played.counts
 
     -- all was written
@@ -206,16 +206,18 @@ module _ {S L W : Type 0} (Steps : S → Request → S → Answered → Type 0) 
     -- not all of the end was
     pub ended_early : (X : Type 0) → ((w : W) → AppendsPrefix (mid w) (new w) (closing kept summary w)) → ((closing kept summary lead ≡ []) ⊎ AppendsLess (mid lead) (new lead) (closing kept summary lead)) → LinesEnd Steps total next show closing lead opening X begun from all (Err stops.Write) old new
     ended_early X cut less =
-        let due = summary_in Steps total next show closing lead opening from played.seen in
+        let due = summary_in total from played.seen in
         let closes = λ (w : W). ap (λ (l : L). closing l summary w) played.keeps ∙ ap (λ (s : Summary). closing (kept_by next begun played.seen) s w) adds_up in
         let text = λ (w : W). opening w ++ shown next show begun played.seen w in
         let end = λ (w : W). closing (kept_by next begun played.seen) due w in
         inr (
           played.seen,
           played.runs,
-          λ w. prefix_after (old w) (mid w) (new w) (text w) (end w) (played.text w) (prefix_at (mid w) (new w) (closing kept summary w) (end w) (closes w) (cut w)),
-          elim less as (λ _. (end lead ≡ []) ⊎ AppendsLess (old lead) (new lead) (text lead ++ end lead)) [
-            | inl none ↦ inl (sym (closes lead) ∙ none)
-            | inr short ↦ inr (Appends-less (old lead) (mid lead) (new lead) (text lead) (end lead) (played.text lead) (subst (AppendsLess (mid lead) (new lead)) (closes lead) short))
-          ],
+          (
+            λ w. prefix_after (old w) (mid w) (new w) (text w) (end w) (played.text w) (prefix_at (mid w) (new w) (closing kept summary w) (end w) (closes w) (cut w)),
+            elim less as (λ _. (end lead ≡ []) ⊎ AppendsLess (old lead) (new lead) (text lead ++ end lead)) [
+              | inl none ↦ inl (sym (closes lead) ∙ none)
+              | inr short ↦ inr (Appends-less (old lead) (mid lead) (new lead) (text lead) (end lead) (played.text lead) (subst (AppendsLess (mid lead) (new lead)) (closes lead) short))
+            ],
+          ),
         )

@@ -99,7 +99,7 @@ module _ {S L W F : Type 0} (Steps : S → Request → S → Answered → Type 0
   PlainLaw = (script : Script) (s : S) → fits script s → (requests : List Request) (seen : List (Seen S)) → Runs Steps 2 s requests seen → AreTransparent (empty_plain script.header.owners script.header.slots) requests (answers_in seen)
 
   module _ (plainly : PlainLaw) (input : List ℕ) (script : Script) (from to : Option (List ℕ)) (old new : W → Option (List ℕ)) (trace : IsTrace input script) (consumed : Consumes from to input) where
-    played : (s : S) (requests : List Request) (seen : List (Seen S)) → fits script s → Runs Steps 2 s requests seen → IsPlainlyPlayed Steps total next show closing lead opening begun fits script s requests seen from to
+    played : (s : S) (requests : List Request) (seen : List (Seen S)) → fits script s → Runs Steps 2 s requests seen → IsPlainlyPlayed Steps fits script s requests seen from to
     played s requests seen fit runs =
         let means = trace_of-means input script trace.1 in
         record {
@@ -121,7 +121,7 @@ module _ {S L W F : Type 0} (Steps : S → Request → S → Answered → Type 0
         let cut : Traced script (Err ends.Write) old new = subst (λ (r : Result Summary (WayFault F)). Traced script r old new) failed ended in
         elim cut.2 as (λ _. IsPlainlyCut Steps total next show closing lead opening begun fits l from to old new) [
           | inl part ↦ inl (script, cut.0, part.0, part.1, played cut.0 (take part.0 script.requests) part.1 cut.1 part.2, part.3)
-          | inr all ↦ inr (script, cut.0, all.0, played cut.0 script.requests all.0 cut.1 all.1, (all.2, all.3))
+          | inr all ↦ inr (script, cut.0, all.0, played cut.0 script.requests all.0 cut.1 all.1, all.2)
         ]
 
     pub plain_memory : (result : Result Summary (WayFault F)) → Traced script result old new → IsErrOf result ends.OutOfMemory → KeepsAll old new ⊎ IsPlainlyStopped Steps total next show closing lead opening begun fits l from to old new

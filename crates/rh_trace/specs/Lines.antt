@@ -84,45 +84,53 @@ abbrev pub HasOther : List Request → Type 0
 HasOther [] = ⊥
 HasOther (request ∷ others) = (is_command request ≡ false) ⊎ HasOther others
 
-module _ {S L W : Type 0} (Steps : S → Request → S → Answered → Type 0)
-    (total : S → Summary → Summary) (next : L → Seen S → L) (show : L → Seen S → W → List ℕ)
-    (closing : L → Summary → W → List ℕ) (lead : W) (opening : W → List ℕ) where
+-- what lines add up to that begin so
+abbrev pub summary_in : {S : Type 0} → (S → Summary → Summary) → S → List (Seen S) → Summary
+summary_in total s seen = total (left_by s seen) (summary_of (answers_in seen))
+
+module _ {S L W : Type 0} (next : L → Seen S → L) (show : L → Seen S → W → List ℕ)
+    (opening : W → List ℕ) where
   -- what was written after these lines, by a listener that kept this before them
   abbrev pub lines_text : L → List (Seen S) → W → List ℕ
   lines_text l seen w = opening w ++ shown next show l seen w
 
-  -- the same, and what it writes at the end
-  abbrev pub whole_text : L → List (Seen S) → Summary → W → List ℕ
-  whole_text l seen summary w =
-      lines_text l seen w ++ closing (kept_by next l seen) summary w
-
-  -- what lines add up to that begin so
-  abbrev pub summary_in : S → List (Seen S) → Summary
-  summary_in s seen = total (left_by s seen) (summary_of (answers_in seen))
-
   -- Of the text of the first lines, so many of them, a prefix was written.
-  abbrev pub IsCutIn : L → S → List Request → (W → Option (List ℕ)) → (W → Option (List ℕ)) → Type 0
-  IsCutIn l s requests old new =
+  abbrev pub IsCutIn : (S → Request → S → Answered → Type 0) → L → S → List Request
+      → (W → Option (List ℕ)) → (W → Option (List ℕ)) → Type 0
+  IsCutIn Steps l s requests old new =
       (k : ℕ) × (seen : List (Seen S)) × Runs Steps 2 s (take k requests) seen
       × ((w : W) → AppendsPrefix (old w) (new w) (lines_text l seen w))
 
-  -- Of the whole text a prefix was written, and not all for the writer that ends last, unless
-  -- nothing is written to it at the end.
-  abbrev pub IsCutAfter : L → S → List Request → (W → Option (List ℕ)) → (W → Option (List ℕ)) → Type 0
-  IsCutAfter l s requests old new =
-      (seen : List (Seen S)) × Runs Steps 2 s requests seen
-      × ((w : W) → AppendsPrefix (old w) (new w) (whole_text l seen (summary_in s seen) w))
-      × ((closing (kept_by next l seen) (summary_in s seen) lead ≡ [])
-      ⊎ AppendsLess (old lead) (new lead) (whole_text l seen (summary_in s seen) lead))
+module _ {S L W : Type 0} (next : L → Seen S → L) (show : L → Seen S → W → List ℕ)
+    (closing : L → Summary → W → List ℕ) (opening : W → List ℕ) where
+  -- the text of all lines, and what is written at the end
+  abbrev pub whole_text : L → List (Seen S) → Summary → W → List ℕ
+  whole_text l seen summary w =
+      lines_text next show opening l seen w ++ closing (kept_by next l seen) summary w
 
-  -- How lines end: with all texts written; where a write failed, or where memory was refused. That
-  -- is only where the listener needs memory, or some request of the trace is no command.
+  -- Of the whole text of these lines a prefix was written, and not all by the writer that ends last,
+  -- unless nothing is written to it at the end.
+  abbrev pub IsCutWith : W → L → List (Seen S) → Summary → (W → Option (List ℕ))
+      → (W → Option (List ℕ)) → Type 0
+  IsCutWith lead l seen summary old new =
+      ((w : W) → AppendsPrefix (old w) (new w) (whole_text l seen summary w))
+      × ((closing (kept_by next l seen) summary lead ≡ [])
+      ⊎ AppendsLess (old lead) (new lead) (whole_text l seen summary lead))
+
+module _ {S L W : Type 0} (Steps : S → Request → S → Answered → Type 0)
+    (total : S → Summary → Summary) (next : L → Seen S → L) (show : L → Seen S → W → List ℕ)
+    (closing : L → Summary → W → List ℕ) (lead : W) (opening : W → List ℕ) where
+  -- How lines end: with all texts written; where a write failed, in the lines or after them; or where
+  -- memory was refused. That is only where the listener needs memory, or some request of the trace is
+  -- no command.
   abbrev pub LinesEnd : Type 0 → L → S → List Request → Result Summary Stop
       → (W → Option (List ℕ)) → (W → Option (List ℕ)) → Type 0
   LinesEnd Needs l s requests (Ok summary) old new =
-      (seen : List (Seen S)) × Runs Steps 2 s requests seen × (summary ≡ summary_in s seen)
-      × ((w : W) → Appends (old w) (new w) (whole_text l seen summary w))
+      (seen : List (Seen S)) × Runs Steps 2 s requests seen × (summary ≡ summary_in total s seen)
+      × ((w : W) → Appends (old w) (new w) (whole_text next show closing opening l seen summary w))
   LinesEnd Needs l s requests (Err stops.Write) old new =
-      IsCutIn l s requests old new ⊎ IsCutAfter l s requests old new
+      IsCutIn next show opening Steps l s requests old new
+      ⊎ ((seen : List (Seen S)) × Runs Steps 2 s requests seen
+      × IsCutWith next show closing opening lead l seen (summary_in total s seen) old new)
   LinesEnd Needs l s requests (Err stops.OutOfMemory) old new =
-      (Needs ⊎ HasOther requests) × IsCutIn l s requests old new
+      (Needs ⊎ HasOther requests) × IsCutIn next show opening Steps l s requests old new

@@ -1,9 +1,9 @@
 -- How a trace is read, and how a run of an input ends, whatever its lines are played on and whatever
 -- is done with their answers.
-use Rattle.std.specs.Prelude.{◌≡◌, ◌⊎◌, ℕ, ◌<◌, ◌≤◌, List, [], length, take, Option, Result, Ok, Err}
+use Rattle.std.specs.Prelude.{◌≡◌, ◌⊎◌, ℕ, ◌<◌, ◌≤◌, List, length, take, Option, Result, Ok, Err}
 use Rattle.std.specs.Io.KnownBytes.{Appends, Consumes, Keeps}
 use Rattle.rh_model.specs.Plain.{empty_plain}
-use Rattle.rh_text.specs.Output.{AppendsLess, AppendsPrefix}
+use Rattle.rh_text.specs.Output.{AppendsPrefix}
 use Rattle.rh_syntax.specs.declared.line.Header.{Header}
 use Rattle.rh_syntax.specs.declared.request.Request.{Request}
 use Rattle.rh_syntax.specs.Reading.{trace_of}
@@ -18,7 +18,7 @@ use Rattle.rh_trace.specs.declared.way_fault.Unprepared.TheVariants as reasons
 use Rattle.rh_trace.specs.declared.way_fault.WayFault.{WayFault}
 use Rattle.rh_trace.specs.declared.way_fault.WayFault.TheVariants as ends
 use Rattle.rh_trace.specs.Answers.{Answered}
-use Rattle.rh_trace.specs.Lines.{LinesEnd, Runs, Seen, answers_in, kept_by, lines_text, summary_in, whole_text}
+use Rattle.rh_trace.specs.Lines.{IsCutWith, LinesEnd, Runs, Seen, answers_in, lines_text, summary_in, whole_text}
 use Rattle.rh_trace.specs.Run.{AreTransparent}
 
 -- the input is this trace, and within the limit of bytes
@@ -60,6 +60,19 @@ of_unprepared (reasons.Trace fault) = ends.Trace fault
 of_unprepared (reasons.New fault) = ends.New fault
 of_unprepared (reasons.Way fault) = ends.Way fault
 of_unprepared reasons.OutOfMemory = ends.OutOfMemory
+
+-- The bytes that a reader gave spell this trace, these requests were played on what fits it, and what
+-- they were answered is what a plain heap answers that begins empty, but for limits.
+pub record IsPlainlyPlayed {S : Type 0} (Steps : S → Request → S → Answered → Type 0)
+    (fits : Script → S → Type 0) (script : Script) (s : S) (requests : List Request)
+    (seen : List (Seen S)) (from to : Option (List ℕ)) : Type 0 where
+  pub spelled : IsScript script
+  pub read : Consumes from to (spelling script)
+  pub made : fits script s
+  pub runs : Runs Steps 2 s requests seen
+  pub answered :
+      AreTransparent (empty_plain script.header.owners script.header.slots) requests
+      (answers_in seen)
 
 module _ {S L W : Type 0} (Steps : S → Request → S → Answered → Type 0)
     (total : S → Summary → Summary) (next : L → Seen S → L) (show : L → Seen S → W → List ℕ)
@@ -104,49 +117,24 @@ module _ {S L W : Type 0} (Steps : S → Request → S → Answered → Type 0)
         × KeepsAll old new)
         ⊎ ((script : Script) × IsTrace input script × TraceEnds l script result old new)
 
-  -- Of the whole text of these lines a prefix was written, and not all by the writer that ends last,
-  -- unless nothing is written to it at the end.
-  abbrev pub IsCutWith : L → S → List (Seen S) → (W → Option (List ℕ)) → (W → Option (List ℕ))
-      → Type 0
-  IsCutWith l s seen old new =
-      let summary = summary_in Steps total next show closing lead opening s seen
-      in ((w : W) → AppendsPrefix (old w) (new w)
-      (whole_text Steps total next show closing lead opening l seen summary w))
-      × ((closing (kept_by next l seen) summary lead ≡ [])
-      ⊎ AppendsLess (old lead) (new lead)
-      (whole_text Steps total next show closing lead opening l seen summary lead))
-
-  -- The bytes that a reader gave spell this trace, these requests were played on what fits it, and
-  -- what they were answered is what a plain heap answers that begins empty, but for limits.
-  pub record IsPlainlyPlayed (script : Script) (s : S) (requests : List Request)
-      (seen : List (Seen S)) (from to : Option (List ℕ)) : Type 0 where
-    pub spelled : IsScript script
-    pub read : Consumes from to (spelling script)
-    pub made : fits script s
-    pub runs : Runs Steps 2 s requests seen
-    pub answered :
-        AreTransparent (empty_plain script.header.owners script.header.slots) requests
-        (answers_in seen)
-
   -- All lines were answered so, this is what they add up to, and all of their texts was written.
   abbrev pub IsPlainlyTold : L → Summary → Option (List ℕ) → Option (List ℕ)
       → (W → Option (List ℕ)) → (W → Option (List ℕ)) → Type 0
   IsPlainlyTold l summary from to old new =
       (script : Script) × (s : S) × (seen : List (Seen S))
-      × IsPlainlyPlayed script s script.requests seen from to
-      × (summary ≡ summary_in Steps total next show closing lead opening s seen)
+      × IsPlainlyPlayed Steps fits script s script.requests seen from to
+      × (summary ≡ summary_in total s seen)
       × ((w : W) → Appends (old w) (new w)
-      (whole_text Steps total next show closing lead opening (begun l script.header s) seen
-      summary w))
+      (whole_text next show closing opening (begun l script.header s) seen summary w))
 
   -- The first lines, so many, were answered so, and a prefix of their texts was written.
   abbrev pub IsPlainlyStopped : L → Option (List ℕ) → Option (List ℕ) → (W → Option (List ℕ))
       → (W → Option (List ℕ)) → Type 0
   IsPlainlyStopped l from to old new =
       (script : Script) × (s : S) × (k : ℕ) × (seen : List (Seen S))
-      × IsPlainlyPlayed script s (take k script.requests) seen from to
+      × IsPlainlyPlayed Steps fits script s (take k script.requests) seen from to
       × ((w : W) → AppendsPrefix (old w) (new w)
-      (lines_text Steps total next show closing lead opening (begun l script.header s) seen w))
+      (lines_text next show opening (begun l script.header s) seen w))
 
   -- It is so of the first lines; or all were answered so, and their whole text was cut.
   abbrev pub IsPlainlyCut : L → Option (List ℕ) → Option (List ℕ) → (W → Option (List ℕ))
@@ -154,5 +142,6 @@ module _ {S L W : Type 0} (Steps : S → Request → S → Answered → Type 0)
   IsPlainlyCut l from to old new =
       IsPlainlyStopped l from to old new
       ⊎ ((script : Script) × (s : S) × (seen : List (Seen S))
-      × IsPlainlyPlayed script s script.requests seen from to
-      × IsCutWith (begun l script.header s) s seen old new)
+      × IsPlainlyPlayed Steps fits script s script.requests seen from to
+      × IsCutWith next show closing opening lead (begun l script.header s) seen
+      (summary_in total s seen) old new)

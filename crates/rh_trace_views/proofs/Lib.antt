@@ -1,6 +1,5 @@
 pub mod LegalHistory
 pub mod Prefixes
-pub mod ReadRuns
 pub mod EngineRuns
 pub mod Listened
 pub mod Pieces

@@ -1,98 +1,75 @@
--- What the listeners of views keep and write of lines, by what is seen of these.
-use Rattle.std.proofs.Common.{◌≡◌, ◌⊎◌, ℕ, ◌+◌, List, [], ◌∷◌, ◌++◌, take, Option, Some, None, Result, Ok, Err, inl, inr, refl, sym, ap, subst, ◌∙◌, append_assoc, length, ◌<◌, arith}
-use Rattle.std.specs.Io.KnownBytes.{Appends, Keeps}
+-- What the listeners of views write of lines, by what is seen of these.
+use Rattle.std.proofs.Common.{◌≡◌, ℕ, ◌+◌, List, [], ◌∷◌, ◌++◌, Option, Some, Result, Ok, Err, inl, inr, refl, sym, ap, subst, ◌∙◌, length, arith}
+use Rattle.std.specs.List.{AllByRecursion}
+use Rattle.std.specs.Io.KnownBytes.{Appends}
 use Rattle.std.proofs.lemmas.List.{append-nil}
+use Rattle.std.proofs.lemmas.List.Concat.{flat_map-append}
 use Rattle.rh_text.specs.Output.{AppendsLess, AppendsPrefix}
-use Rattle.rh_text.specs.lemmas.Appends.{Appends-at}
 use Rattle.rh_cycles.specs.declared.cycle.Cycle.{Cycle}
 use Rattle.rh_cycles.specs.declared.cycle.EntryCounts.{EntryCounts}
 use Rattle.rh_cycles.specs.Cycles.{told_cycles}
-use Rattle.rh_cycles.specs.Line.{cycles_header}
+use Rattle.rh_cycles.specs.Line.{cycle_line, cycles_header}
 use Rattle.rh_syntax.specs.declared.request.Request.{Request}
-use Rattle.rh_replay.specs.declared.call.Call.{Call}
-use Rattle.rh_replay.specs.History.{HistoryState}
+use Rattle.rh_syntax.specs.Spelling.{Script}
+use Rattle.rh_replay.specs.History.{HistoryState, empty_history}
 use Rattle.rh_replay.specs.Spelling.{spelling}
 use Rattle.rh_trace.specs.declared.stop.Stop.{Stop}
 use Rattle.rh_trace.specs.declared.stop.Stop.TheVariants as stops
 use Rattle.rh_trace.specs.declared.summary.Summary.{Summary}
 use Rattle.rh_trace.specs.Answers.{Answered}
-use Rattle.rh_trace.specs.Either.{by_either}
-use Rattle.rh_trace.specs.Lines.{LinesEnd, Runs, Seen, answers_in, kept_by, left_by, shown, whole_text}
-use Rattle.rh_trace.specs.Run.{summary_of}
+use Rattle.rh_trace.specs.Lines.{IsCutIn, LinesEnd, Runs, Seen, answers_in, kept_by, shown, summary_in}
+use Rattle.rh_trace.proofs.RunsGoOn.{cut_of_all}
 use Rattle.rh_choices.specs.declared.telling.Telling.{Telling}
-use Rattle.rh_trace_views.specs.Cycles.{cycle_lines, cycles_text, entries_of}
+use Rattle.rh_trace_views.specs.Cycles.{cycle_lines, cycles_text}
 use Rattle.rh_trace_views.specs.History.{call_of, calls_of, with_calls}
-use Rattle.rh_trace_views.specs.Listening.{Keeping, ViewsWriter, history_text, noted_with, read_of, reader_after, views_closing, views_next, views_opening, views_show, written_of}
-use Rattle.rh_trace_views.specs.Run.{Written, noted_text, told_of}
+use Rattle.rh_trace_views.specs.Listening.{Keeping, ViewsWriter, begun_history, history_text, noted_with, read_of, reader_after, views_closing, views_next, views_opening, views_show, written_of}
+use Rattle.rh_trace_views.specs.Run.{IsCut, IsStopped, IsTold, Written, history_with, told_of}
 use Rattle.rh_trace_views.specs.Views.{numbered, total_text, view_text, views_text}
-use Rattle.rh_trace_views.proofs.EngineRuns.{total_filled}
 use Rattle.rh_trace_views.proofs.LegalHistory.{calls_then, no_calls_more}
-use Rattle.rh_trace_views.proofs.Prefixes.{cycle_lines-more}
-use Rattle.rh_trace_views.proofs.ReadRuns as reads
+use Rattle.rh_trace_views.proofs.Prefixes.{keeps_of, kept_prefix, less_than_all, total_filled}
 
--- a prefix of no text is none
-nothing_of : (a b : Option (List ℕ)) (prefix rest : List ℕ) → [] ≡ prefix ++ rest → Appends a b prefix → Keeps a b
-nothing_of None b prefix rest is sent = tt
-nothing_of (Some old) None prefix rest is sent = absurd sent
-nothing_of (Some old) (Some new) [] rest is sent = sent ∙ append-nil old
-nothing_of (Some old) (Some new) (x ∷ prefix) rest is sent = absurd cc
+-- ---- how lines end that may have been answered in several ways, and in which cycles ended
 
-keeps_of : (a b : Option (List ℕ)) (text : List ℕ) → text ≡ [] → AppendsPrefix a b text → Keeps a b
-keeps_of a b text none cut = nothing_of a b cut.0 cut.1 (sym none ∙ cut.2) cut.3
+module _ {G : Type 0} (answers : G → List Answered) (sum : G → Summary) (cycles : G → List Cycle) (telling : Telling) (script : Script) (w : Written) where
+  abbrev pub AreTold : Result Summary Stop → Type 0
+  AreTold (Ok summary) = (g : G) × (summary ≡ sum g) × IsTold telling script (answers g) summary (cycles g) w
+  AreTold (Err stops.Write) = (g : G) × IsCut telling script (answers g) (sum g) (cycles g) w
+  AreTold (Err stops.OutOfMemory) = (g : G) × IsStopped telling script (answers g) (cycles g) w
 
-module _ {S R : Type 0} (Steps : S → Request → S → Answered → Type 0) (read : S → R → ℕ → EntryCounts → R × Option Cycle) where
-  -- what is seen of lines whose cycles are read from this reader on, and the reader after them
-  abbrev pub ended_in : R → List (Seen S) → List reads.Seen
-  ended_in q [] = []
-  ended_in q (one ∷ seen) =
-      record { answered = one.answered; ended = (read_of read q one).1 } ∷ ended_in (read_of read q one).0 seen
+-- the same in other words
+module _ {G H : Type 0} (answers : G → List Answered) (sum : G → Summary) (cycles : G → List Cycle) (others : H → List Answered) (sums : H → Summary) (ended : H → List Cycle)
+    (same : (g : G) → (h : H) × (answers g ≡ others h) × (sum g ≡ sums h) × (cycles g ≡ ended h)) (telling : Telling) (script : Script) (w : Written) where
+  pub told_by : (result : Result Summary Stop) → AreTold answers sum cycles telling script w result → AreTold others sums ended telling script w result
+  told_by (Ok summary) (g, is, told) =
+      let words = same g in
+      let answered = subst (λ (x : List Answered). IsTold telling script x summary (cycles g) w) words.1 told in
+      (words.0, is ∙ words.2, subst (λ (x : List Cycle). IsTold telling script (others words.0) summary x w) words.3 answered)
+  told_by (Err stops.Write) (g, cut) =
+      let words = same g in
+      let answered = subst (λ (x : List Answered). IsCut telling script x (sum g) (cycles g) w) words.1 cut in
+      let summed = subst (λ (x : Summary). IsCut telling script (others words.0) x (cycles g) w) words.2 answered in
+      (words.0, subst (λ (x : List Cycle). IsCut telling script (others words.0) (sums words.0) x w) words.3 summed)
+  told_by (Err stops.OutOfMemory) (g, stopped) =
+      let words = same g in
+      let answered = subst (λ (x : List Answered). IsStopped telling script x (cycles g) w) words.1 stopped in
+      (words.0, subst (λ (x : List Cycle). IsStopped telling script (others words.0) x w) words.3 answered)
 
-  abbrev pub last_reader : R → List (Seen S) → R
-  last_reader q [] = q
-  last_reader q (one ∷ seen) = last_reader (read_of read q one).0 seen
+-- ---- what is written
 
-  answers-ended : (q : R) (seen : List (Seen S)) → answers_in seen ≡ reads.answers_in (ended_in q seen)
-  answers-ended q [] = refl
-  answers-ended q (one ∷ seen) = ap (λ (xs : List Answered). one.answered ∷ xs) (answers-ended (read_of read q one).0 seen)
+-- the lines of a trace were played
+abbrev pub Played : {S : Type 0} → (S → Request → S → Answered → Type 0) → Script → S → Type 0
+Played {S} Steps script s = (seen : List (Seen S)) × Runs Steps 2 s script.requests seen
 
-  runs-ended : (line : ℕ) (s : S) (q : R) (requests : List Request) (seen : List (Seen S)) → Runs Steps line s requests seen
-      → reads.Runs Steps read line (s, q) requests (left_by s seen, last_reader q seen) (ended_in q seen)
-  runs-ended line s q [] [] runs = refl
-  runs-ended line s q [] (one ∷ seen) runs = absurd runs
-  runs-ended line s q (r ∷ others) [] runs = absurd runs
-  runs-ended line s q (r ∷ others) (one ∷ seen) runs = (
-    (one.after, (read_of read q one).0),
-    (runs.2, ap (λ (n : ℕ). read one.after q n (entries_of one.answered)) runs.0),
-    runs-ended (line + 1) one.after (read_of read q one).0 others seen runs.3,
-  )
+module _ {S R : Type 0} (read : S → R → ℕ → EntryCounts → R × Option Cycle) where
+  -- the cycles that end at lines, which are read from this reader on
+  abbrev pub cycles_in : R → List (Seen S) → List Cycle
+  cycles_in q [] = []
+  cycles_in q (one ∷ seen) = told_cycles (read_of read q one).1 ++ cycles_in (read_of read q one).0 seen
 
   -- it is told as it was, all along
   telling-stays : (l : Keeping R) (seen : List (Seen S)) → (kept_by (views_next read) l seen).0 ≡ l.0
   telling-stays l [] = refl
   telling-stays l (one ∷ seen) = telling-stays (views_next read l one) seen
-
-  -- the history of lines
-  history-kept : (telling : Telling) (h : HistoryState) (q : Option R) (line : ℕ) (s : S) (requests : List Request) (seen : List (Seen S)) → Runs Steps line s requests seen
-      → (kept_by (views_next read) (telling, (Some h, q)) seen).1.0 ≡ Some (with_calls h (calls_of (numbered line requests (answers_in seen))))
-  history-kept telling h q line s [] [] runs = ap Some (no_calls_more h)
-  history-kept telling h q line s [] (one ∷ seen) runs = absurd runs
-  history-kept telling h q line s (r ∷ others) [] runs = absurd runs
-  history-kept telling h q line s (r ∷ others) (one ∷ seen) runs =
-      let later = calls_of (numbered (line + 1) others (answers_in seen)) in
-      history-kept telling (with_calls h (call_of one.request one.answered)) (reader_after read q one) (line + 1) one.after others seen runs.3
-      ∙ ap Some (calls_then h (call_of one.request one.answered) later ∙ ap (λ (x : Request). with_calls h (call_of x one.answered ++ later)) runs.1)
-
-  -- what is told of lines
-  told-shown : (l : Keeping R) (line : ℕ) (s : S) (requests : List Request) (seen : List (Seen S)) → Runs Steps line s requests seen
-      → shown (views_next read) (views_show read) l seen (inl tt) ≡ views_text l.0 (numbered line requests (answers_in seen))
-  told-shown l line s [] [] runs = refl
-  told-shown l line s [] (one ∷ seen) runs = absurd runs
-  told-shown l line s (r ∷ others) [] runs = absurd runs
-  told-shown l line s (r ∷ others) (one ∷ seen) runs =
-      let later = shown (views_next read) (views_show read) (views_next read l one) seen (inl tt) in
-      let view = λ (n : ℕ) (x : Request). view_text l.0 (record { line = n; request = x; answered = one.answered }) in
-      ap (λ (n : ℕ). view n one.request ++ later) runs.0 ∙ ap (λ (x : Request). view line x ++ later) runs.1
-      ∙ ap (λ (t : List ℕ). view line r ++ t) (told-shown (views_next read l one) (line + 1) one.after others seen runs.3)
 
   -- nothing of the history is written before the end
   nothing-shown : (l : Keeping R) (seen : List (Seen S)) → shown (views_next read) (views_show read) l seen (inr (inl tt)) ≡ []
@@ -100,106 +77,117 @@ module _ {S R : Type 0} (Steps : S → Request → S → Answered → Type 0) (r
   nothing-shown l (one ∷ seen) = nothing-shown (views_next read l one) seen
 
   -- the lines of cycles
-  cycles-shown : (telling : Telling) (h : Option HistoryState) (q : R) (seen : List (Seen S)) → shown (views_next read) (views_show read) (telling, (h, Some q)) seen (inr (inr tt)) ≡ cycle_lines (reads.cycles_in (ended_in q seen))
+  cycles-shown : (telling : Telling) (h : Option HistoryState) (q : R) (seen : List (Seen S)) → shown (views_next read) (views_show read) (telling, (h, Some q)) seen (inr (inr tt)) ≡ cycle_lines (cycles_in q seen)
   cycles-shown telling h q [] = refl
   cycles-shown telling h q (one ∷ seen) =
+      let reader = (read_of read q one).0 in
       let ended = told_cycles (read_of read q one).1 in
-      ap (λ (t : List ℕ). cycle_lines ended ++ t) (cycles-shown telling (noted_with h one.request one.answered) (read_of read q one).0 seen)
-      ∙ cycle_lines-more ended (reads.cycles_in (ended_in (read_of read q one).0 seen))
+      ap (λ (t : List ℕ). cycle_lines ended ++ t) (cycles-shown telling (noted_with h one.request one.answered) reader seen) ∙ sym (flat_map-append cycle_line ended (cycles_in reader seen))
 
-  module _ (total : S → Summary → Summary) (Needs : Type 0) (telling : Telling) (h : HistoryState) (s : S) (q : R) where
-    abbrev begun : Keeping R
-    begun = (telling, (Some h, Some q))
+  module _ (Steps : S → Request → S → Answered → Type 0) where
+    -- what is told of lines
+    told-shown : (l : Keeping R) (line : ℕ) (s : S) (requests : List Request) (seen : List (Seen S)) → Runs Steps line s requests seen
+        → shown (views_next read) (views_show read) l seen (inl tt) ≡ views_text l.0 (numbered line requests (answers_in seen))
+    told-shown l line s [] [] runs = refl
+    told-shown l line s [] (one ∷ seen) runs = absurd runs
+    told-shown l line s (r ∷ others) [] runs = absurd runs
+    told-shown l line s (r ∷ others) (one ∷ seen) runs =
+        let later = shown (views_next read) (views_show read) (views_next read l one) seen (inl tt) in
+        let view = λ (n : ℕ) (x : Request). view_text l.0 (record { line = n; request = x; answered = one.answered }) in
+        ap (λ (n : ℕ). view n one.request ++ later) runs.0 ∙ ap (λ (x : Request). view line x ++ later) runs.1
+        ∙ ap (λ (t : List ℕ). view line r ++ t) (told-shown (views_next read l one) (line + 1) one.after others seen runs.3)
 
-    -- what they add up to
-    summary-ended : (seen : List (Seen S)) → total (left_by s seen) (summary_of (answers_in seen)) ≡ total (left_by s seen) (summary_of (reads.answers_in (ended_in q seen)))
-    summary-ended seen = ap (λ (xs : List Answered). total (left_by s seen) (summary_of xs)) (answers-ended q seen)
+    -- the history of lines
+    history-kept : (telling : Telling) (h : HistoryState) (q : Option R) (line : ℕ) (s : S) (requests : List Request) (seen : List (Seen S)) → Runs Steps line s requests seen
+        → (kept_by (views_next read) (telling, (Some h, q)) seen).1.0 ≡ Some (with_calls h (calls_of (numbered line requests (answers_in seen))))
+    history-kept telling h q line s [] [] runs = ap Some (no_calls_more h)
+    history-kept telling h q line s [] (one ∷ seen) runs = absurd runs
+    history-kept telling h q line s (r ∷ others) [] runs = absurd runs
+    history-kept telling h q line s (r ∷ others) (one ∷ seen) runs =
+        let later = calls_of (numbered (line + 1) others (answers_in seen)) in
+        history-kept telling (with_calls h (call_of one.request one.answered)) (reader_after read q one) (line + 1) one.after others seen runs.3
+        ∙ ap Some (calls_then h (call_of one.request one.answered) later ∙ ap (λ (x : Request). with_calls h (call_of x one.answered ++ later)) runs.1)
 
-    -- the texts of some lines
-    module _ (requests : List Request) (seen : List (Seen S)) (runs : Runs Steps 2 s requests seen) where
-      told-is : shown (views_next read) (views_show read) begun seen (inl tt) ≡ views_text telling (numbered 2 requests (reads.answers_in (ended_in q seen)))
-      told-is = told-shown begun 2 s requests seen runs ∙ ap (λ (xs : List Answered). views_text telling (numbered 2 requests xs)) (answers-ended q seen)
+    module _ (telling : Telling) (script : Script) (s : S) (q : R) where
+      -- what is kept before the first line
+      abbrev pub begun : Keeping R
+      begun = (telling, (begun_history script.header, Some q))
 
-      cycles-are : cycles_header ++ shown (views_next read) (views_show read) begun seen (inr (inr tt)) ≡ cycles_text (reads.cycles_in (ended_in q seen))
-      cycles-are = ap (λ (t : List ℕ). cycles_header ++ t) (cycles-shown telling (Some h) q seen)
+      -- the texts of all lines, with what is written at the end
+      module _ (seen : List (Seen S)) (runs : Runs Steps 2 s script.requests seen) where
+        pub whole-told : (summary : Summary) → shown (views_next read) (views_show read) begun seen (inl tt) ++ total_text (kept_by (views_next read) begun seen).0 summary ≡ told_of telling script.requests (answers_in seen) summary
+        whole-told summary =
+            ap (λ (t : List ℕ). t ++ total_text (kept_by (views_next read) begun seen).0 summary) (told-shown begun 2 s script.requests seen runs)
+            ∙ ap (λ (x : Telling). views_text telling (numbered 2 script.requests (answers_in seen)) ++ total_text x summary) (telling-stays begun seen)
 
-      -- with what is written at the end
-      pub whole-told : (summary : Summary) → shown (views_next read) (views_show read) begun seen (inl tt) ++ total_text (kept_by (views_next read) begun seen).0 summary ≡ told_of telling requests (answers_in seen) summary
-      whole-told summary =
-          ap (λ (t : List ℕ). t ++ total_text (kept_by (views_next read) begun seen).0 summary) (told-shown begun 2 s requests seen runs)
-          ∙ ap (λ (x : Telling). views_text telling (numbered 2 requests (answers_in seen)) ++ total_text x summary) (telling-stays begun seen)
+        pub whole-noted : shown (views_next read) (views_show read) begun seen (inr (inl tt)) ++ history_text (kept_by (views_next read) begun seen).1.0 ≡ spelling (history_with script (answers_in seen))
+        whole-noted =
+            ap (λ (t : List ℕ). t ++ history_text (kept_by (views_next read) begun seen).1.0) (nothing-shown begun seen)
+            ∙ ap history_text (history-kept telling (empty_history script.header.owners script.header.slots) (Some q) 2 s script.requests seen runs)
 
-      pub whole-noted : shown (views_next read) (views_show read) begun seen (inr (inl tt)) ++ history_text (kept_by (views_next read) begun seen).1.0 ≡ noted_text h requests (answers_in seen)
-      whole-noted =
-          ap (λ (t : List ℕ). t ++ history_text (kept_by (views_next read) begun seen).1.0) (nothing-shown begun seen)
-          ∙ ap history_text (history-kept telling h (Some q) 2 s requests seen runs)
+        cycles-are : cycles_header ++ shown (views_next read) (views_show read) begun seen (inr (inr tt)) ≡ cycles_text (cycles_in q seen)
+        cycles-are = ap (λ (t : List ℕ). cycles_header ++ t) (cycles-shown telling (begun_history script.header) q seen)
 
-      whole-cycles : (cycles_header ++ shown (views_next read) (views_show read) begun seen (inr (inr tt))) ++ [] ≡ cycles_text (reads.cycles_in (ended_in q seen))
-      whole-cycles = append-nil (cycles_header ++ shown (views_next read) (views_show read) begun seen (inr (inr tt))) ∙ cycles-are
+        whole-cycles : (cycles_header ++ shown (views_next read) (views_show read) begun seen (inr (inr tt))) ++ [] ≡ cycles_text (cycles_in q seen)
+        whole-cycles = append-nil (cycles_header ++ shown (views_next read) (views_show read) begun seen (inr (inr tt))) ∙ cycles-are
 
-      -- as of what is seen by a reader
-      told-ended : (summary : Summary) → shown (views_next read) (views_show read) begun seen (inl tt) ++ total_text (kept_by (views_next read) begun seen).0 summary ≡ told_of telling requests (reads.answers_in (ended_in q seen)) summary
-      told-ended summary = whole-told summary ∙ ap (λ (xs : List Answered). told_of telling requests xs summary) (answers-ended q seen)
+      -- how the lines end
+      module _ (total : S → Summary → Summary) (old new : ViewsWriter → Option (List ℕ)) (Plays : Request → Type 0)
+          (plays : (s : S) (request : Request) → Plays request → (t : S) × (answered : Answered) × Steps s request t answered) (all : AllByRecursion Plays script.requests) where
+        stopped : IsCutIn (views_next read) (views_show read) views_opening Steps begun s script.requests old new
+            → (played : Played Steps script s) × IsStopped telling script (answers_in played.0) (cycles_in q played.0) (written_of old new)
+        stopped cut =
+            let some = cut_of_all Steps Plays plays (views_next read) (views_show read) views_opening begun s script.requests old new all cut in
+            let seen = some.0 in (
+              (seen, some.1),
+              (
+                subst (AppendsPrefix (old (inl tt)) (new (inl tt))) (told-shown begun 2 s script.requests seen some.1) (some.2 (inl tt)),
+                keeps_of (old (inr (inl tt))) (new (inr (inl tt))) (shown (views_next read) (views_show read) begun seen (inr (inl tt))) (nothing-shown begun seen) (some.2 (inr (inl tt))),
+                subst (AppendsPrefix (old (inr (inr tt))) (new (inr (inr tt)))) (cycles-are seen some.1) (some.2 (inr (inr tt))),
+              ),
+            )
 
-      noted-ended : shown (views_next read) (views_show read) begun seen (inr (inl tt)) ++ history_text (kept_by (views_next read) begun seen).1.0 ≡ noted_text h requests (reads.answers_in (ended_in q seen))
-      noted-ended = whole-noted ∙ ap (noted_text h requests) (answers-ended q seen)
+        -- nor was the whole text written, then
+        cut_early : (played : Played Steps script s) → IsStopped telling script (answers_in played.0) (cycles_in q played.0) (written_of old new) → IsCut telling script (answers_in played.0) (summary_in total s played.0) (cycles_in q played.0) (written_of old new)
+        cut_early played early = (
+          less_than_all telling (summary_in total s played.0) (views_text telling (numbered 2 script.requests (answers_in played.0))) (old (inl tt)) (new (inl tt)) early.0,
+          kept_prefix (old (inr (inl tt))) (new (inr (inl tt))) (spelling (history_with script (answers_in played.0))) early.1,
+          early.2,
+        )
 
-    abbrev Ends : List Request → Result Summary Stop → (ViewsWriter → Option (List ℕ)) → (ViewsWriter → Option (List ℕ)) → Type 0
-    Ends requests result old new = reads.LinesEnd Steps read total telling h (s, q) requests result (written_of old new)
+        -- there is a text at the end
+        not_empty : (t : Telling) (summary : Summary) → total_text t summary ≡ [] → ⊥
+        not_empty t summary none = omega (arith, total_filled t summary, ap length none)
 
-    module _ (requests : List Request) (old new : ViewsWriter → Option (List ℕ)) where
-      -- a prefix of the texts of the first lines was written
-      cut_in : (k : ℕ) (seen : List (Seen S)) → Runs Steps 2 s (take k requests) seen
-          → ((w : ViewsWriter) → AppendsPrefix (old w) (new w) (views_opening w ++ shown (views_next read) (views_show read) begun seen w))
-          → reads.IsStoppedIn Steps read telling (s, q) requests (old (inl tt)) (new (inl tt)) (old (inr (inr tt))) (new (inr (inr tt))) × Keeps (old (inr (inl tt))) (new (inr (inl tt)))
-      cut_in k seen runs texts = (
-        (
-          k,
-          (left_by s seen, last_reader q seen),
-          ended_in q seen,
-          runs-ended 2 s q (take k requests) seen runs,
-          subst (AppendsPrefix (old (inl tt)) (new (inl tt))) (told-is (take k requests) seen runs) (texts (inl tt)),
-          subst (AppendsPrefix (old (inr (inr tt))) (new (inr (inr tt)))) (cycles-are (take k requests) seen runs) (texts (inr (inr tt))),
-        ),
-        keeps_of (old (inr (inl tt))) (new (inr (inl tt))) (shown (views_next read) (views_show read) begun seen (inr (inl tt))) (nothing-shown begun seen) (texts (inr (inl tt))),
-      )
-
-      -- there is a text at the end
-      not_empty : (t : Telling) (summary : Summary) → total_text t summary ≡ [] → ⊥
-      not_empty t summary none = omega (arith, total_filled t summary, ap length none)
-
-      pub lines_ended : (result : Result Summary Stop) → LinesEnd Steps total (views_next read) (views_show read) views_closing (inl tt) views_opening Needs begun s requests result old new → Ends requests result old new
-      lines_ended (Ok summary) ends =
-          let seen = ends.0 in
-          let runs = ends.1 in
-          let texts = ends.3 in (
-            (left_by s seen, last_reader q seen),
-            ended_in q seen,
-            runs-ended 2 s q requests seen runs,
-            ends.2 ∙ summary-ended seen,
-            subst (Appends (old (inl tt)) (new (inl tt))) (told-ended requests seen runs summary) (texts (inl tt)),
-            subst (Appends (old (inr (inl tt))) (new (inr (inl tt)))) (noted-ended requests seen runs) (texts (inr (inl tt))),
-            subst (Appends (old (inr (inr tt))) (new (inr (inr tt)))) (whole-cycles requests seen runs) (texts (inr (inr tt))),
-          )
-      lines_ended (Err stops.Write) (inl cut) = ((s, q), inl (cut_in cut.0 cut.1 cut.2 cut.3))
-      lines_ended (Err stops.Write) (inr cut) =
-          let seen = cut.0 in
-          let runs = cut.1 in
-          let texts = cut.2 in
-          let summary = total (left_by s seen) (summary_of (answers_in seen)) in
-          let less : AppendsLess (old (inl tt)) (new (inl tt)) (shown (views_next read) (views_show read) begun seen (inl tt) ++ total_text (kept_by (views_next read) begun seen).0 summary) =
-          elim cut.3 [
-            | inl none ↦ absurd (not_empty (kept_by (views_next read) begun seen).0 summary none)
-            | inr less ↦ less
-          ]
-          in (
-            (left_by s seen, last_reader q seen),
-            inr (
-              ended_in q seen,
-              runs-ended 2 s q requests seen runs,
-              subst (AppendsLess (old (inl tt)) (new (inl tt))) (told-ended requests seen runs summary ∙ ap (told_of telling requests (reads.answers_in (ended_in q seen))) (summary-ended seen)) less,
-              subst (AppendsPrefix (old (inr (inl tt))) (new (inr (inl tt)))) (noted-ended requests seen runs) (texts (inr (inl tt))),
-              subst (AppendsPrefix (old (inr (inr tt))) (new (inr (inr tt)))) (whole-cycles requests seen runs) (texts (inr (inr tt))),
-            ),
-          )
-      lines_ended (Err stops.OutOfMemory) ends = cut_in ends.1.0 ends.1.1 ends.1.2 ends.1.3
+        pub lines_told : (Needs : Type 0) (result : Result Summary Stop) → LinesEnd Steps total (views_next read) (views_show read) views_closing (inl tt) views_opening Needs begun s script.requests result old new
+            → AreTold {G = Played Steps script s} (λ played. answers_in played.0) (λ played. summary_in total s played.0) (λ played. cycles_in q played.0) telling script (written_of old new) result
+        lines_told Needs (Ok summary) (seen, runs, is, texts) = (
+          (seen, runs),
+          is,
+          (
+            subst (Appends (old (inl tt)) (new (inl tt))) (whole-told seen runs summary) (texts (inl tt)),
+            subst (Appends (old (inr (inl tt))) (new (inr (inl tt)))) (whole-noted seen runs) (texts (inr (inl tt))),
+            subst (Appends (old (inr (inr tt))) (new (inr (inr tt)))) (whole-cycles seen runs) (texts (inr (inr tt))),
+          ),
+        )
+        lines_told Needs (Err stops.Write) (inl cut) =
+            let early = stopped cut in (early.0, cut_early early.0 early.1)
+        lines_told Needs (Err stops.Write) (inr cut) =
+            let seen = cut.0 in
+            let runs = cut.1 in
+            let texts = cut.2.0 in
+            let summary = summary_in total s seen in
+            let less : AppendsLess (old (inl tt)) (new (inl tt)) (shown (views_next read) (views_show read) begun seen (inl tt) ++ total_text (kept_by (views_next read) begun seen).0 summary) =
+            elim cut.2.1 [
+              | inl none ↦ absurd (not_empty (kept_by (views_next read) begun seen).0 summary none)
+              | inr less ↦ less
+            ]
+            in (
+              (seen, runs),
+              (
+                subst (AppendsLess (old (inl tt)) (new (inl tt))) (whole-told seen runs summary) less,
+                subst (AppendsPrefix (old (inr (inl tt))) (new (inr (inl tt)))) (whole-noted seen runs) (texts (inr (inl tt))),
+                subst (AppendsPrefix (old (inr (inr tt))) (new (inr (inr tt)))) (whole-cycles seen runs) (texts (inr (inr tt))),
+              ),
+            )
+        lines_told Needs (Err stops.OutOfMemory) ends = stopped ends.1

@@ -1,9 +1,8 @@
 -- What a viewed run tells and notes are the answers of a plain heap.
-use Rattle.std.proofs.Common.{◌≡◌, ℕ, List, Option, inl, inr, subst}
+use Rattle.std.proofs.Common.{ℕ, List, Option, inl, inr, subst}
 use Rattle.std.specs.Io.KnownBytes.{Appends}
 use Rattle.rh_model.specs.Plain.{empty_plain}
 use Rattle.rh_syntax.specs.declared.request.Request.{Request}
-use Rattle.rh_replay.specs.History.{empty_history}
 use Rattle.rh_replay.specs.Legal.{IsLegal}
 use Rattle.rh_trace.specs.declared.summary.Summary.{Summary}
 use Rattle.rh_trace.specs.Answers.{Answered}
@@ -29,13 +28,12 @@ plainly_viewed legal telling summary from to old new told =
     let seen = told.2 in
     let played = told.3 in
     let texts = told.5 in
-    let h = empty_history script.header.owners script.header.slots in
     let q = engine_first s in (
       script,
       answers_in seen,
       record { fits = played.spelled; read = played.read; answered = played.answered },
       told.4,
-      subst (Appends (old (inl tt)) (new (inl tt))) (whole-told EngineSteps engine_read (λ e counted. counted) (Unit {0}) telling h s q script.requests seen played.runs summary) (texts (inl tt)),
-      subst (Appends (old (inr (inl tt))) (new (inr (inl tt)))) (whole-noted EngineSteps engine_read (λ e counted. counted) (Unit {0}) telling h s q script.requests seen played.runs) (texts (inr (inl tt))),
+      subst (Appends (old (inl tt)) (new (inl tt))) (whole-told engine_read EngineSteps telling script s q seen played.runs summary) (texts (inl tt)),
+      subst (Appends (old (inr (inl tt))) (new (inr (inl tt)))) (whole-noted engine_read EngineSteps telling script s q seen played.runs) (texts (inr (inl tt))),
       legal script.header.owners script.header.slots script.requests (answers_in seen) played.answered,
     )

@@ -1,28 +1,40 @@
--- Prefixes of texts, and the texts of cycles.
-use Rattle.std.proofs.Common.{◌≡◌, ℕ, List, [], ◌++◌, Option, refl, sym, ap, ◌∙◌, append_assoc}
+-- Prefixes of what is told of lines.
+use Rattle.std.proofs.Common.{◌≡◌, ℕ, ◌<◌, List, [], ◌∷◌, ◌++◌, length, Option, Some, None, refl, sym, ap, ◌∙◌, append_assoc, arith}
 use Rattle.std.specs.Io.KnownBytes.{Appends, Keeps}
-use Rattle.std.proofs.lemmas.List.{append-nil}
-use Rattle.std.proofs.lemmas.List.Concat.{flat_map-append}
-use Rattle.rh_text.specs.Output.{AppendsPrefix}
-use Rattle.rh_cycles.specs.declared.cycle.Cycle.{Cycle}
-use Rattle.rh_cycles.specs.Line.{cycle_line, cycles_header}
-use Rattle.rh_trace_views.specs.Cycles.{cycle_lines, cycles_text}
+use Rattle.std.proofs.lemmas.List.{append-nil, length-append}
+use Rattle.rh_text.specs.Output.{AppendsLess, AppendsPrefix}
+use Rattle.rh_trace.specs.declared.summary.Summary.{Summary}
+use Rattle.rh_choices.specs.declared.telling.Telling.{Telling}
+use Rattle.rh_choices.specs.declared.telling.Telling.TheVariants as tellings
+use Rattle.rh_trace_views.specs.Views.{total_text}
 
--- the lines of some cycles and of others
-pub cycle_lines-more : (some others : List Cycle) → cycle_lines some ++ cycle_lines others ≡ cycle_lines (some ++ others)
-cycle_lines-more some others = sym (flat_map-append cycle_line some others)
+-- a prefix of no text is none
+nothing_of : (a b : Option (List ℕ)) (prefix rest : List ℕ) → [] ≡ prefix ++ rest → Appends a b prefix → Keeps a b
+nothing_of None b prefix rest is sent = tt
+nothing_of (Some old) None prefix rest is sent = absurd sent
+nothing_of (Some old) (Some new) [] rest is sent = sent ∙ append-nil old
+nothing_of (Some old) (Some new) (x ∷ prefix) rest is sent = absurd cc
 
-cycles_text-more : (some others : List Cycle) → cycles_text some ++ cycle_lines others ≡ cycles_text (some ++ others)
-cycles_text-more some others = append_assoc cycles_header (cycle_lines some) (cycle_lines others) ∙ ap (λ (t : List ℕ). cycles_header ++ t) (sym (flat_map-append cycle_line some others))
+pub keeps_of : (a b : Option (List ℕ)) (text : List ℕ) → text ≡ [] → AppendsPrefix a b text → Keeps a b
+keeps_of a b text none cut = nothing_of a b cut.0 cut.1 (sym none ∙ cut.2) cut.3
 
--- a prefix of a text is one of each text that it comes first of
-pub prefix_more : (a b : Option (List ℕ)) (text rest all : List ℕ) → text ++ rest ≡ all → AppendsPrefix a b text → AppendsPrefix a b all
-prefix_more a b text rest all is cut = (cut.0, cut.1 ++ rest, sym is ∙ ap (λ (t : List ℕ). t ++ rest) cut.2 ∙ append_assoc cut.0 cut.1 rest, cut.3)
+-- what is kept grows by a prefix of any text
+kept_appends : (a b : Option (List ℕ)) → Keeps a b → Appends a b []
+kept_appends None b kept = tt
+kept_appends (Some old) None kept = absurd kept
+kept_appends (Some old) (Some new) kept = kept ∙ sym (append-nil old)
 
--- and so is the whole text
-pub whole_prefix : (a b : Option (List ℕ)) (text : List ℕ) → Appends a b text → AppendsPrefix a b text
-whole_prefix a b text whole = (text, [], sym (append-nil text), whole)
+pub kept_prefix : (a b : Option (List ℕ)) (text : List ℕ) → Keeps a b → AppendsPrefix a b text
+kept_prefix a b text kept = ([], text, refl, kept_appends a b kept)
 
--- a prefix of the text of some cycles is one of the text of these and others
-pub prefix_of_cycles : (a b : Option (List ℕ)) (some others all : List Cycle) → some ++ others ≡ all → AppendsPrefix a b (cycles_text some) → AppendsPrefix a b (cycles_text all)
-prefix_of_cycles a b some others all is = prefix_more a b (cycles_text some) (cycle_lines others) (cycles_text all) (cycles_text-more some others ∙ ap cycles_text is)
+-- the text at the end has a byte
+pub total_filled : (telling : Telling) (summary : Summary) → 0 < length (total_text telling summary)
+total_filled tellings.Answers summary = omega arith
+total_filled tellings.Echo summary = omega arith
+total_filled tellings.Json summary = omega arith
+
+-- so where it wasn't written, not all was
+pub less_than_all : (telling : Telling) (summary : Summary) (text : List ℕ) (a b : Option (List ℕ)) → AppendsPrefix a b text → AppendsLess a b (text ++ total_text telling summary)
+less_than_all telling summary text a b cut =
+    let end = total_text telling summary in
+    (cut.0, cut.1 ++ end, ap (λ (t : List ℕ). t ++ end) cut.2 ∙ append_assoc cut.0 cut.1 end, omega (arith, length-append cut.1 end, total_filled telling summary), cut.3)

@@ -12,6 +12,7 @@ use Rattle.rh_syntax.specs.declared.request.Request.{Request}
 use Rattle.rh_syntax.specs.Spelling.{Script}
 use Rattle.rh_replay.specs.History.{HistoryState, RecorderState, empty_history}
 use Rattle.rh_replay.specs.Spelling.{spelling}
+use Rattle.rh_trace.specs.declared.both.Pair.{Pair}
 use Rattle.rh_trace.specs.declared.summary.Summary.{Summary}
 use Rattle.rh_trace.specs.declared.way_fault.Unprepared.{Unprepared}
 use Rattle.rh_trace.specs.declared.way_fault.WayFault.{WayFault}
@@ -81,7 +82,14 @@ module _ {S R : Type 0} (read : S → R → ℕ → EntryCounts → R × Option 
 abbrev pub ViewsWriter : Type 0
 ViewsWriter = Unit {0} ⊎ (Unit {0} ⊎ Unit {0})
 
--- what is known of the bytes that they took, before and now
+-- what is known of the bytes that they took
+abbrev pub views_contents : {O H C : Type 0} → (O → Option (List ℕ)) → (H → Option (List ℕ))
+    → (C → Option (List ℕ)) → Pair O (Pair H C) → ViewsWriter → Option (List ℕ)
+views_contents told noted cycles out =
+    by_either (λ w. told out.first)
+    (by_either (λ w. noted out.second.first) (λ w. cycles out.second.second))
+
+-- before and now
 abbrev pub written_of : (ViewsWriter → Option (List ℕ)) → (ViewsWriter → Option (List ℕ)) → Written
 written_of old new = record {
   old = old (inl tt);

@@ -6,7 +6,6 @@ use Rattle.rh_core.specs.Stat.{stat_of}
 use Rattle.rh_cycles.specs.declared.cycle.Cycle.{Cycle}
 use Rattle.rh_cycles.specs.Cycles.{cycles_of, new_reader}
 use Rattle.rh_text.specs.Output.{AppendsLess, AppendsPrefix}
-use Rattle.rh_engine.specs.Engine.{EngineState}
 use Rattle.rh_syntax.specs.declared.request.Request.{Request}
 use Rattle.rh_syntax.specs.Reading.{trace_of}
 use Rattle.rh_syntax.specs.Spelling.{Script}
@@ -14,39 +13,27 @@ use Rattle.rh_replay.specs.History.{HistoryState}
 use Rattle.rh_replay.specs.Legal.{IsLegal}
 use Rattle.rh_replay.specs.Spelling.{spelling}
 use Rattle.rh_trace.specs.declared.summary.Summary.{Summary}
+pub use Rattle.rh_trace.specs.Ways.{IsTrace}
 use Rattle.rh_trace.specs.Answers.{Answered}
-use Rattle.rh_trace.specs.Run.{IsPlainRun, answers_of, answers_to, config_of, new_run, summary_of}
+use Rattle.rh_trace.specs.Run.{IsPlainRun, answers_of, config_of, new_run, summary_of}
 use Rattle.rh_trace.specs.declared.run_fault.RunFault.{RunFault}
 use Rattle.rh_trace.specs.declared.run_fault.RunFault.TheVariants as faults
 use Rattle.rh_choices.specs.declared.telling.Telling.{Telling}
 use Rattle.rh_trace_views.specs.Cycles.{cycles_text, readings_to}
-use Rattle.rh_trace_views.specs.History.{calls_of, history_of, with_calls}
-use Rattle.rh_trace_views.specs.Views.{Viewed, numbered, total_text, views_text}
+use Rattle.rh_trace_views.specs.History.{history_of}
+use Rattle.rh_trace_views.specs.Views.{numbered, total_text, views_text}
 
 -- what is told of requests that were answered so, and of what they add up to
 abbrev pub told_of : Telling → List Request → List Answered → Summary → List ℕ
 told_of telling requests answers summary =
     views_text telling (numbered 2 requests answers) ++ total_text telling summary
 
--- the text of a history with their calls after its own
-abbrev pub noted_text : HistoryState → List Request → List Answered → List ℕ
-noted_text h requests answers =
-    spelling (with_calls h (calls_of (numbered 2 requests answers)))
-
 -- the history of a trace that was answered so
 abbrev pub history_with : Script → List Answered → HistoryState
 history_with script answers =
     history_of script.header.owners script.header.slots (numbered 2 script.requests answers)
 
--- the lines of requests that an engine answers, the first of which has number 2
-abbrev pub lines_to : EngineState → List Request → List Viewed
-lines_to e requests = numbered 2 requests (answers_to e requests)
-
--- the lines of a run
-abbrev pub viewed_of : Script → List Viewed
-viewed_of script = lines_to (new_run script) script.requests
-
--- the history of its commands
+-- the history of the commands of a run
 abbrev pub run_history : Script → HistoryState
 run_history script = history_with script (answers_of script)
 
@@ -61,11 +48,7 @@ run_cycles script =
     cycles_of (new_reader (stat_of (new_run script).heap))
     (readings_to 2 (new_run script) script.requests)
 
--- the input is this trace, and within the limit of bytes
-abbrev pub IsTrace : List ℕ → Script → Type 0
-IsTrace input script = (length input ≤ 16777216) × (trace_of input ≡ Ok script)
-
--- and the sizes of its heap have no fault
+-- the input is this trace, and the sizes of its heap have no fault
 abbrev pub IsRun : List ℕ → Script → Type 0
 IsRun input script = IsTrace input script × (fault_of (config_of script.header) ≡ None)
 
@@ -83,6 +66,27 @@ abbrev pub KeepsAll : Written → Type 0
 KeepsAll w =
     Keeps w.old w.new × Keeps w.history_old w.history_new × Keeps w.cycles_old w.cycles_new
 
+-- All texts of a run that was answered so, and in which these cycles ended, were written; or a
+-- prefix of each, and not all of the first; or a prefix of what is told of the lines and of their
+-- cycles, and nothing of the history.
+abbrev pub IsTold : Telling → Script → List Answered → Summary → List Cycle → Written → Type 0
+IsTold telling script answered summary cycles w =
+    Appends w.old w.new (told_of telling script.requests answered summary)
+    × Appends w.history_old w.history_new (spelling (history_with script answered))
+    × Appends w.cycles_old w.cycles_new (cycles_text cycles)
+
+abbrev pub IsCut : Telling → Script → List Answered → Summary → List Cycle → Written → Type 0
+IsCut telling script answered summary cycles w =
+    AppendsLess w.old w.new (told_of telling script.requests answered summary)
+    × AppendsPrefix w.history_old w.history_new (spelling (history_with script answered))
+    × AppendsPrefix w.cycles_old w.cycles_new (cycles_text cycles)
+
+abbrev pub IsStopped : Telling → Script → List Answered → List Cycle → Written → Type 0
+IsStopped telling script answered cycles w =
+    AppendsPrefix w.old w.new (views_text telling (numbered 2 script.requests answered))
+    × Keeps w.history_old w.history_new
+    × AppendsPrefix w.cycles_old w.cycles_new (cycles_text cycles)
+
 -- How a viewed run of an input ends: with all texts written; with the first fault of the input and
 -- nothing written; where a write failed with a prefix of each, and not all of the first; where
 -- memory was refused with a prefix of what is told of the lines and of their cycles, or, if it was
@@ -90,18 +94,14 @@ KeepsAll w =
 abbrev pub Ends : Telling → List ℕ → Result Summary RunFault → Written → Type 0
 Ends telling input (Ok summary) w =
     (script : Script) × IsRun input script × (summary ≡ summary_of (answers_of script))
-    × Appends w.old w.new (view_of_run telling script)
-    × Appends w.history_old w.history_new (spelling (run_history script))
-    × Appends w.cycles_old w.cycles_new (cycles_text (run_cycles script))
+    × IsTold telling script (answers_of script) summary (run_cycles script) w
 Ends telling input (Err faults.Write) w =
-    (script : Script) × IsRun input script × AppendsLess w.old w.new (view_of_run telling script)
-    × AppendsPrefix w.history_old w.history_new (spelling (run_history script))
-    × AppendsPrefix w.cycles_old w.cycles_new (cycles_text (run_cycles script))
+    (script : Script) × IsRun input script
+    × IsCut telling script (answers_of script) (summary_of (answers_of script))
+    (run_cycles script) w
 Ends telling input (Err faults.OutOfMemory) w =
     KeepsAll w ⊎ ((script : Script) × IsRun input script
-    × AppendsPrefix w.old w.new (views_text telling (viewed_of script))
-    × Keeps w.history_old w.history_new
-    × AppendsPrefix w.cycles_old w.cycles_new (cycles_text (run_cycles script)))
+    × IsStopped telling script (answers_of script) (run_cycles script) w)
 Ends telling input (Err faults.Long) w = (16777216 < length input) × KeepsAll w
 Ends telling input (Err (faults.Trace fault)) w =
     (length input ≤ 16777216) × (trace_of input ≡ Err fault) × KeepsAll w

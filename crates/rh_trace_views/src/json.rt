@@ -1,4 +1,4 @@
-//! The JSON of a `stat`, of trays and of the last line; `told.rt` writes the rest.
+//! The JSON of a `stat`, of trays and of the last line; `viewing.rt` makes that of a line.
 
 ghost use Rattle.std.specs.Prelude.{◌≡◌, ◌++◌, IfOk, OnOk};
 ghost use Rattle.std.specs.List.{flat_map};

@@ -1,10 +1,9 @@
 -- What a call leaves in the caller's buffer, counts, and answers.
 use Rattle.std.specs.Prelude.{◌≡◌, ℕ, ◌<◌, ◌≤◌, ◌⊎◌, List, ◌++◌, length, drop, Option, None, Some, Result, Ok, Err, nat_eq, if◌then◌else◌}
 use Rattle.rh_trace.specs.declared.summary.Summary.{Summary}
-use Rattle.rh_trace.specs.declared.run_fault.RunFault.{RunFault}
-use Rattle.rh_trace.specs.declared.run_fault.RunFault.TheVariants as faults
-use Rattle.rh_paced_trace.specs.declared.fault.PacedFault.{PacedFault}
-use Rattle.rh_paced_trace.specs.declared.fault.PacedFault.TheVariants as paced_faults
+use Rattle.rh_trace.specs.declared.way_fault.WayFault.{WayFault}
+use Rattle.rh_trace.specs.declared.way_fault.WayFault.TheVariants as faults
+use Rattle.rh_paced_trace.specs.declared.fault.Unpaced.{Unpaced}
 
 -- the text stands at the front of the buffer, whose other bytes are as before, and its bytes are
 -- counted
@@ -25,37 +24,21 @@ abbrev pub AnswersText : List ℕ → ℕ → List ℕ → List ℕ → ℕ → 
 AnswersText text status old new count =
     ((status ≡ 0) × Delivers text old new count) ⊎ ((status ≡ 5) × FindsNoRoom text old new count)
 
--- the status after a fault of a run: 1 for one that the trace has, else 3
-abbrev pub run_status : RunFault → ℕ
+-- the status after a fault of a run: 1 for one that the trace has, or its way, else 3
+abbrev pub run_status : WayFault Unpaced → ℕ
 run_status faults.Read = 3
 run_status faults.Long = 1
 run_status (faults.Trace fault) = 1
 run_status (faults.New fault) = 1
+run_status (faults.Way why) = 1
 run_status faults.Write = 3
 run_status faults.OutOfMemory = 3
 
--- the same of a paced run
-abbrev pub paced_status : PacedFault → ℕ
-paced_status paced_faults.Read = 3
-paced_status paced_faults.Long = 1
-paced_status (paced_faults.Trace fault) = 1
-paced_status (paced_faults.New fault) = 1
-paced_status paced_faults.Limits = 1
-paced_status (paced_faults.Pace why) = 1
-paced_status paced_faults.Write = 3
-paced_status paced_faults.OutOfMemory = 3
-
 -- what a call tells after a run that ended so and wrote this text
-abbrev pub TellsRun : Result Summary RunFault → List ℕ → ℕ → List ℕ → List ℕ → ℕ → Type 0
+abbrev pub TellsRun : Result Summary (WayFault Unpaced) → List ℕ → ℕ → List ℕ → List ℕ → ℕ → Type 0
 TellsRun (Ok summary) text status old new count = AnswersText text status old new count
 TellsRun (Err fault) text status old new count =
     (status ≡ run_status fault) × Withholds old new count
-
--- the same after a paced run
-abbrev pub TellsPaced : Result Summary PacedFault → List ℕ → ℕ → List ℕ → List ℕ → ℕ → Type 0
-TellsPaced (Ok summary) text status old new count = AnswersText text status old new count
-TellsPaced (Err fault) text status old new count =
-    (status ≡ paced_status fault) × Withholds old new count
 
 -- a mark of 0 asks for none
 abbrev pub mark_of : ℕ → Option ℕ

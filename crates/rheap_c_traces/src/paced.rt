@@ -4,9 +4,10 @@ ghost use Rattle.std.specs.Prelude.{◌≡◌, ◌≢◌, ℕ, List, Some, Resul
 ghost use Rattle.rh_core.specs.runs.Programs.{CommandAnswers};
 ghost use Rattle.rh_syntax.specs.Spelling.{Script};
 ghost use Rattle.rh_trace.specs.declared.summary.Summary.{Summary as SummaryOf};
+ghost use Rattle.rh_trace.specs.declared.way_fault.WayFault.{WayFault as WayFaultOf};
 ghost use Rattle.rh_paced_trace.specs.Run.{Ends, IsPlainRun, AreSumsOf, output_of};
-ghost use Rattle.rh_paced_trace.specs.declared.fault.PacedFault.{PacedFault as PacedFaultOf};
-ghost use Rattle.rheap_c_traces.specs.Told.{Delivers, TellsPaced, mark_of, paced_status};
+ghost use Rattle.rh_paced_trace.specs.declared.fault.Unpaced.{Unpaced as UnpacedOf};
+ghost use Rattle.rheap_c_traces.specs.Told.{Delivers, TellsRun, mark_of, run_status};
 
 use crate::delivering::deliver;
 use crate::status::{FAULT, NO_MEMORY};
@@ -17,9 +18,9 @@ use rh_core::laws::runs::{
     every_event_keeps_a_heap_well_formed,
 };
 use rh_paced_trace::laws::ways::a_paced_run_ends_as_its_input_says;
-use rh_paced_trace::{Paced, PacedFault, told};
+use rh_paced_trace::{Paced, Unpaced};
 use rh_text::IoLog;
-use rh_trace::{Answers, Summary, run_bytes};
+use rh_trace::{Answers, Summary, WayFault, run_bytes};
 use std::alloc::Global;
 
 /// Runs a trace of commands alone on a new heap that collects by itself, as `run_bytes` does by the
@@ -40,10 +41,10 @@ pub extern "C" fn rheap_run_paced(
     // A run of the trace ended so with this text written, and this is what is told of it. No read
     // failed, so 3 says that memory was refused, or that the write to the vector failed, which no
     // contract excludes.
-    ensures told { (outcome : Result SummaryOf PacedFaultOf) × (text : List ℕ)
+    ensures told { (outcome : Result SummaryOf (WayFaultOf UnpacedOf)) × (text : List ℕ)
         × Ends (mark_of mark) trace.now outcome (Some []) (Some text)
-        × ¬ IsErrOf outcome PacedFaultOf.Read
-        × TellsPaced outcome text result answers.old answers.new length.new }
+        × ¬ IsErrOf outcome WayFaultOf.Read
+        × TellsRun outcome text result answers.old answers.new length.new }
     // Said of the plain heap alone, where the status is 0: the bytes are a trace of commands, and
     // what is delivered are the answers to it of a heap that never moves its objects, but for
     // limits, and their sums.
@@ -74,16 +75,15 @@ fn run_text(
     trace: &[u8],
     mark: Option<u32>,
     text: &mut Vec<u8>,
-) -> Result<Summary, PacedFault>
+) -> Result<Summary, WayFault<Unpaced>>
     ensures told { Ends mark trace.now result (Some text.old.items) (Some text.new.items) }
-    ensures never_read { ¬ IsErrOf result PacedFault.Read }
+    ensures never_read { ¬ IsErrOf result WayFault.Read }
 {
     // The law from which `told` follows.
     a_paced_run_ends_as_its_input_says();
     let way = Paced { mark };
     let mut answers = Answers::new(alloc);
-    let ran = run_bytes(alloc, trace, &way, &mut answers, text, &mut IoLog::new());
-    told(ran)
+    run_bytes(alloc, trace, &way, &mut answers, text, &mut IoLog::new())
 }
 
 /// The mark that a run is asked for, if any.
@@ -95,13 +95,12 @@ fn asked_mark(mark: u32) -> Option<u32>
 
 /// The status after a fault. A trace that stands in bytes has no read that fails, and writing a
 /// vector fails where memory is refused.
-fn status_of(fault: PacedFault) -> u8
-    ensures status { result ≡ paced_status fault }
+fn status_of(fault: WayFault<Unpaced>) -> u8
+    ensures status { result ≡ run_status fault }
     ensures not_done { result ≢ 0 }
 {
     match fault {
-        PacedFault::Long | PacedFault::Trace(_) | PacedFault::New(_) => FAULT,
-        PacedFault::Limits | PacedFault::Pace(_) => FAULT,
-        PacedFault::Read | PacedFault::Write | PacedFault::OutOfMemory => NO_MEMORY,
+        WayFault::Long | WayFault::Trace(_) | WayFault::New(_) | WayFault::Way(_) => FAULT,
+        WayFault::Read | WayFault::Write | WayFault::OutOfMemory => NO_MEMORY,
     }
 }

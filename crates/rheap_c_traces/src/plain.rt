@@ -3,7 +3,9 @@
 ghost use Rattle.std.specs.Prelude.{◌≡◌, ◌≢◌, ℕ, List, Some, Result, [], IsErrOf};
 ghost use Rattle.rh_syntax.specs.Spelling.{Script};
 ghost use Rattle.rh_trace.specs.Answers.{Answered};
+ghost use Rattle.rh_trace.specs.Fixed.{by_way};
 ghost use Rattle.rh_trace.specs.Run.{run_of, output_of, Ends, IsPlainRun};
+ghost use Rattle.rh_trace.specs.Ways.{of_run_fault};
 ghost use Rattle.rh_trace.specs.declared.summary.Summary.{Summary as SummaryOf};
 ghost use Rattle.rh_trace.specs.declared.run_fault.RunFault.{RunFault as RunFaultOf};
 ghost use Rattle.rheap_c_traces.specs.Told.{Delivers, TellsRun, run_status};
@@ -38,7 +40,7 @@ pub extern "C" fn rheap_run(
     ensures told { (outcome : Result SummaryOf RunFaultOf) × (text : List ℕ)
         × Ends (run_of trace.now) outcome (Some []) (Some text)
         × ¬ IsErrOf outcome RunFaultOf.Read
-        × TellsRun outcome text result answers.old answers.new length.new }
+        × TellsRun (by_way outcome) text result answers.old answers.new length.new }
     // Said of the plain heap alone, where the status is 0: the bytes are a trace, and what is
     // delivered are the answers to it, to commands and dumps those of a heap that never moves its
     // objects, but for limits, and their sums.
@@ -78,7 +80,7 @@ fn run_text(alloc: Global, trace: &[u8], text: &mut Vec<u8>) -> Result<Summary, 
 /// The status after a fault. A trace that stands in bytes has no read that fails, and writing a
 /// vector fails where memory is refused.
 fn status_of(fault: RunFault) -> u8
-    ensures status { result ≡ run_status fault }
+    ensures status { result ≡ run_status (of_run_fault fault) }
     ensures not_done { result ≢ 0 }
 {
     match fault {

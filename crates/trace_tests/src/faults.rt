@@ -3,10 +3,10 @@
 use crate::expectations::{expect_text, expect_texts};
 use rh_core::ConfigFault;
 use rh_dump::{DumpFault, DumpKind, DumpReadError};
-use rh_paced_trace::{PaceError, PacedFault};
+use rh_paced_trace::{PaceError, Unpaced};
 use rh_replay::{HistoryError, HistoryFault, HistoryKind};
 use rh_text::InputFault;
-use rh_trace::{Kind, ParseError, RunFault, TraceFault, Write, parse};
+use rh_trace::{Kind, ParseError, RunFault, TraceFault, WayFault, Write, parse};
 
 /// What is told of an input that can't be read, and of a run that ends early.
 const INPUT_FAULTS: &[(InputFault, &str)] = &[
@@ -30,24 +30,24 @@ const RUN_FAULTS: &[(RunFault, &str)] = &[
     (RunFault::OutOfMemory, "out of memory"),
 ];
 
-const PACED_FAULTS: &[(PacedFault, &str)] = &[
-    (PacedFault::Read, "read failed"),
-    (PacedFault::Long, "too long"),
+const WAY_FAULTS: &[(WayFault<Unpaced>, &str)] = &[
+    (WayFault::Read, "read failed"),
+    (WayFault::Long, "too long"),
     (
-        PacedFault::Trace(TraceFault {
+        WayFault::Trace(TraceFault {
             line: 3,
             kind: Kind::Word,
         }),
         "line 3: Word",
     ),
-    (PacedFault::New(ConfigFault::BadLog), "heap: BadLog"),
+    (WayFault::New(ConfigFault::BadLog), "heap: BadLog"),
     (
-        PacedFault::Pace(PaceError::TooSmall { need: 29 }),
+        WayFault::Way(Unpaced::Pace(PaceError::TooSmall { need: 29 })),
         "pace: TooSmall need 29",
     ),
-    (PacedFault::Limits, "grow: BadLimits"),
-    (PacedFault::Write, "write failed"),
-    (PacedFault::OutOfMemory, "out of memory"),
+    (WayFault::Way(Unpaced::Limits), "grow: BadLimits"),
+    (WayFault::Write, "write failed"),
+    (WayFault::OutOfMemory, "out of memory"),
 ];
 
 #[test]
@@ -70,7 +70,7 @@ fn texts_of_faults(rt: HostRuntime) {
     expect_text(&rt, DumpReadError::OutOfMemory, "out of memory");
     expect_texts(&rt, INPUT_FAULTS);
     expect_texts(&rt, RUN_FAULTS);
-    expect_texts(&rt, PACED_FAULTS);
+    expect_texts(&rt, WAY_FAULTS);
     let fault = HistoryFault {
         line: 3,
         kind: HistoryKind::Trailing,

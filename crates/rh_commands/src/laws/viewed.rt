@@ -10,13 +10,11 @@ ghost use Rattle.rh_syntax.specs.declared.request.Request.{Request as RequestOf}
 ghost use Rattle.rh_syntax.specs.Spelling.{Script};
 ghost use Rattle.rh_trace.specs.declared.summary.Summary.{Summary as SummaryOf};
 ghost use Rattle.rh_trace.specs.declared.way_fault.WayFault.{WayFault as WayFaultOf};
-ghost use Rattle.rh_paced_trace.specs.declared.fault.PacedFault.{PacedFault as PacedFaultOf};
 ghost use Rattle.rh_paced_trace.specs.declared.fault.Unpaced.{Unpaced as UnpacedOf};
 ghost use Rattle.rh_paced_trace.specs.Commanded.{answered_by};
 ghost use Rattle.rh_paced_trace.specs.Growing.{growing_sum_of, growing_text_of};
 ghost use Rattle.rh_paced_trace.specs.Lines.{commands_in, other_fault};
 ghost use Rattle.rh_paced_trace.specs.Run.{AreTransparent, sum_of, text_of};
-ghost use Rattle.rh_paced_trace.specs.Ways.{outcome_of};
 ghost use Rattle.rh_choices.specs.declared.telling.Telling.{Telling as TellingOf};
 ghost use Rattle.rh_trace_views.specs.History.{history_of};
 ghost use Rattle.rh_trace_views.specs.Listening.{ViewsWriter, written_of};
@@ -65,7 +63,7 @@ pub fn a_viewed_paced_run_ends_as_its_input_says()
         (result : Result SummaryOf (WayFaultOf UnpacedOf))
         (old new : ViewsWriter → Option (List ℕ))
         → ViewsEndPaced mark telling input result old new
-        → EndsPaced mark telling input (outcome_of result) (written_of old new) }
+        → EndsPaced mark telling input result (written_of old new) }
 {}
 
 /// So does one by the way `Growing`.
@@ -74,7 +72,7 @@ pub fn a_viewed_growing_run_ends_as_its_input_says()
         (result : Result SummaryOf (WayFaultOf UnpacedOf))
         (old new : ViewsWriter → Option (List ℕ))
         → ViewsEndGrowing at_most telling input result old new
-        → EndsGrowing at_most telling input (outcome_of result) (written_of old new) }
+        → EndsGrowing at_most telling input result (written_of old new) }
 {}
 
 /// What such runs tell and note, where they succeeded, are the answers of a plain heap, and the
@@ -82,12 +80,12 @@ pub fn a_viewed_growing_run_ends_as_its_input_says()
 pub fn viewed_runs_of_commands_tell_what_a_plain_heap_answers<A: Allocator + Copy>()
     ensures paced { (mark : Option ℕ) (telling : TellingOf) (input : List ℕ)
         (from to : Option (List ℕ)) → Consumes from to input
-        → (result : Result SummaryOf PacedFaultOf) (w : Written)
+        → (result : Result SummaryOf (WayFaultOf UnpacedOf)) (w : Written)
         → EndsPaced mark telling input result w
         → IfOk result (λ summary. IsToldPlainly telling from to w summary) }
     ensures growing { (at_most : ℕ) (telling : TellingOf) (input : List ℕ)
         (from to : Option (List ℕ)) → Consumes from to input
-        → (result : Result SummaryOf PacedFaultOf) (w : Written)
+        → (result : Result SummaryOf (WayFaultOf UnpacedOf)) (w : Written)
         → EndsGrowing at_most telling input result w
         → IfOk result (λ summary. IsToldPlainly telling from to w summary) }
 {

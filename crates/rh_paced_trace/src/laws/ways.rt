@@ -1,17 +1,16 @@
 //! Laws of the ways in which traces of commands are run.
 
-ghost use Rattle.std.specs.Prelude.{◌≡◌, ℕ, List, Option, Result, Err, IfOk};
+ghost use Rattle.std.specs.Prelude.{ℕ, List, Option, Result, Err, IfOk};
 ghost use Rattle.std.specs.Io.KnownBytes.{Appends, Consumes, Keeps};
 ghost use Rattle.rh_core.specs.runs.Programs.{CommandAnswers};
 ghost use Rattle.rh_text.specs.Output.{AppendsLess};
 ghost use Rattle.rh_syntax.specs.Spelling.{Script};
 ghost use Rattle.rh_trace.specs.declared.summary.Summary.{Summary};
 ghost use Rattle.rh_trace.specs.declared.way_fault.WayFault.{WayFault};
-ghost use Rattle.rh_paced_trace.specs.declared.fault.PacedFault.{PacedFault};
 ghost use Rattle.rh_paced_trace.specs.declared.fault.Unpaced.{Unpaced};
 ghost use Rattle.rh_paced_trace.specs.Growing.{EndsGrowing};
 ghost use Rattle.rh_paced_trace.specs.Run.{AreSumsOf, Ends, IsPlainRun, output_of};
-ghost use Rattle.rh_paced_trace.specs.Ways.{AnswersGrowing, AnswersPaced, outcome_of};
+ghost use Rattle.rh_paced_trace.specs.Ways.{AnswersGrowing, AnswersPaced};
 
 use crate::laws::growing::growing_heaps_answer_traces_as_plain_heaps;
 use rh_core::laws::heaps_answer_as_plain_heaps;
@@ -27,7 +26,7 @@ use std::alloc::Allocator;
 pub fn a_paced_run_ends_as_its_input_says()
     ensures { (mark : Option ℕ) (input : List ℕ) (result : Result Summary (WayFault Unpaced))
         (old new : Option (List ℕ)) → AnswersPaced mark input result old new
-        → Ends mark input (outcome_of result) old new }
+        → Ends mark input result old new }
 {}
 
 /// A run by the way `Growing`, whose answers are written, ends as a growing run of its input. So
@@ -36,7 +35,7 @@ pub fn a_paced_run_ends_as_its_input_says()
 pub fn a_growing_run_ends_as_its_input_says()
     ensures { (at_most : ℕ) (input : List ℕ) (result : Result Summary (WayFault Unpaced))
         (old new : Option (List ℕ)) → AnswersGrowing at_most input result old new
-        → EndsGrowing at_most input (outcome_of result) old new }
+        → EndsGrowing at_most input result old new }
 {}
 
 /// A paced run of the bytes that a reader gave tells what a plain heap answers.
@@ -45,18 +44,18 @@ pub fn a_growing_run_ends_as_its_input_says()
 /// - `plain_prefix`: where a write failed, a prefix of the text of such answers was written.
 /// - `memory`: where memory was refused, nothing was written.
 pub fn a_paced_run_tells_what_a_plain_heap_answers<A: Allocator + Copy>()
-    ensures plain { (mark : Option ℕ) (input : List ℕ) (result : Result Summary PacedFault)
+    ensures plain { (mark : Option ℕ) (input : List ℕ) (result : Result Summary (WayFault Unpaced))
         (from to old new : Option (List ℕ)) → Consumes from to input
         → Ends mark input result old new → IfOk result (λ summary. (script : Script)
         × (answers : CommandAnswers) × IsPlainRun script answers from to
         × AreSumsOf answers summary × Appends old new (output_of answers summary)) }
     ensures plain_prefix { (mark : Option ℕ) (input : List ℕ) (from to old new : Option (List ℕ))
-        → Consumes from to input → Ends mark input (Err PacedFault.Write) old new
+        → Consumes from to input → Ends mark input (Err WayFault.Write) old new
         → (script : Script) × (answers : CommandAnswers) × (summary : Summary)
         × IsPlainRun script answers from to × AreSumsOf answers summary
         × AppendsLess old new (output_of answers summary) }
     ensures memory { (mark : Option ℕ) (input : List ℕ) (old new : Option (List ℕ))
-        → Ends mark input (Err PacedFault.OutOfMemory) old new → Keeps old new }
+        → Ends mark input (Err WayFault.OutOfMemory) old new → Keeps old new }
 {
     heaps_answer_as_plain_heaps();
     a_new_heap_is_well_formed();
@@ -67,18 +66,18 @@ pub fn a_paced_run_tells_what_a_plain_heap_answers<A: Allocator + Copy>()
 
 /// The same of a growing run, whatever memory is given.
 pub fn a_growing_run_tells_what_a_plain_heap_answers<A: Allocator + Copy>()
-    ensures plain { (at_most : ℕ) (input : List ℕ) (result : Result Summary PacedFault)
+    ensures plain { (at_most : ℕ) (input : List ℕ) (result : Result Summary (WayFault Unpaced))
         (from to old new : Option (List ℕ)) → Consumes from to input
         → EndsGrowing at_most input result old new → IfOk result (λ summary. (script : Script)
         × (answers : CommandAnswers) × IsPlainRun script answers from to
         × AreSumsOf answers summary × Appends old new (output_of answers summary)) }
     ensures plain_prefix { (at_most : ℕ) (input : List ℕ) (from to old new : Option (List ℕ))
-        → Consumes from to input → EndsGrowing at_most input (Err PacedFault.Write) old new
+        → Consumes from to input → EndsGrowing at_most input (Err WayFault.Write) old new
         → (script : Script) × (answers : CommandAnswers) × (summary : Summary)
         × IsPlainRun script answers from to × AreSumsOf answers summary
         × AppendsLess old new (output_of answers summary) }
     ensures memory { (at_most : ℕ) (input : List ℕ) (old new : Option (List ℕ))
-        → EndsGrowing at_most input (Err PacedFault.OutOfMemory) old new → Keeps old new }
+        → EndsGrowing at_most input (Err WayFault.OutOfMemory) old new → Keeps old new }
 {
     growing_heaps_answer_traces_as_plain_heaps::<A>();
 }

@@ -2,8 +2,8 @@
 
 use crate::expectations::{Row, expect_equal};
 use rh_core::ConfigFault;
-use rh_syntax::{Kind, TraceFault};
 use rh_text::IoLog;
+use rh_trace::{Kind, TraceFault};
 use rh_trace_views::{RunFault, draw_trace};
 use samples::devices::{Broken, SlowReader, SlowWriter};
 use samples::texts::WHOLE_CYCLE;

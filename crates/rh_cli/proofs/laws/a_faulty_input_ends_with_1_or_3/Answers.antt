@@ -15,10 +15,10 @@ pub returns-clause-dump : goal.returns-clause-dump
 returns-clause-dump c = concludes_dump_fault
 
 pub returns-clause-paced : goal.returns-clause-paced
-returns-clause-paced c = concludes_paced_fault
+returns-clause-paced c = λ mark input status old new. concludes_paced_fault mark input old new status
 
 pub returns-clause-growing : goal.returns-clause-growing
-returns-clause-growing c = concludes_growing_fault
+returns-clause-growing c = λ at_most input status old new. concludes_growing_fault at_most input old new status
 
 pub returns-clause-dot : goal.returns-clause-dot
 returns-clause-dot c = concludes_dot_fault

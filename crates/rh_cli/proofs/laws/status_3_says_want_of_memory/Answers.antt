@@ -1,12 +1,9 @@
-use Rattle.rh_cli.proofs.StatusLaws.{memory_is_3, run_memory_is_3, concludes_paced_3, concludes_growing_3, concludes_run_3, concludes_replay_3, concludes_dump_3, concludes_dot_3, concludes_draw_3, concludes_completions_3, concludes_lisp_3, paced_memory_is_3}
+use Rattle.rh_cli.proofs.StatusLaws.{memory_is_3, concludes_paced_3, concludes_growing_3, concludes_run_3, concludes_replay_3, concludes_dump_3, concludes_dot_3, concludes_draw_3, concludes_completions_3, concludes_lisp_3, way_memory_is_3}
 use Rattle.rh_cli.proofs.SharedStatuses.{concludes_shared_3}
 use Rattle.rh_cli.proofs.laws.status_3_says_want_of_memory.Goals as goal
 
 pub returns-clause-fault : goal.returns-clause-fault
 returns-clause-fault c = memory_is_3
-
-pub returns-clause-run_fault : goal.returns-clause-run_fault
-returns-clause-run_fault c = run_memory_is_3
 
 pub returns-clause-run : goal.returns-clause-run
 returns-clause-run c = concludes_run_3
@@ -23,8 +20,8 @@ returns-clause-replay c = concludes_replay_3
 pub returns-clause-dump : goal.returns-clause-dump
 returns-clause-dump c = concludes_dump_3
 
-pub returns-clause-paced_fault : goal.returns-clause-paced_fault
-returns-clause-paced_fault c = paced_memory_is_3
+pub returns-clause-run_fault : goal.returns-clause-run_fault
+returns-clause-run_fault c = way_memory_is_3
 
 pub returns-clause-growing : goal.returns-clause-growing
 returns-clause-growing c = concludes_growing_3

@@ -9,7 +9,7 @@ use Rattle.rh_commands.specs.Fault.{status_after}
 use Rattle.rh_commands.specs.ViewLog.{ViewLogState}
 use Rattle.rh_commands.proofs.Causes.{caused, flushed_thrice, way_flushed}
 use Rattle.rh_commands.specs.lemmas.Known.{known_so}
-use Rattle.rh_commands.proofs.RunsFlushed.{each_kept, views_flushed}
+use Rattle.rh_commands.proofs.RunsFlushed.{views_flushed}
 use Rattle.rh_commands.proofs.viewing.view_run.Goals as goal
 
 pub returns-clause-told : goal.returns-clause-told
@@ -20,9 +20,8 @@ returns-clause-told g c =
     let done = subst (λ (b : Bool). (status ≡ 0) ↔ (IsOk ran × IsTrue (not b))) c.has_flush_failed.ensures c.conclude.ensures.done in
     let cause = caused Summary (WayFault Unpaced) ends.Read ends.Write ran status log c.run-ran.new.reads c.run-ran.new.writes c.flush_all.ensures.reads c.flush_all.ensures.writes
     c.run-ran.ensures.read_failed c.run-ran.ensures.no_read_failed c.run-ran.ensures.write_failed c.run-ran.ensures.no_write_failed (way_flushed ran status log.flush_failed c.conclude.ensures.status done) in
-    let kept = each_kept _ _ _ _ _ _ c.flush_all.ensures.out c.flush_all.ensures.history c.flush_all.ensures.cycles in
     known_so _ _ (g.R.Read.remaining c.args.reader.now)
-    (λ input e. (ran, views_flushed g.P.Player.Steps g.P.Player.total g.Q.CycleReading.first g.Q.CycleReading.read (g.Y.Way.fits c.args.way.now) (g.Y.Way.refuses c.args.way.now) c.args.telling _ _ _ c.views-seen.ensures.telling c.views-seen.ensures.no_history c.views-seen.ensures.no_reader _ _ _ kept input ran e, c.conclude.ensures.status, cause)) c.run-ran.ensures.told
+    (λ input e. (ran, views_flushed g.P.Player.Steps g.P.Player.total g.Q.CycleReading.first g.Q.CycleReading.read (g.Y.Way.fits c.args.way.now) (g.Y.Way.refuses c.args.way.now) c.args.telling _ _ _ c.views-seen.ensures.telling c.views-seen.ensures.no_history c.views-seen.ensures.no_reader _ _ _ c.flush_all.ensures.kept input ran e, c.conclude.ensures.status, cause)) c.run-ran.ensures.told
 
 pub returns-clause-read : goal.returns-clause-read
 returns-clause-read g c =
@@ -32,9 +31,8 @@ returns-clause-read g c =
     let done = subst (λ (b : Bool). (status ≡ 0) ↔ (IsOk ran × IsTrue (not b))) c.has_flush_failed.ensures c.conclude.ensures.done in
     let cause = caused Summary (WayFault Unpaced) ends.Read ends.Write ran status log c.run-ran.new.reads c.run-ran.new.writes c.flush_all.ensures.reads c.flush_all.ensures.writes
     c.run-ran.ensures.read_failed c.run-ran.ensures.no_read_failed c.run-ran.ensures.write_failed c.run-ran.ensures.no_write_failed (way_flushed ran status log.flush_failed c.conclude.ensures.status done) in
-    let kept = each_kept _ _ _ _ _ _ c.flush_all.ensures.out c.flush_all.ensures.history c.flush_all.ensures.cycles in
     let given = c.run-ran.ensures.read in
-    (given.0, given.1, (ran, views_flushed g.P.Player.Steps g.P.Player.total g.Q.CycleReading.first g.Q.CycleReading.read (g.Y.Way.fits c.args.way.now) (g.Y.Way.refuses c.args.way.now) c.args.telling _ _ _ c.views-seen.ensures.telling c.views-seen.ensures.no_history c.views-seen.ensures.no_reader _ _ _ kept given.0 ran given.2, c.conclude.ensures.status, cause))
+    (given.0, given.1, (ran, views_flushed g.P.Player.Steps g.P.Player.total g.Q.CycleReading.first g.Q.CycleReading.read (g.Y.Way.fits c.args.way.now) (g.Y.Way.refuses c.args.way.now) c.args.telling _ _ _ c.views-seen.ensures.telling c.views-seen.ensures.no_history c.views-seen.ensures.no_reader _ _ _ c.flush_all.ensures.kept given.0 ran given.2, c.conclude.ensures.status, cause))
 
 pub returns-clause-reads_counted : goal.returns-clause-reads_counted
 returns-clause-reads_counted g c =

@@ -1,4 +1,4 @@
-use Rattle.rheap_c_traces.proofs.Statuses.{paced_1_or_3, paced_failed, run_1_or_3, run_failed}
+use Rattle.rheap_c_traces.proofs.Statuses.{run_1_or_3, run_failed}
 use Rattle.rheap_c_traces.proofs.laws.statuses_1_and_3_say_why_there_is_no_text.Goals as goal
 
 pub returns-clause-failed : goal.returns-clause-failed
@@ -6,9 +6,3 @@ returns-clause-failed c = run_failed
 
 pub returns-clause-faulty : goal.returns-clause-faulty
 returns-clause-faulty c = run_1_or_3
-
-pub returns-clause-paced_failed : goal.returns-clause-paced_failed
-returns-clause-paced_failed c = paced_failed
-
-pub returns-clause-paced_faulty : goal.returns-clause-paced_faulty
-returns-clause-paced_faulty c = paced_1_or_3

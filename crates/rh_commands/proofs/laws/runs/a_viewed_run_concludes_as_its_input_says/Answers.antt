@@ -3,10 +3,8 @@ use Rattle.rh_trace.specs.declared.summary.Summary.{Summary}
 use Rattle.rh_trace.specs.declared.way_fault.WayFault.{WayFault}
 use Rattle.rh_trace.specs.declared.way_fault.WayFault.TheVariants as ends
 use Rattle.rh_paced_trace.specs.declared.fault.Unpaced.{Unpaced}
-use Rattle.rh_paced_trace.specs.Ways.{outcome_of}
 use Rattle.rh_commands.specs.Runs.{IsWayStatus}
 use Rattle.rh_commands.specs.ViewLog.{HasCause}
-use Rattle.rh_commands.proofs.WaysConclude.{paced_cause_is, paced_status_is, run_cause_is, run_status_is}
 use Rattle.rh_commands.proofs.laws.runs.a_viewed_run_concludes_as_its_input_says.Goals as goal
 
 pub returns-clause-fixed : goal.returns-clause-fixed
@@ -14,14 +12,12 @@ returns-clause-fixed c = λ telling input status log old new e.
     let told = c.a_viewed_run_ends_as_its_input_says.ensures telling input e.0 old new e.1 in (
       told.0,
       told.2,
-      run_status_is told.0 status (subst (λ (o : Result Summary (WayFault Unpaced)). IsWayStatus o status) told.1 e.2),
-      run_cause_is told.0 status log (subst (λ (o : Result Summary (WayFault Unpaced)). HasCause Summary (WayFault Unpaced) ends.Read ends.Write o status log) told.1 e.3),
+      subst (λ (o : Result Summary (WayFault Unpaced)). IsWayStatus o status) told.1 e.2,
+      subst (λ (o : Result Summary (WayFault Unpaced)). HasCause Summary (WayFault Unpaced) ends.Read ends.Write o status log) told.1 e.3,
     )
 
 pub returns-clause-paced : goal.returns-clause-paced
-returns-clause-paced c = λ mark telling input status log old new e.
-    (outcome_of e.0, c.a_viewed_paced_run_ends_as_its_input_says.ensures mark telling input e.0 old new e.1, paced_status_is e.0 status e.2, paced_cause_is e.0 status log e.3)
+returns-clause-paced c = λ mark telling input status log old new e. (e.0, c.a_viewed_paced_run_ends_as_its_input_says.ensures mark telling input e.0 old new e.1, e.2, e.3)
 
 pub returns-clause-growing : goal.returns-clause-growing
-returns-clause-growing c = λ at_most telling input status log old new e.
-    (outcome_of e.0, c.a_viewed_growing_run_ends_as_its_input_says.ensures at_most telling input e.0 old new e.1, paced_status_is e.0 status e.2, paced_cause_is e.0 status log e.3)
+returns-clause-growing c = λ at_most telling input status log old new e. (e.0, c.a_viewed_growing_run_ends_as_its_input_says.ensures at_most telling input e.0 old new e.1, e.2, e.3)

@@ -1,5 +1,3 @@
-use Rattle.std.proofs.Common.{Err, refl}
-use Rattle.rh_paced_trace.specs.declared.fault.PacedFault.TheVariants as faults
 use Rattle.rh_paced_trace.proofs.GrownAnswers.{grown-plain, grown-plain_prefix}
 use Rattle.rh_paced_trace.proofs.laws.ways.a_growing_run_tells_what_a_plain_heap_answers.Goals as goal
 
@@ -9,4 +7,4 @@ returns-clause-plain g c = λ at_most input result from to old new consumed ends
 
 pub returns-clause-plain_prefix : goal.returns-clause-plain_prefix
 returns-clause-plain_prefix g c = λ at_most input from to old new consumed ends.
-    grown-plain_prefix c.growing_heaps_answer_traces_as_plain_heaps.ensures at_most input from to old new consumed (Err faults.Write) ends refl
+    grown-plain_prefix c.growing_heaps_answer_traces_as_plain_heaps.ensures at_most input from to old new consumed ends
