@@ -65,6 +65,13 @@ static uint8_t unpack_each(rheap *heap, rheap_root_id text, unsigned char *bytes
     return status;
 }
 
+/* A ticket for an object, which is freed. */
+static uint8_t watch_and_unwatch(rheap *heap, rheap_root_id root) {
+    uint64_t ticket;
+    uint8_t status = rheap_watch(heap, 1, root, &ticket);
+    return status == RHEAP_DONE ? rheap_unwatch(heap, ticket) : status;
+}
+
 /* If this is the call that is asked for, makes it so many times. */
 #define ON(name, call)                                                                             \
     if (strcmp(argv[1], name) == 0) {                                                              \
@@ -83,6 +90,13 @@ int main(int argc, char **argv) {
     unsigned char bytes[BYTES];
     int64_t packed[FIELDS];
     rheap_root_id text = rheap_slot(1, 3);
+    rheap_root_id row = rheap_slot(1, 4);
+    rheap_value values[4];
+    /* A field of the object, and one of the object there. */
+    static const uint32_t path[3] = {1, 1, 0};
+    uint64_t ticket;
+    size_t done;
+    uint8_t is;
     uint32_t count;
     uint8_t same;
     long times;
@@ -106,6 +120,8 @@ int main(int argc, char **argv) {
     must(rheap_alloc(&heap, 1, other, 4));
     must(rheap_store_int(&heap, 1, object, 0, 7));
     must(rheap_store_root(&heap, 1, object, 1, other));
+    must(rheap_store_root(&heap, 1, other, 1, object));
+    must(rheap_watch_room(&heap, 8));
     ON("alloc", rheap_alloc(&heap, 1, free_slot, 4))
     ON("store_root", rheap_store_root(&heap, 1, object, 1, other))
     ON("store_int", rheap_store_int(&heap, 1, object, 0, n))
@@ -113,6 +129,7 @@ int main(int argc, char **argv) {
     ON("load_root", rheap_load(&heap, 1, free_slot, object, 1, &value))
     ON("load_int", rheap_load(&heap, 1, free_slot, object, 0, &value))
     ON("load_nil", rheap_load(&heap, 1, free_slot, object, 2, &value))
+    ON("load_untold", rheap_load_untold(&heap, 1, free_slot, object, 1))
     ON("copy", rheap_copy(&heap, 1, free_slot, other))
     ON("drop", rheap_drop(&heap, 1, free_slot))
     ON("same", rheap_same(&heap, 1, object, other, &same))
@@ -123,6 +140,13 @@ int main(int argc, char **argv) {
     ON("insist_alloc", rheap_insist_alloc(&heap, 1, free_slot, 4))
     ON("insist_store_root", rheap_insist_store_root(&heap, 1, object, 1, other))
     ON("insist_store_int", rheap_insist_store_int(&heap, 1, object, 0, n))
+    ON("load_roots", rheap_load_roots(&heap, 1, row, object, 0, values, 4, &done))
+    ON("store_roots", rheap_store_roots(&heap, 1, other, 0, row, 4, &done))
+    ON("insist_store_roots", rheap_insist_store_roots(&heap, 1, other, 0, row, 4, &done))
+    ON("drop_roots", rheap_drop_roots(&heap, 1, row, 4, &done))
+    ON("load_path", rheap_load_path(&heap, 1, free_slot, object, path, 3, &done, &value))
+    ON("watch_and_unwatch", watch_and_unwatch(&heap, object))
+    ON("next_gone", rheap_next_gone(&heap, &ticket, &is))
     ON("store_ints", rheap_store_ints(&heap, 1, text, 0, packed, FIELDS))
     ON("store_each", store_each(&heap, text, packed))
     ON("store_text", rheap_store_text(&heap, 1, text, 0, bytes, BYTES))

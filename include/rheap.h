@@ -8,10 +8,11 @@
  * 0's slots are shared by all owners. No call gives an address out, so no pointer of yours changes
  * when objects move.
  *
- * Each call answers a status: 0 is done. A refused call changes nothing; the rheap_insist_ calls
- * alone may have collected before. Where a call tells something by a pointer, it writes there
- * whatever the status: nil or 0 where there is nothing to tell. Of numbers or bytes in a row it
- * writes only those that it read.
+ * Each call answers a status: 0 is done. A refused call changes nothing. But the rheap_insist_
+ * calls may have collected before, and those on roots in a row and on paths leave done what they
+ * did before the refusal. Where a call tells something by a pointer, it writes there whatever the
+ * status: nil or 0 where there is nothing to tell. Of numbers, bytes or values in a row it writes
+ * only those that it read.
  *
  * Whole traces, below, are run by two calls of another kind: they take a text in place of a handle,
  * and have statuses of their own.
@@ -84,7 +85,13 @@ enum {
        slots aren't 1 to 256. */
     RHEAP_BAD_SIZES = 15,
     /* Memory was refused. */
-    RHEAP_NO_MEMORY = 16
+    RHEAP_NO_MEMORY = 16,
+    /* No ticket is free: rheap_watch_room makes more. */
+    RHEAP_WATCHES_FULL = 17,
+    /* The ticket watches no object: it isn't there, it is free, or its object is gone. */
+    RHEAP_NOT_WATCHED = 18,
+    /* A heap may not have so many tickets: more than RHEAP_MAX_TICKETS in all. */
+    RHEAP_TICKETS_RANGE = 19
 };
 
 /* The kinds of values. */
@@ -104,6 +111,7 @@ enum {
 #define RHEAP_MAX_OWNERS 16u
 #define RHEAP_MAX_SLOTS 256u
 #define RHEAP_MAX_FIELDS 4095u
+#define RHEAP_MAX_TICKETS 65536u
 #define RHEAP_MAX_INT INT64_C(2305843009213693951)
 #define RHEAP_MIN_INT (-RHEAP_MAX_INT - 1)
 
@@ -246,6 +254,11 @@ uint8_t rheap_alloc_raw(rheap *heap, uint32_t owner, rheap_root_id dst, uint32_t
 uint8_t rheap_load(rheap *heap, uint32_t owner, rheap_root_id dst, rheap_root_id src,
                    uint32_t field, rheap_value *value);
 
+/* The same where the value isn't looked at: none is told, in fewer instructions.
+   DONE, NO_ROOT, NOT_YOURS, NOT_OBJECT, NO_FIELD, NOT_OPEN. */
+uint8_t rheap_load_untold(rheap *heap, uint32_t owner, rheap_root_id dst, rheap_root_id src,
+                          uint32_t field);
+
 /* A field of the object that `object` names becomes nil, takes a whole number, or takes what the
    root `src` holds. In a cycle at most ratio + 5 units follow; none follow outside.
    DONE, NO_ROOT, NOT_YOURS, NOT_OBJECT, NO_FIELD, RAW_FIELD (of rheap_store_root alone), INT_RANGE
@@ -301,6 +314,41 @@ uint8_t rheap_store_text(rheap *heap, uint32_t owner, rheap_root_id object, uint
 uint8_t rheap_load_text(rheap *heap, uint32_t owner, rheap_root_id object, uint32_t from,
                         void *text, size_t length, uint32_t *count);
 
+/* --- Roots in a row, and paths --- */
+
+/* Each of these calls is a list of commands, done one after the other up to the first that is
+   refused, as if the program made a call for each. `count` tells how many were done; they stay
+   done. The status is that of the refusal, and DONE where none was refused. Length 0 does nothing,
+   and is DONE. */
+
+/* The roots from `first` on take the fields from `from` on of the object that `src` names: as many
+   as `length` says. `values` tells the value of each field that was loaded; what is behind them
+   stays. If `src` is one of these roots, the fields behind its own are those of the object that it
+   then names: let it be none of them, or the last.
+   DONE, NO_ROOT, NOT_YOURS, NOT_OBJECT, NO_FIELD, NOT_OPEN. */
+uint8_t rheap_load_roots(rheap *heap, uint32_t owner, rheap_root_id first, rheap_root_id src,
+                         uint32_t from, rheap_value *values, size_t length, size_t *count);
+
+/* The fields from `from` on of the object that `object` names take what the roots from `first` on
+   hold: as many as `length` says. In a cycle at most ratio + 5 units follow each store; none follow
+   outside. After LOG_FULL rheap_insist_store_roots stores them.
+   DONE, NO_ROOT, NOT_YOURS, NOT_OBJECT, NO_FIELD, RAW_FIELD, LOG_FULL, NUMBERS_SPENT, NOT_OPEN. */
+uint8_t rheap_store_roots(rheap *heap, uint32_t owner, rheap_root_id object, uint32_t from,
+                          rheap_root_id first, size_t length, size_t *count);
+
+/* The roots from `first` on become nil, as many as `length` says.
+   DONE, NO_ROOT, NOT_YOURS, NOT_OPEN. */
+uint8_t rheap_drop_roots(rheap *heap, uint32_t owner, rheap_root_id first, size_t length,
+                         size_t *count);
+
+/* Follows a path: the root `dst` takes the first of `fields` of the object that `src` names, then
+   the next one of the object that this is, and so on. So with the fields 1 and 0 it takes the second
+   item of a list of cells of a value and a rest. `value` tells the last value that was loaded, and
+   nil where none was. If `dst` isn't `src`, that root stays.
+   DONE, NO_ROOT, NOT_YOURS, NOT_OBJECT, NO_FIELD, NOT_OPEN. */
+uint8_t rheap_load_path(rheap *heap, uint32_t owner, rheap_root_id dst, rheap_root_id src,
+                        const uint32_t *fields, size_t length, size_t *count, rheap_value *value);
+
 /* --- Roots --- */
 
 /* The root `dst` takes what the root `src` holds. DONE, NO_ROOT, NOT_YOURS, NOT_OPEN. */
@@ -339,10 +387,15 @@ uint8_t rheap_insist_store_ints(rheap *heap, uint32_t owner, rheap_root_id objec
 uint8_t rheap_insist_store_text(rheap *heap, uint32_t owner, rheap_root_id object, uint32_t from,
                                 const void *text, size_t length);
 
+/* As rheap_store_roots, where each store is as rheap_insist_store_root. LOG_FULL never comes.
+   DONE, NO_ROOT, NOT_YOURS, NOT_OBJECT, NO_FIELD, RAW_FIELD, NUMBERS_SPENT, NOT_OPEN. */
+uint8_t rheap_insist_store_roots(rheap *heap, uint32_t owner, rheap_root_id object, uint32_t from,
+                                 rheap_root_id first, size_t length, size_t *count);
+
 /* --- Reading --- */
 
-/* Reading changes nothing of the heap. But each call, a reading one too, takes the heap out of the
-   handle while it runs. So no two run at once on a handle, not even under a lock of readers. */
+/* Reading changes nothing of the heap. But each call, a reading one too, has the handle for itself
+   while it runs. So no two run at once on a handle, not even under a lock of readers. */
 
 /* What a root holds. It asks for no owner. DONE, NO_ROOT, NOT_OPEN. */
 uint8_t rheap_root(rheap *heap, rheap_root_id root, rheap_value *value);
@@ -364,6 +417,38 @@ uint8_t rheap_peek(rheap *heap, uint32_t owner, rheap_root_id src, uint32_t fiel
    allocation where more are needed than are free; after it, these are the numbers of the refusal.
    DONE, NOT_OPEN. */
 uint8_t rheap_room(rheap *heap, uint32_t fields, rheap_words *room);
+
+/* --- Watching objects --- */
+
+/* A program that keeps something of its own beside an object, such as an open file, has the object
+   watched, and keeps what it has by the ticket: a number from 0 on. Once a cycle has ended in which
+   no root reached the object any more, rheap_next_gone tells the ticket, once. rheap_collect ends
+   one; after two in a row each object is told that no root reached before them. A ticket keeps
+   nothing alive, and no call puts its object back into a root.
+
+   An object may have several tickets. A ticket that was told or freed is free, and is given again
+   later. Each end of a cycle looks at the tickets up to the greatest number in use: that counts no
+   units. So take the room that you need, and free what you need no more. */
+
+/* Makes room for so many tickets more than there are: a new heap has none. It takes 12 bytes for
+   each, and is the only call on an open heap that takes memory; refused, it changes nothing.
+   DONE, TICKETS_RANGE, NO_MEMORY, NOT_OPEN. */
+uint8_t rheap_watch_room(rheap *heap, uint32_t additional);
+
+/* Watches the object that the root names now; `ticket` tells the ticket, the free one with the
+   least number. What the root holds later doesn't matter.
+   DONE, NO_ROOT, NOT_YOURS, NOT_OBJECT, WATCHES_FULL, NOT_OPEN. */
+uint8_t rheap_watch(rheap *heap, uint32_t owner, rheap_root_id root, uint64_t *ticket);
+
+/* Frees a ticket that watches an object, which isn't told then. Where the object is gone already,
+   and that wasn't told yet, it is NOT_WATCHED, and rheap_next_gone tells it.
+   DONE, NOT_WATCHED, NOT_OPEN. */
+uint8_t rheap_unwatch(rheap *heap, uint64_t ticket);
+
+/* The next ticket whose object is gone: `is` is 1, `ticket` tells it, and it is free from then on.
+   Where there is none, both are 0. They come in the order of cycles, and of one cycle in that of
+   their numbers. DONE, NOT_OPEN. */
+uint8_t rheap_next_gone(rheap *heap, uint64_t *ticket, uint8_t *is);
 
 /* --- The collector --- */
 
@@ -440,8 +525,9 @@ static inline const char *rheap_name(uint8_t status) {
     static const char *const names[] = {
         "DONE",       "NO_ROOT",       "NOT_YOURS",    "NOT_OBJECT", "NO_FIELD",      "RAW_FIELD",
         "INT_RANGE",  "FIELDS_RANGE",  "SPACE_FULL",   "LOG_FULL",   "NUMBERS_SPENT", "EPOCHS_SPENT",
-        "NOT_OPEN",   "IS_OPEN",       "NO_PACE",      "BAD_SIZES",  "NO_MEMORY"};
-    return status <= RHEAP_NO_MEMORY ? names[status] : "UNKNOWN";
+        "NOT_OPEN",   "IS_OPEN",       "NO_PACE",      "BAD_SIZES",  "NO_MEMORY",     "WATCHES_FULL",
+        "NOT_WATCHED", "TICKETS_RANGE"};
+    return status <= RHEAP_TICKETS_RANGE ? names[status] : "UNKNOWN";
 }
 
 /* Slots of one owner that are used as a stack: rheap_push takes the next one, and rheap_pop_to

@@ -2,6 +2,10 @@
    examples/c/differ compares the two. Beside each command it looks whether the readers agree with
    it, and tells on standard error where they don't. Stores of numbers to one field after the other,
    line by line, are one call of rheap_store_ints; where that is refused, they are calls of their own.
+   So loads into one slot after the other, stores of one after the other, and drops are one call of
+   rheap_load_roots, rheap_store_roots or rheap_drop_roots; where one of them is refused, those behind
+   it are calls of their own. Some of the new objects get tickets. No ticket may be told while the root
+   holds its object by which it was taken, and each is told once: at the end all roots are dropped.
 
    Usage: differ pace WORDS LIVE BIGGEST RATIO OWNERS SLOTS
             prints the mark and the log's limit
@@ -33,6 +37,21 @@ static uint64_t rows = 0;
 static uint64_t done_rows = 0;
 static uint64_t rows_in_cycles = 0;
 static uint64_t limited_rows = 0;
+/* The calls on roots in a row: all, and the commands that were done by them. */
+static uint64_t root_rows = 0;
+static uint64_t root_commands = 0;
+
+/* So many tickets there are. */
+#define TICKETS 40
+
+/* Of each ticket: whether it is on, and the root by which it was taken, while that root wasn't written
+   since. */
+static int is_on[TICKETS];
+static int is_held[TICKETS];
+static rheap_root_id watched[TICKETS];
+static uint64_t taken_tickets = 0;
+static uint64_t freed_tickets = 0;
+static uint64_t told_tickets = 0;
 
 static void must(uint8_t status) {
     if (status != RHEAP_DONE) {
@@ -46,6 +65,82 @@ static void agree(int holds, const char *what) {
         fprintf(stderr, "differ: command %" PRIu64 ": %s differs\n", commands, what);
         wrong = 1;
     }
+}
+
+/* The root is written now: what it held may be gone from now on. */
+static void written(rheap_root_id root) {
+    int n;
+    for (n = 0; n < TICKETS; n++) {
+        if (watched[n].owner == root.owner && watched[n].slot == root.slot) {
+            is_held[n] = 0;
+        }
+    }
+}
+
+/* Takes a ticket for a new object, now and then, or frees one. */
+static void watch(uint32_t owner, rheap_root_id root) {
+    uint64_t ticket;
+    uint8_t status;
+    if (commands % 7 == 0) {
+        ticket = commands / 7 % (TICKETS + 5);
+        status = rheap_unwatch(&heap, ticket);
+        /* A ticket that is on may be gone already, and not told yet. */
+        agree(status == RHEAP_DONE ? ticket < TICKETS && is_on[ticket]
+                                   : status == RHEAP_NOT_WATCHED,
+              "rheap_unwatch");
+        if (status == RHEAP_DONE) {
+            is_on[ticket] = 0;
+            freed_tickets++;
+        } else {
+            agree(ticket >= TICKETS || !is_held[ticket], "a ticket that is held");
+        }
+    }
+    if (commands % 3 == 0) {
+        status = rheap_watch(&heap, owner, root, &ticket);
+        if (status == RHEAP_DONE) {
+            agree(ticket < TICKETS && !is_on[ticket], "rheap_watch");
+            is_on[ticket] = 1;
+            is_held[ticket] = 1;
+            watched[ticket] = root;
+            taken_tickets++;
+        } else {
+            agree(status == RHEAP_WATCHES_FULL && ticket == 0, "rheap_watch");
+        }
+    }
+}
+
+/* Takes each ticket that is told. */
+static void take_gone(void) {
+    uint64_t ticket;
+    uint8_t is;
+    must(rheap_next_gone(&heap, &ticket, &is));
+    while (is == 1) {
+        agree(ticket < TICKETS && is_on[ticket] && !is_held[ticket], "rheap_next_gone");
+        is_on[ticket] = 0;
+        told_tickets++;
+        must(rheap_next_gone(&heap, &ticket, &is));
+    }
+    agree(is == 0 && ticket == 0, "rheap_next_gone");
+}
+
+/* At the end no root holds anything, and each ticket that is on is told. */
+static void take_all_gone(uint32_t owners, uint32_t slots) {
+    uint32_t owner;
+    size_t count;
+    int n;
+    take_gone();
+    for (owner = 0; owner < owners; owner++) {
+        must(rheap_drop_roots(&heap, owner, rheap_slot(owner, 0), slots, &count));
+        agree(count == slots, "rheap_drop_roots");
+    }
+    memset(is_held, 0, sizeof is_held);
+    must(rheap_collect(&heap));
+    must(rheap_collect(&heap));
+    take_gone();
+    for (n = 0; n < TICKETS; n++) {
+        agree(!is_on[n], "a ticket at the end");
+    }
+    agree(taken_tickets == freed_tickets + told_tickets, "the tickets");
 }
 
 static int are_equal(rheap_value a, rheap_value b) {
@@ -163,6 +258,8 @@ static int alloc(uint32_t owner, rheap_root_id dst, uint32_t fields, int raw) {
         value = held(dst);
         agree(value.kind == (raw ? RHEAP_RAW : RHEAP_OBJECT) && value.fields == fields,
               "the new object");
+        written(dst);
+        watch(owner, dst);
     } else if (insisting && status == RHEAP_SPACE_FULL) {
         is_full(after);
         return 0;
@@ -225,12 +322,22 @@ static void load(uint32_t owner, rheap_root_id dst, rheap_root_id src, uint32_t 
               : status == peek && are_equal(read, peeked),
           "rheap_field");
     read_in_a_row(owner, src, field, (uint32_t)(commands % 5));
-    status = rheap_load(&heap, owner, dst, src, field, &value);
+    /* Every other load is done by the call that tells no value: what the root holds then is told. */
+    if (commands % 2 == 0) {
+        status = rheap_load(&heap, owner, dst, src, field, &value);
+    } else {
+        status = rheap_load_untold(&heap, owner, dst, src, field);
+        memset(&value, 0, sizeof value);
+        if (status == RHEAP_DONE) {
+            value = held(dst);
+        }
+    }
     /* A load is also refused for its `dst`. */
     agree(status == peek ? are_equal(value, peeked)
                          : status == RHEAP_NO_ROOT || status == RHEAP_NOT_YOURS,
           "rheap_peek");
     if (status == RHEAP_DONE) {
+        written(dst);
         agree(are_equal(value, held(dst)), "rheap_root");
     }
     tell(status, value);
@@ -270,6 +377,7 @@ static void copy(uint32_t owner, rheap_root_id dst, rheap_root_id src) {
     rheap_value value;
     memset(&value, 0, sizeof value);
     if (status == RHEAP_DONE) {
+        written(dst);
         value = held(dst);
         must(rheap_same(&heap, owner, dst, src, &same));
         agree(same == 1 && are_equal(value, held(src)), "rheap_root");
@@ -292,6 +400,7 @@ static void compare(uint32_t owner, rheap_root_id a, rheap_root_id b) {
 static void drop(uint32_t owner, rheap_root_id root) {
     uint8_t status = rheap_drop(&heap, owner, root);
     if (status == RHEAP_DONE) {
+        written(root);
         agree(held(root).kind == RHEAP_NIL, "rheap_root");
     }
     tell_done(status);
@@ -396,6 +505,120 @@ static void play_row(const row *stores) {
     between_commands();
 }
 
+/* Loads into slots one after the other, stores of such slots, or drops of them. */
+typedef struct {
+    char line[ROW][128];
+    char word[8];
+    uint32_t owner;
+    rheap_root_id object;
+    rheap_root_id first;
+    uint32_t from;
+    uint32_t length;
+} root_row;
+
+static int is_same_root(rheap_root_id a, rheap_root_id b) {
+    return a.owner == b.owner && a.slot == b.slot;
+}
+
+/* Whether the line is one more command of the row, which it is put into then. */
+static int goes_on_with_roots(root_row *row, const char *line) {
+    char word[8];
+    char part[3][24];
+    unsigned owner;
+    rheap_root_id object = rheap_slot(0, 0);
+    rheap_root_id root;
+    uint32_t field = row->from + row->length;
+    memset(part, 0, sizeof part);
+    if (row->length == ROW ||
+        sscanf(line, "%u %7s %23s %23s %23s", &owner, word, part[0], part[1], part[2]) < 3) {
+        return 0;
+    }
+    if (strcmp(word, "load") == 0) {
+        root = root_of(part[0]);
+        object = root_of(part[1]);
+        field = number_of(part[2]);
+    } else if (strcmp(word, "store") == 0 && strchr(part[2], '.') != NULL) {
+        object = root_of(part[0]);
+        field = number_of(part[1]);
+        root = root_of(part[2]);
+    } else if (strcmp(word, "drop") == 0) {
+        root = root_of(part[0]);
+    } else {
+        return 0;
+    }
+    if (row->length == 0) {
+        strcpy(row->word, word);
+        row->owner = owner;
+        row->object = object;
+        row->first = root;
+        row->from = field;
+    } else if (strcmp(row->word, word) != 0 || row->owner != owner ||
+               !is_same_root(row->object, object) || field != row->from + row->length ||
+               !is_same_root(rheap_slot(row->first.owner, row->first.slot + row->length), root)) {
+        return 0;
+    }
+    strcpy(row->line[row->length++], line);
+    return 1;
+}
+
+/* Plays the commands of the row from one on by one call, up to the first that is refused. How many
+   were answered. */
+static uint32_t play_roots_from(const root_row *row, uint32_t at) {
+    rheap_root_id first = rheap_slot(row->first.owner, row->first.slot + at);
+    uint32_t length = row->length - at;
+    rheap_value values[ROW];
+    size_t count = ROW + 1;
+    uint32_t n;
+    uint8_t status;
+    memset(values, 0x5a, sizeof values);
+    if (strcmp(row->word, "load") == 0) {
+        status = rheap_load_roots(&heap, row->owner, first, row->object, row->from + at, values, length,
+                                  &count);
+    } else if (strcmp(row->word, "drop") == 0) {
+        status = rheap_drop_roots(&heap, row->owner, first, length, &count);
+    } else {
+        status = insisting ? rheap_insist_store_roots(&heap, row->owner, row->object,
+                                                      row->from + at, first, length, &count)
+                           : rheap_store_roots(&heap, row->owner, row->object, row->from + at, first,
+                                               length, &count);
+        agree(!insisting || status != RHEAP_LOG_FULL, "a row that insists");
+    }
+    agree(count <= length && (status == RHEAP_DONE) == (count == length), "roots in a row");
+    root_rows++;
+    root_commands += count;
+    for (n = 0; n < count; n++) {
+        rheap_root_id root = rheap_slot(first.owner, first.slot + n);
+        if (strcmp(row->word, "load") == 0) {
+            written(root);
+            agree(are_equal(values[n], held(root)), "rheap_load_roots");
+            tell(RHEAP_DONE, values[n]);
+        } else if (strcmp(row->word, "drop") == 0) {
+            written(root);
+            agree(held(root).kind == RHEAP_NIL, "rheap_drop_roots");
+            tell_done(RHEAP_DONE);
+        } else {
+            agree(are_equal(held(root), stored(row->owner, row->object, row->from + at + n)),
+                  "rheap_store_roots");
+            tell_done(RHEAP_DONE);
+        }
+    }
+    if (status != RHEAP_DONE) {
+        agree(values[count].kind == 0x5a5a5a5a, "what is behind a row");
+        tell_refusal(status, 0);
+    }
+    return (uint32_t)count + (status != RHEAP_DONE);
+}
+
+static void play_roots(const root_row *row) {
+    uint32_t at = 0;
+    while (at < row->length) {
+        uint32_t played = play_roots_from(row, at);
+        commands += played;
+        at += played;
+    }
+    between_commands();
+}
+
 /* Plays a line: an owner, a word and up to three parts. Whether it is answered. */
 static int play(const char *line) {
     char word[8];
@@ -428,6 +651,7 @@ static int play(const char *line) {
 /* Plays standard input. `played` gets what is answered, where it isn't NULL. */
 static void play_all(FILE *played) {
     static row stores;
+    static root_row roots;
     char line[128];
     rheap_stats stats;
     int is_there = fgets(line, sizeof line, stdin) != NULL;
@@ -445,7 +669,20 @@ static void play_all(FILE *played) {
         for (at = 0; at < stores.length && played != NULL; at++) {
             fputs(stores.line[at], played);
         }
-        if (stores.length == 0) {
+        roots.length = 0;
+        while (is_there && stores.length == 0 && goes_on_with_roots(&roots, line)) {
+            is_there = fgets(line, sizeof line, stdin) != NULL;
+        }
+        if (roots.length > 1) {
+            play_roots(&roots);
+        } else if (roots.length == 1) {
+            (void)play(roots.line[0]);
+        }
+        for (at = 0; at < roots.length && played != NULL; at++) {
+            fputs(roots.line[at], played);
+        }
+        take_gone();
+        if (stores.length == 0 && roots.length == 0) {
             if (play(line) && played != NULL) {
                 fputs(line, played);
             }
@@ -458,6 +695,8 @@ static void play_all(FILE *played) {
                " rootwords %" PRIu64 "\n",
                commands, refused, stats.flips, stats.root_words);
     }
+    fprintf(stderr, "roots %" PRIu64 " done %" PRIu64 " tickets %" PRIu64 " told %" PRIu64 "\n",
+            root_rows, root_commands, taken_tickets, told_tickets);
     fprintf(stderr, "rows %" PRIu64 " done %" PRIu64 " in cycles %" PRIu64 " limited %" PRIu64 "\n",
             rows, done_rows, rows_in_cycles, limited_rows);
 }
@@ -474,6 +713,7 @@ int main(int argc, char **argv) {
     }
     must(size[1] == 0 ? rheap_open_sized(&heap, size[0], size[2], size[3], size[4], size[5])
                       : rheap_open(&heap, size[0], size[1], size[2], size[3], size[4], size[5]));
+    must(rheap_watch_room(&heap, TICKETS));
     insisting = strcmp(argv[1], "insist") == 0;
     collecting = insisting && size[1] == 0;
     if (strcmp(argv[1], "pace") == 0) {
@@ -494,6 +734,7 @@ int main(int argc, char **argv) {
     } else {
         play_all(NULL);
     }
+    take_all_gone(size[4], size[5]);
     must(rheap_close(&heap));
     return wrong;
 }

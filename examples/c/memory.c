@@ -1,6 +1,7 @@
 /* Memory that is refused, each piece in turn, at both calls that open a heap, and at both that run a
-   whole trace: the status tells it, and nothing is left taken. Each other call is made while all
-   memory is refused, and asks for none. Then the functions by which the library takes memory give,
+   whole trace: the status tells it, and nothing is left taken. So it is of rheap_watch_room, which
+   leaves the tickets that there are. Each other call is made while all memory is refused, and asks for
+   none. Then the functions by which the library takes memory give,
    resize and refuse blocks that are small and large. It is linked with --wrap for malloc, realloc,
    posix_memalign and free. Prints nothing where all is as it should be.
 
@@ -161,6 +162,9 @@ static void each_call(rheap *heap) {
     char text[14] = "thirteen here";
     uint32_t fields;
     uint32_t count;
+    static const uint32_t path[2] = {0, 1};
+    uint64_t ticket;
+    size_t done;
     uint8_t same;
     int n;
 
@@ -178,6 +182,7 @@ static void each_call(rheap *heap) {
         IS(rheap_store_ints(heap, 0, b, 1, numbers, 2), NO_FIELD);
         IS(rheap_store_root(heap, 0, a, 1, b), DONE);
         IS(rheap_load(heap, 0, c, a, 1, &value), DONE);
+        IS(rheap_load_untold(heap, 0, c, a, 1), DONE);
         IS(rheap_load(heap, 0, c, absent, 1, &value), NO_ROOT);
         IS(rheap_copy(heap, 0, c, a), DONE);
         IS(rheap_same(heap, 0, a, c, &same), DONE);
@@ -196,6 +201,15 @@ static void each_call(rheap *heap) {
         IS(rheap_stat(heap, &stats), DONE);
         IS(rheap_last_did(heap, &did), DONE);
         IS(rheap_pace(heap, &pacing), DONE);
+        IS(rheap_watch(heap, 0, a, &ticket), DONE);
+        IS(rheap_unwatch(heap, ticket), DONE);
+        IS(rheap_next_gone(heap, &ticket, &same), DONE);
+        IS(rheap_watch_room(heap, 0), DONE);
+        IS(rheap_store_roots(heap, 0, a, 0, b, 2, &done), DONE);
+        IS(rheap_insist_store_roots(heap, 0, a, 0, b, 2, &done), DONE);
+        IS(rheap_load_roots(heap, 0, c, a, 1, &value, 1, &done), DONE);
+        IS(rheap_load_path(heap, 0, c, a, path, 2, &done, &value), DONE);
+        IS(rheap_drop_roots(heap, 0, c, 1, &done), DONE);
         IS(rheap_drop(heap, 0, rheap_push(&scope)), DONE);
         IS(rheap_pop_to(&scope, 3), DONE);
         IS(opening(heap, n % 2), IS_OPEN);
@@ -215,6 +229,35 @@ static void each_call(rheap *heap) {
     IS(rheap_alloc(heap, 0, a, 2), SPACE_FULL);
     IS(rheap_insist_alloc_raw(heap, 0, a, 2), SPACE_FULL);
     IS(rheap_collect(heap), DONE);
+}
+
+/* Makes room for tickets where each piece of memory is refused once: nothing is changed then, and the
+   tickets that are there go on. */
+static void tickets(rheap *heap) {
+    rheap_root_id a = rheap_slot(0, 0);
+    uint64_t ticket;
+    uint8_t status = RHEAP_NO_MEMORY;
+    long before = taken;
+    all = 0;
+    for (refused_at = 1; refused_at < 100 && status == RHEAP_NO_MEMORY; refused_at++) {
+        asked = 0;
+        status = rheap_watch_room(heap, 2);
+    }
+    /* The last one refused none. Two pieces are taken: one of them stays of a try that was refused the
+       other. */
+    if (status != RHEAP_DONE || refused_at != 4 || taken != before + 2) {
+        printf("tickets: %s after %ld, with %ld asked for\n", rheap_name(status), refused_at, asked);
+        wrong++;
+    }
+    asked = 0;
+    IS(rheap_alloc(heap, 0, a, 2), DONE);
+    IS(rheap_watch(heap, 0, a, &ticket), DONE);
+    refused_at = 1;
+    all = 1;
+    is(__LINE__, rheap_watch_room(heap, 1), RHEAP_NO_MEMORY);
+    asked = 0;
+    IS(rheap_watch_room(heap, RHEAP_MAX_TICKETS), TICKETS_RANGE);
+    IS(rheap_unwatch(heap, ticket), DONE);
 }
 
 /* Opens and closes the heap where its spaces are large blocks, each refused once. */
@@ -357,8 +400,7 @@ int main(int argc, char **argv) {
         if (!opened(&heap, sized)) {
             return 1;
         }
-        refused_at = 1;
-        all = 1;
+        tickets(&heap);
         each_call(&heap);
         IS(rheap_close(&heap), DONE);
         IS(rheap_close(&heap), NOT_OPEN);

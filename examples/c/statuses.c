@@ -77,6 +77,7 @@ static void without_a_heap(rheap *heap) {
     IS(rheap_alloc_raw(heap, 0, root, 1), NOT_OPEN);
     IS(rheap_load(heap, 0, root, root, 0, &value), NOT_OPEN);
     TELLS(value, RHEAP_NIL, 0, 0);
+    IS(rheap_load_untold(heap, 0, root, root, 0), NOT_OPEN);
     IS(rheap_store_nil(heap, 0, root, 0), NOT_OPEN);
     IS(rheap_store_int(heap, 0, root, 0, 1), NOT_OPEN);
     IS(rheap_store_root(heap, 0, root, 0, root), NOT_OPEN);
@@ -209,6 +210,7 @@ static void mistakes(rheap *heap) {
     IS(rheap_alloc_raw(heap, 1, no_slot, 1), NO_ROOT);
     IS(rheap_load(heap, 1, mine, no_slot, 0, &value), NO_ROOT);
     TELLS(value, RHEAP_NIL, 0, 0);
+    IS(rheap_load_untold(heap, 1, mine, no_slot, 0), NO_ROOT);
     IS(rheap_store_nil(heap, 1, no_slot, 0), NO_ROOT);
     IS(rheap_store_int(heap, 1, no_owner, 0, 1), NO_ROOT);
     IS(rheap_store_root(heap, 1, mine, 0, no_slot), NO_ROOT);
@@ -235,6 +237,7 @@ static void mistakes(rheap *heap) {
     IS(rheap_alloc(heap, 1, theirs, 1), NOT_YOURS);
     IS(rheap_alloc_raw(heap, 1, theirs, 1), NOT_YOURS);
     IS(rheap_load(heap, 1, mine, theirs, 0, &value), NOT_YOURS);
+    IS(rheap_load_untold(heap, 1, mine, theirs, 0), NOT_YOURS);
     IS(rheap_store_nil(heap, 1, theirs, 0), NOT_YOURS);
     IS(rheap_store_int(heap, 1, theirs, 0, 1), NOT_YOURS);
     IS(rheap_store_root(heap, 1, theirs, 0, mine), NOT_YOURS);
@@ -252,6 +255,7 @@ static void mistakes(rheap *heap) {
     /* No object. */
     IS(rheap_load(heap, 1, mine, mine, 0, &value), NOT_OBJECT);
     TELLS(value, RHEAP_NIL, 0, 0);
+    IS(rheap_load_untold(heap, 1, mine, mine, 0), NOT_OBJECT);
     IS(rheap_store_nil(heap, 1, mine, 0), NOT_OBJECT);
     IS(rheap_store_int(heap, 1, mine, 0, 1), NOT_OBJECT);
     IS(rheap_store_root(heap, 1, mine, 0, mine), NOT_OBJECT);
@@ -273,6 +277,7 @@ static void mistakes(rheap *heap) {
     IS(rheap_alloc(heap, 1, mine, 2), DONE);
     IS(rheap_alloc_raw(heap, 1, other, 1), DONE);
     IS(rheap_load(heap, 1, mine, mine, 2, &value), NO_FIELD);
+    IS(rheap_load_untold(heap, 1, mine, mine, 2), NO_FIELD);
     IS(rheap_store_nil(heap, 1, mine, 2), NO_FIELD);
     IS(rheap_store_int(heap, 1, mine, UINT32_MAX, 1), NO_FIELD);
     IS(rheap_store_root(heap, 1, mine, 2, mine), NO_FIELD);
@@ -552,6 +557,9 @@ static void answers(rheap *heap) {
     TELLS(value, RHEAP_NUMBER, 0, RHEAP_MIN_INT);
     IS(rheap_root(heap, taken, &value), DONE);
     TELLS(value, RHEAP_NUMBER, 0, RHEAP_MIN_INT);
+    IS(rheap_load_untold(heap, 1, taken, mine, 1), DONE);
+    IS(rheap_same(heap, 1, taken, mine, &same), DONE);
+    EQUALS(same, 1);
     IS(rheap_store_nil(heap, 1, mine, 0), DONE);
     IS(rheap_insist_store_nil(heap, 1, mine, 1), DONE);
     IS(rheap_field(heap, mine, 0, &value), DONE);
@@ -797,12 +805,12 @@ static void names(void) {
         "DONE",          "NO_ROOT",      "NOT_YOURS",  "NOT_OBJECT", "NO_FIELD", "RAW_FIELD",
         "INT_RANGE",     "FIELDS_RANGE", "SPACE_FULL", "LOG_FULL",   "NUMBERS_SPENT",
         "EPOCHS_SPENT",  "NOT_OPEN",     "IS_OPEN",    "NO_PACE",    "BAD_SIZES",
-        "NO_MEMORY"};
+        "NO_MEMORY",     "WATCHES_FULL", "NOT_WATCHED", "TICKETS_RANGE"};
     int status;
 
     for (status = 0; status < 256; status++) {
         const char *name = rheap_name((uint8_t)status);
-        if (strcmp(name, status < 17 ? due[status] : "UNKNOWN") != 0) {
+        if (strcmp(name, status < 20 ? due[status] : "UNKNOWN") != 0) {
             printf("status %d is named %s\n", status, name);
             wrong = 1;
         }
@@ -825,6 +833,9 @@ static void names(void) {
     IS_NAMED(NO_PACE);
     IS_NAMED(BAD_SIZES);
     IS_NAMED(NO_MEMORY);
+    IS_NAMED(WATCHES_FULL);
+    IS_NAMED(NOT_WATCHED);
+    IS_NAMED(TICKETS_RANGE);
 }
 
 int main(void) {

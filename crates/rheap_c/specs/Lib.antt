@@ -1,4 +1,5 @@
 pub mod Held
+pub mod Lent
 pub mod Parted
 pub mod Told
 pub mod Called
@@ -11,3 +12,5 @@ pub mod Runs
 pub mod Room
 pub mod Several
 pub mod Rows
+pub mod Watching
+pub mod RootRows

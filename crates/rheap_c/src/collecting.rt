@@ -1,4 +1,4 @@
-//! Collecting on demand.
+//! Collecting on demand: `rheap_collect`, `rheap_increment`.
 
 ghost use Rattle.std.specs.Prelude.{◌≡◌};
 ghost use Rattle.rheap_c.specs.Collected.{Collects, Increments, IsCollection, IsIncrement, collect_status};

@@ -1,4 +1,7 @@
-//! Loads and stores.
+//! Loads and stores: `rheap_load`, `rheap_store_int` and the like.
+//!
+//! Most stores come while no cycle is on and are accepted. These are done in a few instructions,
+//! each other one by a call.
 
 ghost use Rattle.rh_layout.specs.declared.command.Command.TheVariants as commands;
 ghost use Rattle.rh_layout.specs.declared.command.Operand.TheVariants as operands;
@@ -6,7 +9,7 @@ ghost use Rattle.rheap_c.specs.Called.{IsDone, IsLoaded};
 ghost use Rattle.rheap_c.specs.Told.{root_of};
 
 use crate::handle::Rheap;
-use crate::status::{NOT_OPEN, answer_status};
+use crate::status::{DONE, NOT_OPEN, answer_status};
 use crate::value::{RheapRoot, RheapValue};
 use rh_layout::Operand;
 use std::alloc::Global;
@@ -16,7 +19,6 @@ use std::alloc::Global;
 #[unsafe(no_mangle)]
 pub extern "C" fn rheap_load(
     heap: &mut Rheap,
-    alloc: Global,
     owner: u32,
     dst: RheapRoot,
     src: RheapRoot,
@@ -26,23 +28,61 @@ pub extern "C" fn rheap_load(
     ensures { IsLoaded heap.old.state heap.new.state owner (root_of dst) (root_of src) field
         result value.new }
 {
-    match heap.take(alloc) {
-        None => {
-            *value = RheapValue::nil();
-            NOT_OPEN
-        }
-        Some(mut inner) => {
-            let told = inner.load(owner, dst.id(), src.id(), field);
-            heap.give(inner);
-            *value = RheapValue::told(&told);
-            answer_status(&told)
-        }
+    if heap.is_empty() {
+        *value = RheapValue::nil();
+        return NOT_OPEN;
     }
+    let told = heap.here().load(owner, dst.id(), src.id(), field);
+    *value = RheapValue::told(&told);
+    answer_status(&told)
+}
+
+/// As `rheap_load`, but no value is told.
+#[unsafe(no_mangle)]
+pub extern "C" fn rheap_load_untold(
+    heap: &mut Rheap,
+    owner: u32,
+    dst: RheapRoot,
+    src: RheapRoot,
+    field: u32,
+) -> u8
+    ensures { IsDone heap.old.state heap.new.state owner
+        (commands.Load (root_of dst) (root_of src) field) result }
+{
+    if heap.is_empty() {
+        return NOT_OPEN;
+    }
+    let told = heap.here().load(owner, dst.id(), src.id(), field);
+    answer_status(&told)
 }
 
 /// A field, counted from 0, of the object that `object` names becomes nil, as `PacedHeap::store`.
 #[unsafe(no_mangle)]
 pub extern "C" fn rheap_store_nil(
+    heap: &mut Rheap,
+    alloc: Global,
+    owner: u32,
+    object: RheapRoot,
+    field: u32,
+) -> u8
+    ensures { IsDone heap.old.state heap.new.state owner
+        (commands.Store (root_of object) field operands.Nil) result }
+{
+    if heap.is_empty() {
+        return NOT_OPEN;
+    }
+    match heap
+        .here()
+        .store_straight(owner, object.id(), field, Operand::Nil)
+    {
+        Some(_) => DONE,
+        None => store_nil_at_length(heap, alloc, owner, object, field),
+    }
+}
+
+/// As `rheap_store_nil`, also in a cycle, and where it is refused.
+#[inline(never)]
+fn store_nil_at_length(
     heap: &mut Rheap,
     alloc: Global,
     owner: u32,
@@ -76,6 +116,31 @@ pub extern "C" fn rheap_store_int(
     ensures { IsDone heap.old.state heap.new.state owner
         (commands.Store (root_of object) field (operands.Int number)) result }
 {
+    if heap.is_empty() {
+        return NOT_OPEN;
+    }
+    match heap
+        .here()
+        .store_straight(owner, object.id(), field, Operand::Int(number))
+    {
+        Some(_) => DONE,
+        None => store_int_at_length(heap, alloc, owner, object, field, number),
+    }
+}
+
+/// As `rheap_store_int`, also in a cycle, and where it is refused.
+#[inline(never)]
+fn store_int_at_length(
+    heap: &mut Rheap,
+    alloc: Global,
+    owner: u32,
+    object: RheapRoot,
+    field: u32,
+    number: i64,
+) -> u8
+    ensures { IsDone heap.old.state heap.new.state owner
+        (commands.Store (root_of object) field (operands.Int number)) result }
+{
     match heap.take(alloc) {
         None => NOT_OPEN,
         Some(mut inner) => {
@@ -90,6 +155,31 @@ pub extern "C" fn rheap_store_int(
 /// holds, as `PacedHeap::store`.
 #[unsafe(no_mangle)]
 pub extern "C" fn rheap_store_root(
+    heap: &mut Rheap,
+    alloc: Global,
+    owner: u32,
+    object: RheapRoot,
+    field: u32,
+    src: RheapRoot,
+) -> u8
+    ensures { IsDone heap.old.state heap.new.state owner
+        (commands.Store (root_of object) field (operands.Root (root_of src))) result }
+{
+    if heap.is_empty() {
+        return NOT_OPEN;
+    }
+    match heap
+        .here()
+        .store_straight(owner, object.id(), field, Operand::Root(src.id()))
+    {
+        Some(_) => DONE,
+        None => store_root_at_length(heap, alloc, owner, object, field, src),
+    }
+}
+
+/// As `rheap_store_root`, also in a cycle, and where it is refused.
+#[inline(never)]
+fn store_root_at_length(
     heap: &mut Rheap,
     alloc: Global,
     owner: u32,

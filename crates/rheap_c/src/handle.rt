@@ -4,6 +4,8 @@ ghost use Rattle.std.specs.Prelude.{◌≡◌, Option, IsSome, Some, None, is_no
 ghost use Rattle.std.specs.Option.{option_map};
 ghost use Rattle.rh_pace.specs.Paced.{PacedState};
 
+mod lending;
+
 use crate::parted::Parted;
 use rh_pace::PacedHeap;
 use std::alloc::Global;

@@ -1,4 +1,7 @@
-//! Commands that insist on room.
+//! Calls that insist on room: `rheap_insist_alloc`, `rheap_insist_store_int` and the like.
+//!
+//! Most come while no cycle is on and are accepted. These are done in a few instructions, each
+//! other one by a call.
 
 ghost use Rattle.std.specs.Prelude.{◌≡◌};
 ghost use Rattle.rh_layout.specs.declared.command.Command.TheVariants as commands;
@@ -9,7 +12,7 @@ ghost use Rattle.rheap_c.specs.Insisted.{IsInsisted, IsInsistedCall};
 ghost use Rattle.rheap_c.specs.Told.{root_of};
 
 use crate::handle::Rheap;
-use crate::status::{NOT_OPEN, answer_status};
+use crate::status::{DONE, NOT_OPEN, answer_status};
 use crate::value::RheapRoot;
 use rh_layout::{Command, Operand, Refusal, Reply, RootId};
 use rh_pace::{PacedHeap, wants_room};
@@ -19,6 +22,27 @@ use std::alloc::Global;
 /// `PacedHeap::insist`.
 #[unsafe(no_mangle)]
 pub extern "C" fn rheap_insist_alloc(
+    heap: &mut Rheap,
+    alloc: Global,
+    owner: u32,
+    dst: RheapRoot,
+    fields: u32,
+) -> u8
+    ensures { IsInsisted heap.old.state heap.new.state owner
+        (commands.Alloc (root_of dst) fields) result }
+{
+    if heap.is_empty() {
+        return NOT_OPEN;
+    }
+    match heap.here().alloc_straight(owner, dst.id(), fields) {
+        Some(_) => DONE,
+        None => insist_alloc_at_length(heap, alloc, owner, dst, fields),
+    }
+}
+
+/// As `rheap_insist_alloc`, also in a cycle, where one begins, and where it is refused.
+#[inline(never)]
+fn insist_alloc_at_length(
     heap: &mut Rheap,
     alloc: Global,
     owner: u32,
@@ -53,6 +77,27 @@ pub extern "C" fn rheap_insist_alloc_raw(
     ensures { IsInsisted heap.old.state heap.new.state owner
         (commands.Raw (root_of dst) fields) result }
 {
+    if heap.is_empty() {
+        return NOT_OPEN;
+    }
+    match heap.here().alloc_raw_straight(owner, dst.id(), fields) {
+        Some(_) => DONE,
+        None => insist_alloc_raw_at_length(heap, alloc, owner, dst, fields),
+    }
+}
+
+/// As `rheap_insist_alloc_raw`, also in a cycle, where one begins, and where it is refused.
+#[inline(never)]
+fn insist_alloc_raw_at_length(
+    heap: &mut Rheap,
+    alloc: Global,
+    owner: u32,
+    dst: RheapRoot,
+    fields: u32,
+) -> u8
+    ensures { IsInsisted heap.old.state heap.new.state owner
+        (commands.Raw (root_of dst) fields) result }
+{
     match heap.take(alloc) {
         None => NOT_OPEN,
         Some(mut inner) => {
@@ -69,6 +114,30 @@ pub extern "C" fn rheap_insist_alloc_raw(
 /// `PacedHeap::insist`.
 #[unsafe(no_mangle)]
 pub extern "C" fn rheap_insist_store_nil(
+    heap: &mut Rheap,
+    alloc: Global,
+    owner: u32,
+    object: RheapRoot,
+    field: u32,
+) -> u8
+    ensures { IsInsisted heap.old.state heap.new.state owner
+        (commands.Store (root_of object) field operands.Nil) result }
+{
+    if heap.is_empty() {
+        return NOT_OPEN;
+    }
+    match heap
+        .here()
+        .store_straight(owner, object.id(), field, Operand::Nil)
+    {
+        Some(_) => DONE,
+        None => insist_store_nil_at_length(heap, alloc, owner, object, field),
+    }
+}
+
+/// As `rheap_insist_store_nil`, also in a cycle, and where it is refused.
+#[inline(never)]
+fn insist_store_nil_at_length(
     heap: &mut Rheap,
     alloc: Global,
     owner: u32,
@@ -95,6 +164,31 @@ pub extern "C" fn rheap_insist_store_int(
     ensures { IsInsisted heap.old.state heap.new.state owner
         (commands.Store (root_of object) field (operands.Int number)) result }
 {
+    if heap.is_empty() {
+        return NOT_OPEN;
+    }
+    match heap
+        .here()
+        .store_straight(owner, object.id(), field, Operand::Int(number))
+    {
+        Some(_) => DONE,
+        None => insist_store_int_at_length(heap, alloc, owner, object, field, number),
+    }
+}
+
+/// As `rheap_insist_store_int`, also in a cycle, and where it is refused.
+#[inline(never)]
+fn insist_store_int_at_length(
+    heap: &mut Rheap,
+    alloc: Global,
+    owner: u32,
+    object: RheapRoot,
+    field: u32,
+    number: i64,
+) -> u8
+    ensures { IsInsisted heap.old.state heap.new.state owner
+        (commands.Store (root_of object) field (operands.Int number)) result }
+{
     insist_store(heap, alloc, owner, object.id(), field, Operand::Int(number))
 }
 
@@ -102,6 +196,31 @@ pub extern "C" fn rheap_insist_store_int(
 /// `PacedHeap::insist`.
 #[unsafe(no_mangle)]
 pub extern "C" fn rheap_insist_store_root(
+    heap: &mut Rheap,
+    alloc: Global,
+    owner: u32,
+    object: RheapRoot,
+    field: u32,
+    src: RheapRoot,
+) -> u8
+    ensures { IsInsisted heap.old.state heap.new.state owner
+        (commands.Store (root_of object) field (operands.Root (root_of src))) result }
+{
+    if heap.is_empty() {
+        return NOT_OPEN;
+    }
+    match heap
+        .here()
+        .store_straight(owner, object.id(), field, Operand::Root(src.id()))
+    {
+        Some(_) => DONE,
+        None => insist_store_root_at_length(heap, alloc, owner, object, field, src),
+    }
+}
+
+/// As `rheap_insist_store_root`, also in a cycle, and where it is refused.
+#[inline(never)]
+fn insist_store_root_at_length(
     heap: &mut Rheap,
     alloc: Global,
     owner: u32,
@@ -154,7 +273,7 @@ fn insist_store(
 /// Goes on with a command that was tried: where it found no room, it is insisted on. That tries it
 /// once more, to the same answer; most commands are answered at once, without this.
 #[inline(always)]
-fn insist(
+pub(crate) fn insist(
     heap: &mut PacedHeap<Global>,
     owner: u32,
     command: &Command,

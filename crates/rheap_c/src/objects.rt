@@ -1,11 +1,15 @@
-//! New objects, and roots.
+//! New objects, and copies and drops of roots: `rheap_alloc`, `rheap_copy`, `rheap_drop`,
+//! `rheap_same`.
+//!
+//! Most objects are made where no cycle is on and none begins. They are made in a few instructions,
+//! and each other one by a call.
 
 ghost use Rattle.rh_layout.specs.declared.command.Command.TheVariants as commands;
 ghost use Rattle.rheap_c.specs.Called.{IsCompared, IsDone};
 ghost use Rattle.rheap_c.specs.Told.{root_of};
 
 use crate::handle::Rheap;
-use crate::status::{NOT_OPEN, answer_status};
+use crate::status::{DONE, NOT_OPEN, answer_status};
 use crate::value::{RheapRoot, sameness};
 use std::alloc::Global;
 
@@ -18,6 +22,21 @@ pub extern "C" fn rheap_alloc(
     dst: RheapRoot,
     fields: u32,
 ) -> u8
+    ensures { IsDone heap.old.state heap.new.state owner (commands.Alloc (root_of dst) fields)
+        result }
+{
+    if heap.is_empty() {
+        return NOT_OPEN;
+    }
+    match heap.here().alloc_straight(owner, dst.id(), fields) {
+        Some(_) => DONE,
+        None => alloc_at_length(heap, alloc, owner, dst, fields),
+    }
+}
+
+/// As `rheap_alloc`, also in a cycle, where one begins, and where it is refused.
+#[inline(never)]
+fn alloc_at_length(heap: &mut Rheap, alloc: Global, owner: u32, dst: RheapRoot, fields: u32) -> u8
     ensures { IsDone heap.old.state heap.new.state owner (commands.Alloc (root_of dst) fields)
         result }
 {
@@ -43,6 +62,27 @@ pub extern "C" fn rheap_alloc_raw(
     ensures { IsDone heap.old.state heap.new.state owner (commands.Raw (root_of dst) fields)
         result }
 {
+    if heap.is_empty() {
+        return NOT_OPEN;
+    }
+    match heap.here().alloc_raw_straight(owner, dst.id(), fields) {
+        Some(_) => DONE,
+        None => alloc_raw_at_length(heap, alloc, owner, dst, fields),
+    }
+}
+
+/// As `rheap_alloc_raw`, also in a cycle, where one begins, and where it is refused.
+#[inline(never)]
+fn alloc_raw_at_length(
+    heap: &mut Rheap,
+    alloc: Global,
+    owner: u32,
+    dst: RheapRoot,
+    fields: u32,
+) -> u8
+    ensures { IsDone heap.old.state heap.new.state owner (commands.Raw (root_of dst) fields)
+        result }
+{
     match heap.take(alloc) {
         None => NOT_OPEN,
         Some(mut inner) => {
@@ -55,46 +95,33 @@ pub extern "C" fn rheap_alloc_raw(
 
 /// The root `dst` takes the value that `src` holds, as `PacedHeap::copy`.
 #[unsafe(no_mangle)]
-pub extern "C" fn rheap_copy(
-    heap: &mut Rheap,
-    alloc: Global,
-    owner: u32,
-    dst: RheapRoot,
-    src: RheapRoot,
-) -> u8
+pub extern "C" fn rheap_copy(heap: &mut Rheap, owner: u32, dst: RheapRoot, src: RheapRoot) -> u8
     ensures { IsDone heap.old.state heap.new.state owner
         (commands.Copy (root_of dst) (root_of src)) result }
 {
-    match heap.take(alloc) {
-        None => NOT_OPEN,
-        Some(mut inner) => {
-            let told = inner.copy(owner, dst.id(), src.id());
-            heap.give(inner);
-            answer_status(&told)
-        }
+    if heap.is_empty() {
+        return NOT_OPEN;
     }
+    let told = heap.here().copy(owner, dst.id(), src.id());
+    answer_status(&told)
 }
 
 /// The root becomes nil, as `PacedHeap::drop`.
 #[unsafe(no_mangle)]
-pub extern "C" fn rheap_drop(heap: &mut Rheap, alloc: Global, owner: u32, root: RheapRoot) -> u8
+pub extern "C" fn rheap_drop(heap: &mut Rheap, owner: u32, root: RheapRoot) -> u8
     ensures { IsDone heap.old.state heap.new.state owner (commands.Drop (root_of root)) result }
 {
-    match heap.take(alloc) {
-        None => NOT_OPEN,
-        Some(mut inner) => {
-            let told = inner.drop(owner, root.id());
-            heap.give(inner);
-            answer_status(&told)
-        }
+    if heap.is_empty() {
+        return NOT_OPEN;
     }
+    let told = heap.here().drop(owner, root.id());
+    answer_status(&told)
 }
 
 /// Whether two roots hold equal values, as `PacedHeap::same`: `same` is 1 then, and else 0.
 #[unsafe(no_mangle)]
 pub extern "C" fn rheap_same(
     heap: &mut Rheap,
-    alloc: Global,
     owner: u32,
     a: RheapRoot,
     b: RheapRoot,
@@ -103,16 +130,11 @@ pub extern "C" fn rheap_same(
     ensures { IsCompared heap.old.state heap.new.state owner (root_of a) (root_of b) result
         same.new }
 {
-    match heap.take(alloc) {
-        None => {
-            *same = 0;
-            NOT_OPEN
-        }
-        Some(mut inner) => {
-            let told = inner.same(owner, a.id(), b.id());
-            heap.give(inner);
-            *same = sameness(&told);
-            answer_status(&told)
-        }
+    if heap.is_empty() {
+        *same = 0;
+        return NOT_OPEN;
     }
+    let told = heap.here().same(owner, a.id(), b.id());
+    *same = sameness(&told);
+    answer_status(&told)
 }

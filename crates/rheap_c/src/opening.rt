@@ -1,4 +1,4 @@
-//! Opening a heap, and closing it.
+//! Opening a heap, and closing it: `rheap_open`, `rheap_open_sized`, `rheap_close`.
 
 ghost use Rattle.std.specs.Prelude.{◌≡◌, ◌+◌, IfErr, IfOk, None};
 ghost use Rattle.rh_pace.specs.Pace.{CanKeepUp};

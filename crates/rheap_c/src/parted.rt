@@ -1,4 +1,4 @@
-//! A box on its way into a handle.
+//! A box that is kept as an address alone, on its way into a handle.
 
 ghost use Rattle.std.specs.Prelude.{◌≡◌};
 ghost use Rattle.rheap_c.specs.Parted.{parted};

@@ -1,4 +1,4 @@
-//! What roots hold, and fields of the objects that they name.
+//! What roots and fields hold: `rheap_root`, `rheap_field`, `rheap_peek`.
 
 ghost use Rattle.std.specs.Prelude.{◌≡◌};
 ghost use Rattle.rh_model.specs.Graph.{reply_of};
@@ -14,27 +14,17 @@ use std::alloc::Global;
 
 /// What the root holds, as `PacedHeap::root`.
 #[unsafe(no_mangle)]
-pub extern "C" fn rheap_root(
-    heap: &mut Rheap,
-    alloc: Global,
-    root: RheapRoot,
-    value: &mut RheapValue,
-) -> u8
+pub extern "C" fn rheap_root(heap: &mut Rheap, root: RheapRoot, value: &mut RheapValue) -> u8
     ensures { IsAnswered (λ s. root_answer s (root_of root)) heap.old.state heap.new.state result
         value.new }
 {
-    match heap.take(alloc) {
-        None => {
-            *value = RheapValue::nil();
-            NOT_OPEN
-        }
-        Some(inner) => {
-            let told = told_of_root(&inner, root.id());
-            heap.give(inner);
-            *value = RheapValue::told(&told);
-            answer_status(&told)
-        }
+    if heap.is_empty() {
+        *value = RheapValue::nil();
+        return NOT_OPEN;
     }
+    let told = told_of_root(heap.here(), root.id());
+    *value = RheapValue::told(&told);
+    answer_status(&told)
 }
 
 /// What a field, counted from 0, of the object holds that the root names, without a root for the
@@ -42,7 +32,6 @@ pub extern "C" fn rheap_root(
 #[unsafe(no_mangle)]
 pub extern "C" fn rheap_field(
     heap: &mut Rheap,
-    alloc: Global,
     root: RheapRoot,
     field: u32,
     value: &mut RheapValue,
@@ -50,18 +39,13 @@ pub extern "C" fn rheap_field(
     ensures { IsAnswered (λ s. field_answer s (root_of root) field) heap.old.state heap.new.state
         result value.new }
 {
-    match heap.take(alloc) {
-        None => {
-            *value = RheapValue::nil();
-            NOT_OPEN
-        }
-        Some(inner) => {
-            let told = told_of_field(&inner, root.id(), field);
-            heap.give(inner);
-            *value = RheapValue::told(&told);
-            answer_status(&told)
-        }
+    if heap.is_empty() {
+        *value = RheapValue::nil();
+        return NOT_OPEN;
     }
+    let told = told_of_field(heap.here(), root.id(), field);
+    *value = RheapValue::told(&told);
+    answer_status(&told)
 }
 
 /// What a field, counted from 0, of the object holds that the owner's root `src` names, without a
@@ -69,7 +53,6 @@ pub extern "C" fn rheap_field(
 #[unsafe(no_mangle)]
 pub extern "C" fn rheap_peek(
     heap: &mut Rheap,
-    alloc: Global,
     owner: u32,
     src: RheapRoot,
     field: u32,
@@ -78,18 +61,13 @@ pub extern "C" fn rheap_peek(
     ensures { IsAnswered (λ s. peek_answer s owner (root_of src) field) heap.old.state
         heap.new.state result value.new }
 {
-    match heap.take(alloc) {
-        None => {
-            *value = RheapValue::nil();
-            NOT_OPEN
-        }
-        Some(inner) => {
-            let told = told_of_peek(&inner, owner, src.id(), field);
-            heap.give(inner);
-            *value = RheapValue::told(&told);
-            answer_status(&told)
-        }
+    if heap.is_empty() {
+        *value = RheapValue::nil();
+        return NOT_OPEN;
     }
+    let told = told_of_peek(heap.here(), owner, src.id(), field);
+    *value = RheapValue::told(&told);
+    answer_status(&told)
 }
 
 /// How many fields the object has that the root names.

@@ -1,4 +1,4 @@
-//! Whole numbers in several fields of one object.
+//! Whole numbers in several fields of one object: `rheap_store_ints`, `rheap_load_ints`.
 
 ghost use Rattle.std.specs.Prelude.{◌≡◌, ◌≢◌, ◌⊎◌, length, Some};
 ghost use Rattle.rh_layout.specs.declared.refusal.Refusal.TheVariants.{LogFull};

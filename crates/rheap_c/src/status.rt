@@ -1,4 +1,5 @@
-//! The statuses that calls answer: 0, a refusal's number from 1 to 10, or one of the border's own.
+//! The statuses that calls return: 0, a refusal's number from 1 to 10, or one of the calls from C
+//! alone.
 
 ghost use Rattle.std.specs.Prelude.{◌≡◌};
 ghost use Rattle.rheap_c.specs.Told.{status_of};
@@ -25,6 +26,15 @@ pub const BAD_SIZES: u8 = 15;
 
 /// Memory was refused.
 pub const NO_MEMORY: u8 = 16;
+
+/// No ticket is free.
+pub const WATCHES_FULL: u8 = 17;
+
+/// The ticket watches no object: it isn't there, it is free, or its object is gone.
+pub const NOT_WATCHED: u8 = 18;
+
+/// A heap may not have so many tickets.
+pub const TICKETS_RANGE: u8 = 19;
 
 /// The status of what a heap answered: 0, or the number of the refusal.
 #[inline(always)]

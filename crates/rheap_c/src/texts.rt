@@ -1,4 +1,4 @@
-//! The bytes of a text in several fields of one object.
+//! The bytes of a text in several fields of one object: `rheap_store_text`, `rheap_load_text`.
 
 ghost use Rattle.std.specs.Prelude.{length};
 ghost use Rattle.rh_mutator.specs.Mutator.{graph_of};

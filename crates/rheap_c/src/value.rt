@@ -78,7 +78,7 @@ impl RheapValue {
 
     /// The value of a reply: nil where it has none.
     #[inline(always)]
-    fn of(reply: Reply) -> RheapValue
+    pub(crate) fn of(reply: Reply) -> RheapValue
         ensures { result ≡ value_of_reply reply }
     {
         match reply {

@@ -7,8 +7,9 @@ use std::fmt;
 /// What a call returns that may be refused.
 pub type Result<T> = std::result::Result<T, Error>;
 
-/// Why a call was refused, with the numbers that explain it. A refused call changed nothing; the
-/// `insist_` calls alone may have collected before.
+/// Why a call was refused, with the numbers that explain it. A refused call changed nothing. But the
+/// `insist_` calls may have collected before, and [`Heap::load_roots`](crate::Heap::load_roots) and its
+/// like leave done what they did before the refusal.
 ///
 /// Its [`Display`](fmt::Display) is one line without a full stop.
 ///
@@ -120,11 +121,18 @@ pub enum Error {
     },
     /// Memory was refused.
     NoMemory,
+    /// No ticket is free: [`Heap::watch_room`](crate::Heap::watch_room) makes more.
+    WatchesFull,
+    /// A heap may not have so many tickets: more than [`MAX_TICKETS`](crate::MAX_TICKETS).
+    TicketsRange {
+        /// How many more were asked for.
+        additional: u32,
+    },
 }
 
 impl Error {
-    /// Whether a limit refused the call: `SpaceFull`, `LogFull`, `NumbersSpent`, `EpochsSpent` or
-    /// `NoMemory`. All others are mistakes of the program.
+    /// Whether a limit refused the call: `SpaceFull`, `LogFull`, `NumbersSpent`, `EpochsSpent`,
+    /// `NoMemory` or `WatchesFull`. All others are mistakes of the program.
     pub fn is_limit(&self) -> bool {
         matches!(
             self,
@@ -133,6 +141,7 @@ impl Error {
                 | Error::NumbersSpent
                 | Error::EpochsSpent
                 | Error::NoMemory
+                | Error::WatchesFull
         )
     }
 }
@@ -233,6 +242,12 @@ impl fmt::Display for Error {
                 Ok(())
             }
             Error::NoMemory => write!(f, "memory was refused"),
+            Error::WatchesFull => write!(f, "no ticket is free"),
+            Error::TicketsRange { additional } => write!(
+                f,
+                "{additional} more tickets were asked for, and a heap may have {}",
+                raw::MAX_TICKETS
+            ),
         }
     }
 }

@@ -9,7 +9,7 @@ use std::iter::FusedIterator;
 use std::ptr::null_mut;
 
 /// A heap that collects by itself. It is open from when it is made until it is dropped, which frees
-/// its memory. Only making one takes memory.
+/// its memory. Only making one and [`Heap::watch_room`] take memory.
 ///
 /// It may go to another thread, and isn't [`Sync`].
 // What each call below relies on, and this type keeps:
@@ -32,7 +32,7 @@ pub struct Heap {
 unsafe impl Send for Heap {}
 
 /// What a refused call asked for.
-struct Asked {
+pub(crate) struct Asked {
     first: Root,
     second: Root,
     field: u32,
@@ -42,7 +42,7 @@ struct Asked {
 
 impl Asked {
     #[inline]
-    fn of(first: Root, second: Root) -> Asked {
+    pub(crate) fn of(first: Root, second: Root) -> Asked {
         Asked {
             first,
             second,
@@ -51,12 +51,21 @@ impl Asked {
             fields: 0,
         }
     }
+
+    /// The same of a field.
+    #[inline]
+    pub(crate) fn of_field(first: Root, second: Root, field: u32) -> Asked {
+        Asked {
+            field,
+            ..Asked::of(first, second)
+        }
+    }
 }
 
 /// The owner for whom a call on these roots is made. Where both have owners of their own, the call
 /// is refused.
 #[inline]
-fn owner_of(first: Root, second: Root) -> u32 {
+pub(crate) fn owner_of(first: Root, second: Root) -> u32 {
     if first.is_shared() {
         second.owner()
     } else {
@@ -66,7 +75,7 @@ fn owner_of(first: Root, second: Root) -> u32 {
 
 /// Ends the program if the library returned what its header doesn't list for the call.
 #[cold]
-fn unlisted(status: u8) -> ! {
+pub(crate) fn unlisted(status: u8) -> ! {
     unreachable!("rheap: the library returned status {status}, which the call hasn't")
 }
 
@@ -342,6 +351,44 @@ impl Heap {
         };
         match status {
             raw::DONE => Ok(Value::told(value)),
+            status => Err(self.refused(
+                status,
+                src,
+                Asked {
+                    field,
+                    ..Asked::of(dst, src)
+                },
+            )),
+        }
+    }
+
+    /// As [`load`](Heap::load), where the value isn't looked at: no value is returned, which takes
+    /// fewer instructions.
+    ///
+    /// ```
+    /// # fn main() -> Result<(), rheap::Error> {
+    /// # use rheap::{Heap, Sizes};
+    /// # let mut heap = Heap::sized(Sizes { words: 100, biggest: 4, ratio: 32, owners: 1, slots: 8 })?;
+    /// # let (pair, other) = (heap.owner(0)?.slot(0)?, heap.owner(0)?.slot(1)?);
+    /// heap.alloc(pair, 2)?;
+    /// heap.store(pair, 1, pair)?;
+    /// heap.load_untold(other, pair, 1)?;
+    /// assert!(heap.same(other, pair)?);
+    /// # Ok(())
+    /// # }
+    /// ```
+    ///
+    /// # Errors
+    ///
+    /// As [`load`](Heap::load).
+    #[inline]
+    pub fn load_untold(&mut self, dst: Root, src: Root, field: u32) -> Result<()> {
+        // SAFETY: open and alone, as at `Heap`.
+        let status = unsafe {
+            raw::rheap_load_untold(self.at(), owner_of(dst, src), dst.id(), src.id(), field)
+        };
+        match status {
+            raw::DONE => Ok(()),
             status => Err(self.refused(
                 status,
                 src,
@@ -877,7 +924,7 @@ impl Heap {
 
 /// A call that can't be refused was done.
 #[inline]
-fn done(status: u8) {
+pub(crate) fn done(status: u8) {
     if status != raw::DONE {
         unlisted(status);
     }
@@ -886,7 +933,7 @@ fn done(status: u8) {
 impl Heap {
     /// The handle, for one call.
     #[inline]
-    fn at(&self) -> *mut raw::Rheap {
+    pub(crate) fn at(&self) -> *mut raw::Rheap {
         self.raw.get()
     }
 
@@ -949,7 +996,7 @@ impl Heap {
     /// Why a call was refused. The call changed nothing since, so the numbers are those that it met.
     /// `object` is the root whose object it asked for.
     #[cold]
-    fn refused(&self, status: u8, object: Root, asked: Asked) -> Error {
+    pub(crate) fn refused(&self, status: u8, object: Root, asked: Asked) -> Error {
         let Sizes { owners, slots, .. } = self.sizes;
         let Asked {
             first,

@@ -52,6 +52,16 @@
 //! [`Heap::load_ints`] reads them. [`Heap::store_text`] and [`Heap::load_text`] do so with bytes, seven
 //! to a field. [`Heap::alloc_raw`] makes an object for them; [`text_fields`] says of how many fields.
 //!
+//! # Roots in a row
+//!
+//! [`Heap::load_roots`] and [`Heap::store_roots`] move so many roots from and to fields in one call, as
+//! a frame's registers, and [`Heap::load_path`] follows fields from object to object.
+//!
+//! # Files and the like
+//!
+//! [`Heap::watch`] returns a ticket for an object, beside which the program keeps what it has, such as an
+//! open file. [`Heap::gone`] yields the tickets whose objects the heap has lost, each once.
+//!
 //! # Whole traces
 //!
 //! [`run`] and [`run_paced`] take a text of commands, run it on a heap of its own, and return what the
@@ -59,8 +69,9 @@
 //!
 //! # Refusals
 //!
-//! A refused call returns an [`Error`] with the numbers that explain it. It changes nothing; the
-//! `insist_` calls alone may have collected before.
+//! A refused call returns an [`Error`] with the numbers that explain it. It changes nothing, with two
+//! exceptions: the `insist_` calls may have collected before, and a call on roots in a row or on a path
+//! leaves done what it did before the refusal.
 //!
 //! # Work
 //!
@@ -100,9 +111,11 @@ mod memory;
 mod numbers;
 mod raw;
 mod root;
+mod rows;
 mod text;
 mod trace;
 mod value;
+mod watching;
 
 pub use error::{Error, Result};
 pub use heap::{Fields, Heap};
@@ -111,6 +124,7 @@ pub use root::{Owner, Root};
 pub use text::text_fields;
 pub use trace::{run, run_paced, TraceError};
 pub use value::{Operand, Value};
+pub use watching::{Gone, Ticket};
 
 /// The most words that a space has.
 pub const MAX_WORDS: u32 = raw::MAX_WORDS;
@@ -120,6 +134,8 @@ pub const MAX_OWNERS: u32 = raw::MAX_OWNERS;
 pub const MAX_SLOTS: u32 = raw::MAX_SLOTS;
 /// The most fields of an object.
 pub const MAX_FIELDS: u32 = raw::MAX_FIELDS;
+/// The most tickets of a heap.
+pub const MAX_TICKETS: u32 = raw::MAX_TICKETS;
 /// The greatest number that a field holds: 2^61 - 1.
 pub const MAX_INT: i64 = raw::MAX_INT;
 /// The least number that a field holds: -2^61.

@@ -22,6 +22,9 @@ pub const IS_OPEN: u8 = 13;
 pub const NO_PACE: u8 = 14;
 pub const BAD_SIZES: u8 = 15;
 pub const NO_MEMORY: u8 = 16;
+pub const WATCHES_FULL: u8 = 17;
+pub const NOT_WATCHED: u8 = 18;
+pub const TICKETS_RANGE: u8 = 19;
 
 pub const RUN_DONE: u8 = 0;
 pub const RUN_FAULT: u8 = 1;
@@ -37,6 +40,7 @@ pub const MAX_WORDS: u32 = 16_777_216;
 pub const MAX_OWNERS: u32 = 16;
 pub const MAX_SLOTS: u32 = 256;
 pub const MAX_FIELDS: u32 = 4095;
+pub const MAX_TICKETS: u32 = 65_536;
 pub const MAX_INT: i64 = 2_305_843_009_213_693_951;
 pub const MIN_INT: i64 = -MAX_INT - 1;
 
@@ -135,6 +139,13 @@ extern "C" {
         field: u32,
         value: *mut RheapValue,
     ) -> u8;
+    pub fn rheap_load_untold(
+        heap: *mut Rheap,
+        owner: u32,
+        dst: RheapRootId,
+        src: RheapRootId,
+        field: u32,
+    ) -> u8;
     pub fn rheap_store_nil(heap: *mut Rheap, owner: u32, object: RheapRootId, field: u32) -> u8;
     pub fn rheap_store_int(
         heap: *mut Rheap,
@@ -202,6 +213,52 @@ extern "C" {
         count: *mut u32,
     ) -> u8;
 
+    pub fn rheap_load_roots(
+        heap: *mut Rheap,
+        owner: u32,
+        first: RheapRootId,
+        src: RheapRootId,
+        from: u32,
+        values: *mut RheapValue,
+        length: usize,
+        count: *mut usize,
+    ) -> u8;
+    pub fn rheap_store_roots(
+        heap: *mut Rheap,
+        owner: u32,
+        object: RheapRootId,
+        from: u32,
+        first: RheapRootId,
+        length: usize,
+        count: *mut usize,
+    ) -> u8;
+    pub fn rheap_insist_store_roots(
+        heap: *mut Rheap,
+        owner: u32,
+        object: RheapRootId,
+        from: u32,
+        first: RheapRootId,
+        length: usize,
+        count: *mut usize,
+    ) -> u8;
+    pub fn rheap_drop_roots(
+        heap: *mut Rheap,
+        owner: u32,
+        first: RheapRootId,
+        length: usize,
+        count: *mut usize,
+    ) -> u8;
+    pub fn rheap_load_path(
+        heap: *mut Rheap,
+        owner: u32,
+        dst: RheapRootId,
+        src: RheapRootId,
+        fields: *const u32,
+        length: usize,
+        count: *mut usize,
+        value: *mut RheapValue,
+    ) -> u8;
+
     pub fn rheap_copy(heap: *mut Rheap, owner: u32, dst: RheapRootId, src: RheapRootId) -> u8;
     pub fn rheap_drop(heap: *mut Rheap, owner: u32, root: RheapRootId) -> u8;
     pub fn rheap_same(
@@ -257,6 +314,11 @@ extern "C" {
     ) -> u8;
 
     pub fn rheap_room(heap: *mut Rheap, fields: u32, room: *mut RheapWords) -> u8;
+
+    pub fn rheap_watch_room(heap: *mut Rheap, additional: u32) -> u8;
+    pub fn rheap_watch(heap: *mut Rheap, owner: u32, root: RheapRootId, ticket: *mut u64) -> u8;
+    pub fn rheap_unwatch(heap: *mut Rheap, ticket: u64) -> u8;
+    pub fn rheap_next_gone(heap: *mut Rheap, ticket: *mut u64, is: *mut u8) -> u8;
 
     pub fn rheap_collect(heap: *mut Rheap) -> u8;
     pub fn rheap_increment(heap: *mut Rheap) -> u8;

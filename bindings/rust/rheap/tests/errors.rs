@@ -168,7 +168,9 @@ fn roots_of_another_heap() {
         assert_eq!(heap.insist_alloc(foreign, 1), Err(due));
         assert_eq!(heap.insist_alloc_raw(foreign, 1), Err(due));
         assert_eq!(heap.load(mine, foreign, 0), Err(due));
+        assert_eq!(heap.load_untold(mine, foreign, 0), Err(due));
         assert_eq!(heap.load(foreign, mine, 0), Err(due));
+        assert_eq!(heap.load_untold(foreign, mine, 0), Err(due));
         assert_eq!(heap.store(foreign, 0, Operand::Nil), Err(due));
         assert_eq!(heap.store(foreign, 0, 1), Err(due));
         assert_eq!(heap.store(foreign, 0, mine), Err(due));
@@ -204,6 +206,7 @@ fn roots_of_two_owners() {
     let (first, second) = (root(&heap, 1, 0), root(&heap, 2, 3));
     let due = Error::NotYours { first, second };
     assert_eq!(heap.load(first, second, 0), Err(due));
+    assert_eq!(heap.load_untold(first, second, 0), Err(due));
     assert_eq!(heap.store(first, 0, second), Err(due));
     assert_eq!(heap.insist_store(first, 0, second), Err(due));
     assert_eq!(heap.copy(first, second), Err(due));
@@ -220,6 +223,7 @@ fn no_object() {
         holds: Value::Nil,
     };
     assert_eq!(heap.load(holder, object, 0), Err(nil));
+    assert_eq!(heap.load_untold(holder, object, 0), Err(nil));
     assert_eq!(heap.store(object, 0, Operand::Nil), Err(nil));
     assert_eq!(heap.store(object, 0, 1), Err(nil));
     assert_eq!(heap.store(object, 0, holder), Err(nil));
@@ -249,6 +253,7 @@ fn no_field() {
         fields: 2,
     };
     assert_eq!(heap.load(other, object, 2), Err(due));
+    assert_eq!(heap.load_untold(other, object, 2), Err(due));
     assert_eq!(heap.store(object, 2, Operand::Nil), Err(due));
     assert_eq!(heap.store(object, 2, 1), Err(due));
     assert_eq!(heap.store(object, 2, other), Err(due));
