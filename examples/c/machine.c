@@ -111,7 +111,14 @@ static fault push(machine *m, uint32_t from) {
 
 /* A field that was popped keeps its value until the next push there: it may keep an object alive for
    a while, and is no mistake. */
-static fault pop(machine *m, uint32_t into, rheap_value *value) {
+static fault pop(machine *m, uint32_t into) {
+    m->height--;
+    HEAP(rheap_load_untold(&m->heap, MACHINE, reg(into), reg(FRAME), m->height));
+    return NULL;
+}
+
+/* The same where the machine looks at the value. */
+static fault pop_value(machine *m, uint32_t into, rheap_value *value) {
     m->height--;
     HEAP(rheap_load(&m->heap, MACHINE, reg(into), reg(FRAME), m->height, value));
     return NULL;
@@ -198,11 +205,10 @@ static fault make_frame(machine *m, const function *f) {
 /* Pops the parameters into a new frame, which runs then. */
 static fault call(machine *m, int64_t number) {
     const function *f = &m->functions[number];
-    rheap_value value;
     uint32_t left;
     TRY(make_frame(m, f));
     for (left = f->parameters; left > 0; left--) {
-        TRY(pop(m, A, &value));
+        TRY(pop(m, A));
         HEAP(rheap_insist_store_root(&m->heap, MACHINE, reg(NEW), LOCALS + left - 1, reg(A)));
     }
     HEAP(rheap_insist_store_root(&m->heap, MACHINE, reg(NEW), CALLER, reg(FRAME)));
@@ -249,11 +255,11 @@ static fault step(machine *m, instruction next, int *ended) {
         TRY(make_text(m, A, m->texts[next.operand], strlen(m->texts[next.operand])));
         return push(m, A);
     case GET:
-        HEAP(rheap_load(&m->heap, MACHINE, reg(A), reg(FRAME), LOCALS + (uint32_t)next.operand,
-                        &value));
+        HEAP(rheap_load_untold(&m->heap, MACHINE, reg(A), reg(FRAME),
+                               LOCALS + (uint32_t)next.operand));
         return push(m, A);
     case SET:
-        TRY(pop(m, A, &value));
+        TRY(pop(m, A));
         HEAP(rheap_insist_store_root(&m->heap, MACHINE, reg(FRAME),
                                      LOCALS + (uint32_t)next.operand, reg(A)));
         return NULL;
@@ -267,23 +273,23 @@ static fault step(machine *m, instruction next, int *ended) {
         return push_int(m, a < b);
     case CONS:
         HEAP(rheap_insist_alloc(&m->heap, MACHINE, reg(NEW), CELL));
-        TRY(pop(m, B, &value));
-        TRY(pop(m, A, &value));
+        TRY(pop(m, B));
+        TRY(pop(m, A));
         HEAP(rheap_insist_store_root(&m->heap, MACHINE, reg(NEW), HEAD, reg(A)));
         HEAP(rheap_insist_store_root(&m->heap, MACHINE, reg(NEW), TAIL, reg(B)));
         return push(m, NEW);
     case FIRST:
     case REST:
         /* What is no list is told by the heap: NOT_OBJECT. */
-        TRY(pop(m, A, &value));
-        HEAP(rheap_load(&m->heap, MACHINE, reg(A), reg(A), next.op == FIRST ? HEAD : TAIL, &value));
+        TRY(pop(m, A));
+        HEAP(rheap_load_untold(&m->heap, MACHINE, reg(A), reg(A), next.op == FIRST ? HEAD : TAIL));
         return push(m, A);
     case IS_NIL:
-        TRY(pop(m, A, &value));
+        TRY(pop_value(m, A, &value));
         return push_int(m, value.kind == RHEAP_NIL);
     case JOIN:
-        TRY(pop(m, B, &value));
-        TRY(pop(m, A, &value));
+        TRY(pop(m, B));
+        TRY(pop(m, A));
         TRY(read_text(m, A, bytes, &length));
         TRY(read_text(m, B, bytes, &length));
         TRY(make_text(m, A, bytes, length));
@@ -300,10 +306,10 @@ static fault step(machine *m, instruction next, int *ended) {
     case CALL:
         return call(m, next.operand);
     case RETURN:
-        TRY(pop(m, A, &value));
+        TRY(pop(m, A));
         return go_back(m, ended);
     case PRINT:
-        TRY(pop(m, A, &value));
+        TRY(pop_value(m, A, &value));
         return print(m, value);
     }
     return "no such instruction";
@@ -327,10 +333,8 @@ static fault run(machine *m, int64_t number) {
 
 /* Makes the registers nil: what only they reached is garbage then. */
 static fault clear(machine *m) {
-    uint32_t slot;
-    for (slot = 0; slot < REGISTERS; slot++) {
-        HEAP(rheap_drop(&m->heap, MACHINE, reg(slot)));
-    }
+    size_t count;
+    HEAP(rheap_drop_roots(&m->heap, MACHINE, reg(0), REGISTERS, &count));
     return NULL;
 }
 

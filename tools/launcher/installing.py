@@ -16,6 +16,8 @@ from workshop import OUT, Trouble, Workshop, end_by_signals, ignore_signals, pro
 # Where each file of an installation comes from: `include/rheap.h` of the prefix is that of the repository, and so on.
 FILES = {
     "include/rheap.h": "include/rheap.h",
+    "include/rheap.hpp": "include/rheap.hpp",
+    "include/rheap_array.h": "include/rheap_array.h",
     "share/licenses/rheap/LICENSE-MIT": "LICENSE-MIT",
     "share/licenses/rheap/LICENSE-APACHE": "LICENSE-APACHE",
     "share/man/man1/rheap.1": "share/man/rheap.1",
@@ -37,6 +39,40 @@ Version: {version}
 Cflags: -I${{includedir}}
 Libs: -L${{libdir}} -lrheap
 """
+# For `find_package(rheap)`: the target rheap::rheap, wherever the folder is moved to.
+CMAKE = """# rheap::rheap is the library with its headers. It needs the C library alone.
+get_filename_component(rheap_PREFIX "${{CMAKE_CURRENT_LIST_DIR}}/../../.." ABSOLUTE)
+# How the library was built.
+set(rheap_BUILT "{label}")
+if(NOT TARGET rheap::rheap)
+  add_library(rheap::rheap STATIC IMPORTED)
+  set_target_properties(rheap::rheap PROPERTIES
+    IMPORTED_LOCATION "${{rheap_PREFIX}}/lib/librheap.a"
+    IMPORTED_LINK_INTERFACE_LANGUAGES C
+    INTERFACE_INCLUDE_DIRECTORIES "${{rheap_PREFIX}}/include")
+endif()
+"""
+# Before version 1 a version is taken for another of the same first two numbers, if it isn't older.
+CMAKE_VERSION = """set(PACKAGE_VERSION "{version}")
+set(PACKAGE_VERSION_COMPATIBLE FALSE)
+set(PACKAGE_VERSION_EXACT FALSE)
+if(CMAKE_SIZEOF_VOID_P AND NOT CMAKE_SIZEOF_VOID_P EQUAL 8)
+  set(PACKAGE_VERSION_UNSUITABLE TRUE)
+endif()
+if(PACKAGE_FIND_VERSION VERSION_EQUAL PACKAGE_VERSION)
+  set(PACKAGE_VERSION_EXACT TRUE)
+endif()
+if(NOT PACKAGE_FIND_VERSION VERSION_GREATER PACKAGE_VERSION
+    AND "${{PACKAGE_FIND_VERSION_MAJOR}}.${{PACKAGE_FIND_VERSION_MINOR}}" VERSION_EQUAL "{series}")
+  set(PACKAGE_VERSION_COMPATIBLE TRUE)
+endif()
+"""
+# What is made for an installation, beside the archive and the program.
+MADE = {
+    "lib/pkgconfig/rheap.pc": PKG_CONFIG,
+    "lib/cmake/rheap/rheapConfig.cmake": CMAKE,
+    "lib/cmake/rheap/rheapConfigVersion.cmake": CMAKE_VERSION,
+}
 STEPS = [("reading the sources", 65), ("making parts", 10), ("compiling", 45 if processors() > 3 else 90)]
 
 
@@ -56,8 +92,10 @@ def put_parts(stage, label, program, archive):
         put(program, stage / "bin/rheap")
         (stage / "bin/rheap").chmod(0o755)
     put(archive, stage / "lib/librheap.a")
-    (stage / "lib/pkgconfig").mkdir(parents=True)
-    (stage / "lib/pkgconfig/rheap.pc").write_text(PKG_CONFIG.format(label=label, version=quick.version()))
+    number = quick.version()
+    for to, text in MADE.items():
+        (stage / to).parent.mkdir(parents=True, exist_ok=True)
+        (stage / to).write_text(text.format(label=label, version=number, series=number.rpartition(".")[0]))
 
 
 def put(of, to):
@@ -198,7 +236,7 @@ def install(name, with_program=True, is_proved=False):
 
 def staged(left, prefix, with_program, is_proved):
     """Makes all that is to be installed in a folder below the prefix, and returns that. It is removed when `left` is closed."""
-    names = [*FILES, "bin/rheap", "lib/librheap.a", "lib/pkgconfig/rheap.pc"]
+    names = [*FILES, *MADE, "bin/rheap", "lib/librheap.a"]
     need_room(prefix, names)
     program, archive, label = build_parts(with_program, is_proved)
     os.umask(0o022)

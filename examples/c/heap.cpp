@@ -1,0 +1,391 @@
+// rheap.hpp: each of its types and calls, refused and not, with exceptions and without them. Prints
+// nothing where all is as it should be.
+#include "rheap.hpp"
+
+#include "rheap_array.h"
+#include <cstdio>
+#include <cstring>
+#include <unordered_map>
+#include <vector>
+
+namespace {
+
+int wrong = 0;
+
+void expect(bool holds, const char *what, int line) {
+    if (!holds) {
+        std::printf("line %d: %s\n", line, what);
+        wrong = 1;
+    }
+}
+
+#define IS(what) expect(what, #what, __LINE__)
+
+// Whether `work` is refused so.
+template <class Work>
+bool throws(rh::status why, Work work) {
+#if defined(__cpp_exceptions)
+    try {
+        work();
+    } catch (const rh::error &e) {
+        return e.status() == why && e.code() == why && std::strstr(e.what(), name(why)) != nullptr;
+    }
+    return false;
+#else
+    (void)work;
+    return why != rh::status::done;
+#endif
+}
+
+const rh::sizes small{4096, 40, 32, 3, 8};
+
+// What compiles, and what doesn't.
+template <class What, class = void>
+struct is_stored : std::false_type {};
+template <class What>
+struct is_stored<What, std::void_t<decltype(std::declval<rh::heap &>().try_store(
+                           rh::root{}, 0u, std::declval<What>()))>> : std::true_type {};
+
+static_assert(is_stored<int>() && is_stored<std::uint64_t>() && is_stored<rh::nil_t>(), "");
+static_assert(is_stored<rh::root>() && is_stored<rh::scoped_root &>(), "");
+static_assert(!is_stored<double>() && !is_stored<const char *>(), "");
+static_assert(std::is_nothrow_move_constructible_v<rh::heap>, "");
+static_assert(!std::is_copy_constructible_v<rh::heap>, "");
+static_assert(std::is_nothrow_move_assignable_v<rh::scoped_root>, "");
+static_assert(!std::is_copy_constructible_v<rh::scoped_root>, "");
+
+void values() {
+    rh::heap heap(small);
+    const rh::root pair{1, 0}, other{1, 1};
+    heap.alloc(pair, 4);
+    heap.store(pair, 0, 7);
+    heap.store(pair, 1, pair);
+    heap.store(pair, 2, rh::nil);
+    heap.alloc_raw(other, 2);
+    heap.store(pair, 3, other);
+    IS(heap.peek(pair, 0) == rh::value(std::int64_t{7}));
+    IS(heap.peek(pair, 1) == rh::value(rh::object{4}));
+    IS(heap.peek(pair, 2) == rh::value(rh::nil));
+    IS(heap.peek(pair, 3) == rh::value(rh::raw_object{2}));
+    IS(std::get<std::int64_t>(heap.load(other, pair, 0)) == 7);
+    IS(heap.get(other) == rh::value(std::int64_t{7}));
+    IS(heap.fields(pair) == 4);
+    auto seven = heap.try_peek(pair, 0);
+    IS(seven && std::get<std::int64_t>(*seven) == 7 && seven->index() == 1);
+    IS(std::holds_alternative<rh::nil_t>(*heap.try_peek(pair, 2)));
+    heap.load(other, pair, 1);
+    IS(heap.same(pair, other));
+    heap.drop(other);
+    IS(!heap.same(pair, other));
+    heap.copy(other, pair);
+    IS(heap.same(pair, other));
+    heap.insist_store(pair, 0, RHEAP_MIN_INT);
+    IS(std::get<std::int64_t>(heap.peek(pair, 0)) == RHEAP_MIN_INT);
+    heap.insist_store(pair, 0, rh::nil);
+    heap.insist_store(pair, 0, other);
+    heap.insist_alloc_raw(other, 1);
+    heap.insist_alloc(other, 1);
+    heap.collect();
+    heap.increment();
+    IS(heap.stat().used == 13);
+    IS(heap.stat().flips == 1);
+    IS(heap.last_did().flipped == 1 || heap.stat().cycle == 0);
+    IS(heap.pace().mark > 0);
+    IS(heap.room(3).need == 5);
+}
+
+void rows() {
+    rh::heap heap(small);
+    const rh::root row{1, 0};
+    std::vector<std::int64_t> numbers{1, 2, 3}, none;
+    std::array<std::int64_t, 5> read{};
+    heap.alloc(row, 20);
+    heap.insist_store_ints(row, 1, numbers);
+    IS(heap.load_ints(row, 1, read) == 3);
+    IS(read[2] == 3 && read[3] == 0);
+    heap.store_ints(row, 1, none);
+    heap.store_ints(row, 1, numbers);
+    heap.insist_store_ints(row, 1, none);
+    IS(heap.load_ints(row, 1, none) == 0);
+    heap.store_text(row, 10, "managed heaps!");
+    heap.insist_store_text(row, 10, "a managed heap");
+    heap.insist_store_text(row, 10, std::string_view());
+    IS(heap.load_text(row, 10, 14) == "a managed heap");
+    IS(heap.load_text(row, 10, 30) == std::string("a managed heap").substr(0, 14));
+    IS(heap.load_text(row, 10, 0).empty());
+    IS(heap.try_load_text(row, 19, nullptr, 0).value_or(9) == 0);
+    IS(throws(rh::status::no_field, [&] { heap.load_text(row, 19, 8); }));
+    IS(throws(rh::status::no_field, [&] { heap.insist_store_ints(row, 18, numbers); }));
+    IS(throws(rh::status::no_field, [&] { heap.store_ints(row, 18, numbers); }));
+    IS(throws(rh::status::no_field, [&] { heap.store_text(row, 19, "a managed heap"); }));
+    IS(throws(rh::status::no_field, [&] { heap.insist_store_text(row, 19, "a managed heap"); }));
+    IS(throws(rh::status::no_field, [&] { heap.load_ints(row, 18, read); }));
+}
+
+void refusals() {
+    rh::heap heap(small);
+    const rh::root mine{1, 0}, theirs{2, 0}, shared{0, 0}, nowhere{1, 8};
+    IS(heap.try_alloc(nowhere, 1).status() == rh::status::no_root);
+    IS(heap.try_alloc(mine, 4096).status() == rh::status::fields_range);
+    IS(heap.try_alloc_raw(mine, 4095).status() == rh::status::space_full);
+    IS(heap.try_insist_alloc(mine, 4095).status() == rh::status::space_full);
+    IS(heap.try_insist_alloc_raw(mine, 4096).status() == rh::status::fields_range);
+    IS(heap.try_peek(mine, 0).status() == rh::status::not_object);
+    IS(heap.try_fields(mine).status() == rh::status::not_object);
+    IS(heap.try_load(mine, mine, 0).status() == rh::status::not_object);
+    IS(bool(heap.try_alloc_raw(mine, 1)));
+    IS(bool(heap.try_alloc(theirs, 1)));
+    IS(heap.try_store(mine, 1, 1).status() == rh::status::no_field);
+    IS(heap.try_store(mine, 0, mine).status() == rh::status::raw_field);
+    IS(heap.try_store(mine, 0, theirs).status() == rh::status::not_yours);
+    IS(heap.try_copy(mine, theirs).status() == rh::status::not_yours);
+    IS(heap.try_same(mine, theirs).status() == rh::status::not_yours);
+    IS(bool(heap.try_copy(shared, theirs)) && bool(heap.try_copy(mine, shared)));
+    IS(heap.try_same(mine, shared).value_or(false));
+    IS(heap.try_store(mine, 0, UINT64_MAX).status() == rh::status::int_range);
+    IS(heap.try_insist_store(mine, 0, INT64_MAX).status() == rh::status::int_range);
+    IS(heap.try_insist_store(mine, 1, rh::nil).status() == rh::status::no_field);
+    IS(heap.try_insist_store(nowhere, 1, mine).status() == rh::status::no_root);
+    IS(heap.try_store(mine, 0, rh::nil).status() == rh::status::done);
+    IS(heap.try_drop(nowhere).status() == rh::status::no_root);
+    IS(heap.try_get(nowhere).status() == rh::status::no_root);
+    IS(throws(rh::status::no_root, [&] { heap.alloc(nowhere, 1); }));
+    IS(throws(rh::status::not_yours, [&] { heap.copy(mine, theirs); }));
+    IS(throws(rh::status::no_field, [&] { heap.store(mine, 9, 1); }));
+    IS(heap.try_open(small).status() == rh::status::is_open);
+    IS(throws(rh::status::bad_sizes, [&] { rh::heap(rh::sizes{1000, 4, 65}); }));
+    IS(throws(rh::status::no_pace, [&] { rh::heap(rh::sizes{1000, 4}, 1000); }));
+    IS(rh::heap().try_open({1000, 4, 3}).status() == rh::status::no_pace);
+    IS(make_error_code(rh::status::no_memory) == std::errc::not_enough_memory);
+    IS(make_error_code(rh::status::log_full).message() == "LOG_FULL");
+    IS(std::strcmp(make_error_code(rh::status::log_full).category().name(), "rheap") == 0);
+}
+
+// Roots in a row, paths, and loads that tell no value.
+void rows_of_roots() {
+    rh::heap heap(small);
+    const rh::root frame{1, 0}, first{1, 1}, again{1, 4}, raw{1, 7}, theirs{2, 0};
+    std::array<rh::value, 3> values;
+    heap.alloc(frame, 4);
+    heap.alloc(first, 2);
+    heap.store(first, 0, 7);
+    heap.load_untold({1, 2}, first, 0);
+    heap.store_roots(frame, 0, first, 3);
+    heap.load_roots(again, frame, 0, values);
+    IS(values[0] == rh::value(rh::object{2}) && values[1] == rh::value(std::int64_t{7}));
+    IS(values[2] == rh::value(rh::nil) && heap.same(first, again));
+    heap.drop_roots(again, 3);
+    IS(heap.get(again) == rh::value(rh::nil));
+    heap.insist_store_roots(frame, 1, first, 3);
+    IS(heap.peek(frame, 1) == rh::value(rh::object{2}));
+    // What was done before a refusal stays done, and is counted.
+    auto loaded = heap.try_load_roots(again, frame, 2, values.data(), 3);
+    IS(loaded.status() == rh::status::no_field && loaded.count() == 2);
+    IS(values[0] == rh::value(std::int64_t{7}));
+    IS(heap.try_load_roots(again, frame, 0, nullptr, 3).count() == 3);
+    IS(heap.try_load_roots({1, 6}, frame, 0, nullptr, 3).status() == rh::status::no_root);
+    IS(heap.try_load_roots({1, 6}, frame, 0, nullptr, SIZE_MAX).count() == 2);
+    IS(heap.try_load_roots(again, theirs, 0, nullptr, 1).status() == rh::status::not_yours);
+    heap.drop(raw);
+    IS(heap.try_load_roots(again, raw, 0, nullptr, 1).status() == rh::status::not_object);
+    IS(bool(heap.try_load_roots(again, raw, 0, nullptr, 0)));
+    auto stored = heap.try_store_roots(frame, 2, first, 3);
+    IS(!stored && stored.status() == rh::status::no_field && stored.count() == 2);
+    IS(heap.try_insist_store_roots(frame, 0, theirs, 1).status() == rh::status::not_yours);
+    heap.alloc_raw(raw, 3);
+    IS(heap.try_store_roots(raw, 0, first, 1).status() == rh::status::raw_field);
+    auto dropped = heap.try_drop_roots({1, 6}, 3);
+    IS(dropped.status() == rh::status::no_root && dropped.count() == 2);
+    IS(throws(rh::status::no_field, [&] { heap.load_roots(again, frame, 3, values); }));
+    IS(throws(rh::status::no_field, [&] { heap.store_roots(frame, 3, first, 2); }));
+    IS(throws(rh::status::no_field, [&] { heap.insist_store_roots(frame, 3, first, 2); }));
+    IS(throws(rh::status::no_root, [&] { heap.drop_roots({1, 7}, 2); }));
+    IS(heap.try_load_untold(again, frame, 4).status() == rh::status::no_field);
+    IS(heap.try_load_untold(again, theirs, 0).status() == rh::status::not_yours);
+    IS(throws(rh::status::no_root, [&] { heap.load_untold({1, 8}, frame, 0); }));
+}
+
+void paths() {
+    rh::heap heap(small);
+    const rh::root list{1, 0}, cell{1, 1}, found{1, 2}, theirs{2, 0};
+    const std::vector<std::uint32_t> rests{1, 1, 1, 1};
+    for (int n = 3; n > 0; n--) {
+        heap.alloc(cell, 2);
+        heap.store(cell, 0, n);
+        heap.store(cell, 1, list);
+        heap.copy(list, cell);
+    }
+    IS(heap.load_path(found, list, {1, 1, 0}) == rh::value(std::int64_t{3}));
+    IS(heap.get(found) == rh::value(std::int64_t{3}) && heap.same(list, cell));
+    auto none = heap.try_load_path(found, list, nullptr, 0);
+    IS(none && *none == rh::value(rh::nil) && none.count() == 0);
+    IS(heap.get(found) == rh::value(std::int64_t{3}));
+    auto past = heap.try_load_path(found, list, rests.data(), rests.size());
+    IS(past.status() == rh::status::not_object && past.count() == 3);
+    IS(heap.try_load_path(found, list, {1, 2}).status() == rh::status::no_field);
+    IS(heap.try_load_path({1, 8}, list, {1}).status() == rh::status::no_root);
+    IS(heap.try_load_path(theirs, list, {1}).status() == rh::status::not_yours);
+    IS(throws(rh::status::not_object, [&] { heap.load_path(found, list, rests); }));
+    IS(throws(rh::status::no_field, [&] { heap.load_path(found, list, {2}); }));
+}
+
+void tickets() {
+    rh::heap heap(small);
+    const rh::root a{1, 0}, b{1, 1}, theirs{2, 0};
+    std::unordered_map<rh::ticket, const char *> names;
+    heap.alloc(a, 1);
+    heap.alloc(b, 1);
+    IS(heap.try_watch(a).status() == rh::status::watches_full);
+    IS(throws(rh::status::watches_full, [&] { heap.watch(a); }));
+    IS(heap.try_watch_room(RHEAP_MAX_TICKETS + 1).status() == rh::status::tickets_range);
+    IS(throws(rh::status::tickets_range, [&] { heap.watch_room(RHEAP_MAX_TICKETS + 1); }));
+    heap.watch_room(4);
+    IS(heap.try_watch({1, 8}).status() == rh::status::no_root);
+    IS(heap.try_watch({3, 0}).status() == rh::status::no_root);
+    IS(heap.try_watch(theirs).status() == rh::status::not_object);
+    names[heap.watch(a)] = "a";
+    const rh::ticket second = heap.watch(b), third = heap.watch(b);
+    names[second] = "b";
+    IS(names.size() == 2 && second != third && second < third && third == (rh::ticket{2}));
+    heap.unwatch(third);
+    IS(heap.try_unwatch(third).status() == rh::status::not_watched);
+    IS(throws(rh::status::not_watched, [&] { heap.unwatch({9}); }));
+    IS(heap.next_gone() == std::nullopt);
+    heap.drop(a);
+    heap.drop(b);
+    heap.collect();
+    IS(heap.try_unwatch(second).status() == rh::status::not_watched);
+    // A loop that is left early leaves the others to the next one.
+    std::string told;
+    for (rh::ticket lost : heap.gone()) {
+        told += names[lost];
+        break;
+    }
+    for (rh::ticket lost : heap.gone()) told += names[lost];
+    IS(told == "ab");
+    const rh::gone more = heap.gone();
+    IS(more.begin() == more.end());
+    heap.alloc(a, 1);
+    const rh::ticket again = heap.watch(a);
+    heap.drop(a);
+    heap.collect();
+    auto next = heap.try_next_gone();
+    IS(next && *next == again && heap.next_gone() == std::nullopt);
+}
+
+// In a cycle a row of roots meets a full log in its middle; one that insists doesn't.
+void full_log() {
+    rh::heap heap(rh::sizes{1000, 29, 4, 1, 256}, 10);
+    const rh::root object{0, 0}, filler{0, 1}, row{0, 2};
+    heap.alloc(object, 250);
+    bool is_full = false;
+    for (int turn = 0; turn < 2000 && !is_full; turn++) {
+        auto stored = heap.try_store_roots(object, 0, row, 250);
+        is_full = stored.status() == rh::status::log_full;
+        IS(is_full ? stored.count() < 250 && heap.stat().cycle == 1 : bool(stored));
+        if (is_full) IS(heap.try_insist_store_roots(object, 0, row, 250).count() == 250);
+        (void)heap.try_insist_alloc(filler, 20).status();
+    }
+    IS(is_full);
+}
+
+// A heap that is moved, closed, and asked for what it hasn't.
+void life() {
+    rh::heap first(small, 100), second;
+    const rh::root root{1, 0};
+    IS(first && !second);
+    first.alloc(root, 3);
+    second = std::move(first);
+    IS(!first.is_open() && second.fields(root) == 3);
+    rh::heap third(std::move(second));
+    IS(third.fields(root) == 3);
+    IS(second.try_alloc(root, 1).status() == rh::status::not_open);
+    IS(second.try_collect().status() == rh::status::not_open);
+    IS(second.try_close().status() == rh::status::not_open);
+    IS(second.try_next_gone().status() == rh::status::not_open);
+    IS(second.try_watch_room(1).status() == rh::status::not_open);
+    IS(second.try_drop_roots(root, 1).count() == 0);
+    IS(throws(rh::status::not_open, [&] { (void)second.gone().begin(); }));
+    IS(throws(rh::status::not_open, [&] { (void)second.stat(); }));
+    IS(bool(second.try_open(small)));
+    swap(second, third);
+    IS(second.fields(root) == 3);
+    third = std::move(second);
+    IS(third.fields(root) == 3);
+    IS(bool(third.try_close()));
+    IS(throws(rh::status::not_open, [&] { third.collect(); }));
+}
+
+void scoped() {
+    rh::heap heap(small);
+    rh::slots slots(heap, 1, 2, 4);
+    IS(slots.left() == 4);
+    {
+        rh::scoped_root a(slots), b(slots), empty;
+        const rh::root name = a;
+        IS(name == (rh::root{1, 2}) && rh::root(b) != name);
+        heap.alloc(a, 1);
+        heap.alloc(b, 2);
+        swap(a, b);
+        IS(heap.fields(a) == 2 && heap.fields(b) == 1);
+        rh::scoped_root c(std::move(a));
+        IS(!a && c && heap.fields(c) == 2);
+        IS(heap.try_fields(a).status() == rh::status::no_root);
+        a = rh::scoped_root(slots);
+        IS(slots.left() == 1);
+        IS(heap.get(a) == rh::value(rh::nil));
+        a = std::move(c);
+        IS(heap.fields(a) == 2 && slots.left() == 2);
+        rh::scoped_root d(slots), e(slots), f(slots, std::nothrow);
+        IS(d && e && !f && !empty);
+        IS(throws(rh::status::no_root, [&] { rh::scoped_root g(slots); }));
+        IS(heap.get(name) != rh::value(rh::nil));
+    }
+    IS(slots.left() == 4);
+    for (std::uint32_t slot = 2; slot < 6; slot++) {
+        IS(heap.get({1, slot}) == rh::value(rh::nil));
+    }
+    heap.collect();
+    IS(heap.stat().used == 0);
+}
+
+// A list of a thousand cells while many more are let go, and an array of rheap_array.h beside it.
+void collecting() {
+    rh::heap heap(rh::sizes{8192, 40});
+    rh::slots slots(heap, 1, 0, 10);
+    ::rheap_scope scope = {heap.handle(), 1, 10};
+    rh::scoped_root list(slots), cell(slots), row(slots);
+    const rh::root array = row;
+    IS(::rheap_array_make(&scope, array.id(), 0, 30) == RHEAP_DONE);
+    for (int n = 0; n < 20000; n++) {
+        if (n % 1000 == 0) heap.drop(list);
+        heap.insist_alloc(cell, 2);
+        heap.insist_store(cell, 0, n);
+        heap.insist_store(cell, 1, list);
+        swap(list, cell);
+        if (n % 20 == 0) IS(::rheap_array_push_int(&scope, array.id(), n) == RHEAP_DONE);
+    }
+    std::int64_t due = 20000;
+    for (rh::value at = heap.get(list); std::holds_alternative<rh::object>(at);) {
+        IS(std::get<std::int64_t>(heap.peek(list, 0)) == --due);
+        at = heap.load(list, list, 1);
+    }
+    IS(due == 19000);
+    IS(heap.stat().flips > 5);
+}
+
+} // namespace
+
+int main() {
+    values();
+    rows();
+    refusals();
+    rows_of_roots();
+    paths();
+    tickets();
+    full_log();
+    life();
+    scoped();
+    collecting();
+    return wrong;
+}
