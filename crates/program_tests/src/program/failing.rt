@@ -2,7 +2,9 @@
 //! refused, at each place in turn.
 
 use crate::expectations::{Row, ample, expect_bytes, expect_equal, expect_prefix, expect_refusals};
-use crate::program::driving::{DOT, DRAW, DUMP, PACED, REPLAY, RUN, THREADS, is_refused, status_of};
+use crate::program::driving::{
+    DOT, DRAW, DUMP, PACED, REPLAY, RUN, THREADS, is_refused, status_of,
+};
 use crate::texts::{STORED, STORED_HISTORY, TWO_FLIPS_ANSWERS, ended_lines};
 use refusing::refused_in_turn;
 use rh_cli::{Ask, PLAIN, Subcommand};
