@@ -145,15 +145,22 @@ public:
         need();
         return value_;
     }
+    const T &value() const & {
+        need();
+        return value_;
+    }
     T value() && {
         need();
         return std::move(value_);
     }
+    T value_or(T other) const & { return *this ? value_ : std::move(other); }
     T value_or(T other) && { return *this ? std::move(value_) : std::move(other); }
     // The value, where there is one.
     T &operator*() & noexcept { return value_; }
+    const T &operator*() const & noexcept { return value_; }
     T operator*() && noexcept { return std::move(value_); }
     T *operator->() & noexcept { return &value_; }
+    const T *operator->() const & noexcept { return &value_; }
 
 private:
     void need() const {
@@ -679,9 +686,10 @@ inline gone heap::gone() noexcept {
 
 // --- Scoped roots ---
 
-// Slots of one owner, of which scoped roots are made. Nothing sees that two of these overlap: make
-// one for each owner, or give each slots of its own. It takes no memory, and names the heap: that
-// stays in its place, and ends later.
+// Slots of one owner, of which scoped roots are made; whatever they held, they are nil then.
+// Nothing sees that two of these overlap: make one for each owner, or give each slots of its own.
+// It takes no memory. It names the heap, and its scoped roots name it: so both stay in their
+// places, it ends before the heap, and its scoped roots end before it.
 class slots {
 public:
     // So many slots from `first` on.
@@ -690,6 +698,9 @@ public:
         for (left_ = 0; left_ < count && left_ < free_.size(); left_++) {
             free_[left_] = first + (count < free_.size() ? count : RHEAP_MAX_SLOTS) - 1 - left_;
         }
+        std::size_t dropped;
+        (void)::rheap_drop_roots(heap_->handle(), owner, ::rheap_slot(owner, first), left_,
+                                 &dropped);
     }
     slots(const slots &) = delete;
     slots &operator=(const slots &) = delete;
@@ -740,7 +751,9 @@ public:
     }
 
     explicit operator bool() const noexcept { return from_ != nullptr; }
-    operator root() const noexcept { return root_; }
+    // The name of its slot. A temporary gives none: its slot is nil when the statement ends.
+    operator root() const & noexcept { return root_; }
+    operator root() const && = delete;
 
 private:
     slots *from_ = nullptr;

@@ -8,9 +8,10 @@
  *     must(rheap_array_push_int(&scope, row, 7));
  *     must(rheap_array_peek(&scope, row, 0, &value));
  *
- * An object has at most RHEAP_MAX_FIELDS fields. An array can have as many elements as the heap has
- * room for, since they lie in several objects of equal size, its chunks. As long as one chunk is
- * enough, that one starts small and doubles when it is full. An array grows in place: whatever
+ * An object has at most RHEAP_MAX_FIELDS fields. An array can have many more elements, since they
+ * lie in several objects of equal size, its chunks. An array has at most RHEAP_MAX_FIELDS chunks;
+ * of 4,094 elements each, these are as many as the largest heap has room for. As long as one chunk
+ * is enough, that one starts small and doubles when it is full. An array grows in place: whatever
  * refers to it, a root or a field, goes on referring to the same array. It is an object of these
  * four fields:
  *
@@ -194,16 +195,29 @@ static inline uint8_t rheap_array_fill(rheap_scope *scope, rheap_root_id directo
 }
 
 /* The places of the directory that so many elements take have chunks. Of these places the first
-   `whole` are known to have whole ones. */
+   `whole` are known to have whole ones. After SPACE_FULL those behind the first place that had none
+   have none. */
 static inline uint8_t rheap_array_fill_to(rheap_scope *scope, rheap_root_id directory,
                                           uint32_t elements, uint32_t whole, uint32_t chunk,
                                           int is_raw) {
     uint32_t places = elements / chunk + (elements % chunk != 0);
     uint32_t place = whole > 1 ? whole : 1;
+    uint32_t made = places; /* The first place that had none. */
     uint8_t status =
         rheap_array_fill(scope, directory, 0, places > 1 ? chunk : elements, chunk, &is_raw);
     for (; status == RHEAP_DONE && place < places; place++) {
-        status = rheap_array_fill(scope, directory, place, chunk, chunk, &is_raw);
+        rheap_value value;
+        status = rheap_peek(scope->heap, scope->owner, directory, place, &value);
+        if (status == RHEAP_DONE && value.kind == RHEAP_NIL && made == places) {
+            made = place;
+        }
+        if (status == RHEAP_DONE) {
+            status = rheap_array_fill(scope, directory, place, chunk, chunk, &is_raw);
+        }
+    }
+    while (status == RHEAP_SPACE_FULL && place > made) {
+        place--;
+        (void)rheap_insist_store_nil(scope->heap, scope->owner, directory, place);
     }
     return status;
 }
@@ -269,8 +283,9 @@ static inline uint8_t rheap_array_length(rheap_scope *scope, rheap_root_id array
     return rheap_array_read(scope, array, length, &chunk);
 }
 
-/* There is room for so many elements, or more; how many there are doesn't change. What was made
-   before a refusal stays, and is used by the next call that grows.
+/* There is room for so many elements, or more; how many there are doesn't change. Chunks that were
+   made before SPACE_FULL are let go, so other objects can have their room. A directory and a first
+   chunk that were made larger stay so, and are used by the next call that grows.
    DONE, NO_ROOT, NOT_YOURS, NOT_OBJECT, FIELDS_RANGE, SPACE_FULL, NUMBERS_SPENT, NOT_OPEN. */
 static inline uint8_t rheap_array_reserve(rheap_scope *scope, rheap_root_id array,
                                           uint32_t elements) {
@@ -579,6 +594,10 @@ static inline uint8_t rheap_array_load_bytes(rheap_scope *scope, rheap_root_id a
                 status = rheap_load_text(scope->heap, scope->owner, at, field, next, 7 * run,
                                          &done);
             }
+        }
+        if (status == RHEAP_DONE && done == 0 && from % 7 == 0 && length >= 7) {
+            memset(next, 0, 7); /* The element holds no number. */
+            done = 7;
         }
         if (status == RHEAP_DONE && done == 0) {
             status = rheap_array_get_byte(scope, array, from, next);

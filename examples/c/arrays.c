@@ -89,6 +89,14 @@ static void beside_a_row(uint32_t chunk, int is_raw) {
     EQUALS(told, length);
     IS(rheap_array_peek(&scope, ARRAY, length, &value), NO_FIELD);
     TELLS(value, RHEAP_NIL, 0);
+    /* What it grew by is raw where it was made raw: the first chunk, and those behind it. */
+    told = is_raw ? RHEAP_RAW_FIELD : RHEAP_DONE;
+    for (turn = 0; turn < length; turn++) {
+        EQUALS(rheap_array_set_root(&scope, ARRAY, turn, ARRAY), told);
+    }
+    EQUALS(rheap_array_push_root(&scope, ARRAY, ARRAY), told);
+    IS(rheap_array_length(&scope, ARRAY, &told), DONE);
+    EQUALS(told, is_raw ? length : length + 1);
     clean(__LINE__);
 }
 
@@ -212,6 +220,19 @@ static void bytes(void) {
     IS(rheap_array_load_bytes(&scope, ARRAY, 9999, read, 0), DONE);
     IS(rheap_array_load_bytes(&scope, ARRAY, 0, read, 700), DONE);
     EQUALS(memcmp(read, row, 700), 0);
+    /* Bytes that were never stored are 0, before others and behind them. */
+    IS(rheap_array_make(&scope, ARRAY, rheap_array_of_bytes(700), 10), DONE);
+    IS(rheap_array_store_bytes(&scope, ARRAY, 320, row, 40), DONE);
+    IS(rheap_array_set_root(&scope, ARRAY, 90, ARRAY), DONE);
+    for (k = 0; k < 20; k++) {
+        memset(read, 0x5a, sizeof read);
+        IS(rheap_array_load_bytes(&scope, ARRAY, k, read, 699 - 2 * k), DONE);
+        EQUALS(memcmp(read + 320 - k, row, 40), 0);
+        for (turn = 0; turn < 699 - 2 * k; turn++) {
+            EQUALS(turn + k < 320 || turn + k >= 360 ? read[turn] : 0, 0);
+        }
+        EQUALS(read[699 - 2 * k], 0x5a);
+    }
     clean(__LINE__);
 }
 
@@ -400,6 +421,51 @@ static void full(void) {
     }
 }
 
+/* How many chunks the array has. */
+static uint32_t chunks(void) {
+    uint32_t count = 0;
+    rheap_value directory;
+    rheap_value value = {RHEAP_OBJECT, 0, 0};
+    IS(rheap_load(&heap, 1, ITEM, ARRAY, RHEAP_ARRAY_DIRECTORY, &directory), DONE);
+    while (count < directory.fields && value.kind != RHEAP_NIL) {
+        IS(rheap_peek(&heap, 1, ITEM, count, &value), DONE);
+        count += value.kind != RHEAP_NIL;
+    }
+    IS(rheap_drop(&heap, 1, ITEM), DONE);
+    return count;
+}
+
+/* A growth that is refused lets go what it made, and nothing that was there before. */
+static void refused_growth(int is_raw) {
+    uint32_t length = 0;
+    uint32_t turn;
+    rheap_value value;
+    IS(rheap_drop(&heap, 1, OTHER), DONE);
+    IS(rheap_array_make_as(&scope, ARRAY, 300, 254, is_raw), DONE);
+    IS(rheap_array_set_int(&scope, ARRAY, 299, 5), DONE);
+    EQUALS(chunks(), 2);
+    IS(rheap_array_reserve(&scope, ARRAY, 1000), DONE);
+    EQUALS(chunks(), 4);
+    for (turn = 0; turn < 3; turn++) {
+        IS(rheap_array_grow(&scope, ARRAY, 20000), SPACE_FULL);
+        EQUALS(chunks(), 4);
+        IS(rheap_array_reserve(&scope, ARRAY, 20000), SPACE_FULL);
+        IS(rheap_insist_alloc(&heap, 1, ITEM, 20), DONE);
+        IS(rheap_array_make(&scope, OTHER, 3000, 254), DONE);
+        IS(rheap_drop(&heap, 1, OTHER), DONE);
+    }
+    IS(rheap_array_length(&scope, ARRAY, &length), DONE);
+    EQUALS(length, 300);
+    IS(rheap_array_peek(&scope, ARRAY, 299, &value), DONE);
+    TELLS(value, RHEAP_NUMBER, 5);
+    IS(rheap_array_grow(&scope, ARRAY, 2000), DONE);
+    EQUALS(chunks(), 8);
+    IS(rheap_array_set_int(&scope, ARRAY, 1999, 6), DONE);
+    IS(rheap_array_peek(&scope, ARRAY, 299, &value), DONE);
+    TELLS(value, RHEAP_NUMBER, 5);
+    clean(__LINE__);
+}
+
 /* The program's own field is left alone, and the largest chunks are there. */
 static void own_field(void) {
     rheap_value value;
@@ -416,6 +482,26 @@ static void own_field(void) {
     EQUALS(length, 9001);
     IS(rheap_peek(&heap, 1, ARRAY, RHEAP_ARRAY_OWN, &value), DONE);
     TELLS(value, RHEAP_NUMBER, 42);
+    IS(rheap_close(&heap), DONE);
+}
+
+/* A directory that doubles gets no more places than an object has fields. */
+static void most_chunks(void) {
+    rheap_value value;
+    uint32_t length = 0;
+    IS(rheap_open_sized(&heap, 60000, RHEAP_MAX_FIELDS + 2, 32, 3, 12), DONE);
+    IS(rheap_array_make_raw(&scope, ARRAY, 2 * 2100, 2), DONE);
+    IS(rheap_array_push_int(&scope, ARRAY, 7), DONE);
+    IS(rheap_load(&heap, 1, ITEM, ARRAY, RHEAP_ARRAY_DIRECTORY, &value), DONE);
+    EQUALS(value.fields, RHEAP_MAX_FIELDS);
+    IS(rheap_array_grow(&scope, ARRAY, 2 * RHEAP_MAX_FIELDS), DONE);
+    IS(rheap_array_grow(&scope, ARRAY, 2 * RHEAP_MAX_FIELDS + 1), FIELDS_RANGE);
+    IS(rheap_array_push_int(&scope, ARRAY, 8), FIELDS_RANGE);
+    IS(rheap_array_length(&scope, ARRAY, &length), DONE);
+    EQUALS(length, 2 * RHEAP_MAX_FIELDS);
+    IS(rheap_array_peek(&scope, ARRAY, 2 * 2100, &value), DONE);
+    TELLS(value, RHEAP_NUMBER, 7);
+    clean(__LINE__);
     IS(rheap_close(&heap), DONE);
 }
 
@@ -437,7 +523,10 @@ int main(void) {
     bits();
     mistakes();
     full();
+    refused_growth(0);
+    refused_growth(1);
     IS(rheap_close(&heap), DONE);
     own_field();
+    most_chunks();
     return wrong;
 }

@@ -53,6 +53,10 @@ static_assert(std::is_nothrow_move_constructible_v<rh::heap>, "");
 static_assert(!std::is_copy_constructible_v<rh::heap>, "");
 static_assert(std::is_nothrow_move_assignable_v<rh::scoped_root>, "");
 static_assert(!std::is_copy_constructible_v<rh::scoped_root>, "");
+static_assert(std::is_convertible_v<rh::scoped_root &, rh::root>, "");
+static_assert(std::is_convertible_v<const rh::scoped_root &, rh::root>, "");
+static_assert(!std::is_convertible_v<rh::scoped_root, rh::root>, "");
+static_assert(!std::is_convertible_v<const rh::scoped_root, rh::root>, "");
 
 void values() {
     rh::heap heap(small);
@@ -70,8 +74,15 @@ void values() {
     IS(std::get<std::int64_t>(heap.load(other, pair, 0)) == 7);
     IS(heap.get(other) == rh::value(std::int64_t{7}));
     IS(heap.fields(pair) == 4);
-    auto seven = heap.try_peek(pair, 0);
+    const auto seven = heap.try_peek(pair, 0), missing = heap.try_peek(pair, 4);
     IS(seven && std::get<std::int64_t>(*seven) == 7 && seven->index() == 1);
+    IS(seven.value() == rh::value(std::int64_t{7}) && seven.value_or(rh::nil) == *seven);
+    IS(missing.value_or(rh::object{4}) == rh::value(rh::object{4}));
+    IS(throws(rh::status::no_field, [&] { (void)missing.value(); }));
+    IS(heap.try_peek(pair, 1)->index() == 2);
+    auto changed = heap.try_peek(pair, 0);
+    *changed = rh::nil;
+    IS(changed->index() == 0 && changed.value() == rh::value(rh::nil));
     IS(std::holds_alternative<rh::nil_t>(*heap.try_peek(pair, 2)));
     heap.load(other, pair, 1);
     IS(heap.same(pair, other));
@@ -289,6 +300,53 @@ void full_log() {
     IS(is_full);
 }
 
+// Each store that insists is done where the one that doesn't meets a full log.
+void stores_at_full_log() {
+    rh::heap heap(rh::sizes{1000, 29, 4, 1, 256}, 10);
+    const rh::root object{0, 0}, filler{0, 1}, row{0, 2};
+    const std::array<std::int64_t, 2> numbers{1, 2};
+    heap.alloc(object, 250);
+    // The plain store is refused, and then the insisting one is done.
+    const auto try_both = [&](int line, auto plain, auto insisting) {
+        bool is_full = false;
+        for (int turn = 0; turn < 2000 && !is_full; turn++) {
+            const auto stored = heap.try_store_roots(object, 0, row, 250);
+            is_full = stored.status() == rh::status::log_full;
+            if (!is_full) (void)heap.try_insist_alloc(filler, 20).status();
+        }
+        expect(is_full, "a full log", line);
+        expect(plain().status() == rh::status::log_full, "the plain store", line);
+        expect(insisting().status() == rh::status::done, "the insisting store", line);
+    };
+    try_both(__LINE__, [&] { return heap.try_store(object, 0, rh::nil); },
+             [&] { return heap.try_insist_store(object, 0, rh::nil); });
+    try_both(__LINE__, [&] { return heap.try_store(object, 0, 1); },
+             [&] { return heap.try_insist_store(object, 0, 1); });
+    try_both(__LINE__, [&] { return heap.try_store(object, 0, row); },
+             [&] { return heap.try_insist_store(object, 0, row); });
+    try_both(__LINE__, [&] { return heap.try_store_ints(object, 0, numbers.data(), 2); },
+             [&] { return heap.try_insist_store_ints(object, 0, numbers.data(), 2); });
+    try_both(__LINE__, [&] { return heap.try_store_text(object, 0, "a managed heap"); },
+             [&] { return heap.try_insist_store_text(object, 0, "a managed heap"); });
+}
+
+// Each allocation that insists collects where the one that doesn't has no room.
+void full_of_garbage() {
+    rh::heap heap(small);
+    const rh::root big{1, 0}, dst{1, 1};
+    for (const bool is_raw : {false, true}) {
+        heap.insist_alloc(big, 3000);
+        heap.drop(big);
+        const auto flips = heap.stat().flips;
+        const auto plain = is_raw ? heap.try_alloc_raw(dst, 3000) : heap.try_alloc(dst, 3000);
+        IS(plain.status() == rh::status::space_full && heap.stat().flips == flips);
+        const auto insisting =
+            is_raw ? heap.try_insist_alloc_raw(dst, 3000) : heap.try_insist_alloc(dst, 3000);
+        IS(insisting.status() == rh::status::done && heap.stat().flips > flips);
+        heap.drop(dst);
+    }
+}
+
 // A heap that is moved, closed, and asked for what it hasn't.
 void life() {
     rh::heap first(small, 100), second;
@@ -318,8 +376,17 @@ void life() {
 
 void scoped() {
     rh::heap heap(small);
+    for (std::uint32_t slot = 1; slot < 7; slot++) heap.alloc({1, slot}, 1);
+    heap.alloc({2, 2}, 1);
     rh::slots slots(heap, 1, 2, 4);
     IS(slots.left() == 4);
+    for (std::uint32_t slot = 1; slot < 7; slot++) {
+        IS((heap.get({1, slot}) == rh::value(rh::nil)) == (slot >= 2 && slot < 6));
+    }
+    IS(heap.fields({2, 2}) == 1);
+    heap.drop({1, 1});
+    heap.drop({1, 6});
+    heap.drop({2, 2});
     {
         rh::scoped_root a(slots), b(slots), empty;
         const rh::root name = a;
@@ -347,6 +414,19 @@ void scoped() {
     }
     heap.collect();
     IS(heap.stat().used == 0);
+}
+
+// Of more slots than an owner has, the first ones are taken; and slots may be there before a heap.
+void many_slots() {
+    rh::heap heap;
+    rh::slots all(heap, 1, 0, 1000);
+    IS(all.left() == RHEAP_MAX_SLOTS);
+    heap.try_open(rh::sizes{4096, 40}).value();
+    rh::scoped_root first(all), second(all);
+    IS(rh::root(first) == (rh::root{1, 0}) && rh::root(second) == (rh::root{1, 1}));
+    heap.alloc(second, 1);
+    rh::slots none(heap, 1, 1, 0);
+    IS(none.left() == 0 && heap.fields(second) == 1);
 }
 
 // A list of a thousand cells while many more are let go, and an array of rheap_array.h beside it.
@@ -384,8 +464,11 @@ int main() {
     paths();
     tickets();
     full_log();
+    stores_at_full_log();
+    full_of_garbage();
     life();
     scoped();
+    many_slots();
     collecting();
     return wrong;
 }

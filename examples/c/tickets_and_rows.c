@@ -287,6 +287,7 @@ static void rows(rheap *heap) {
 static void paths(rheap *heap) {
     static const uint32_t car[1] = {0};
     static const uint32_t caddr[3] = {1, 1, 0};
+    static const uint32_t past_cadr[3] = {1, 0, 0};
     static const uint32_t rest[5] = {1, 1, 1, 1, 1};
     rheap_root_id list = rheap_slot(1, 0);
     rheap_root_id cell = rheap_slot(1, 1);
@@ -316,6 +317,14 @@ static void paths(rheap *heap) {
     IS(rheap_load_path(heap, 1, dst, list, rest, 5, &count, &value), NOT_OBJECT);
     EQUALS(count, 3);
     EQUALS(value.kind, RHEAP_NIL);
+    /* A number has no fields: `value` is the last that was loaded, and the root holds it. */
+    IS(rheap_load_path(heap, 1, dst, list, past_cadr, 3, &count, &value), NOT_OBJECT);
+    EQUALS(count, 2);
+    EQUALS(value.kind, RHEAP_NUMBER);
+    EQUALS(value.number, 1);
+    IS(rheap_root(heap, dst, &value), DONE);
+    EQUALS(value.kind, RHEAP_NUMBER);
+    EQUALS(value.number, 1);
     IS(rheap_load_path(heap, 1, dst, list, rest, 2, &count, &value), DONE);
     EQUALS(value.fields, 2);
     EQUALS(number_at(heap, dst, 0), 2);
