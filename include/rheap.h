@@ -30,7 +30,7 @@
  * neither words written, up to 4,097 for 3 units, nor looks at roots. So ask for no more owners and
  * slots than you use. Below, ratio is that with which the heap was opened. A call that names no
  * units does no collector work, but for the rheap_insist_ calls, which may do that of two
- * rheap_collect.
+ * rheap_collect, and rheap_insist_store_roots for each of its stores.
  */
 #ifndef RHEAP_H
 #define RHEAP_H
@@ -218,8 +218,8 @@ typedef struct rheap_words {
    comes either, but of rheap_store_ints and rheap_store_text; rheap_pace tells the mark.
 
    In a cycle at most `ratio` units of collector work follow each allocated word and each stored
-   field, and 5 more each allocation and each store. It takes memory, and is the only call on a
-   handle beside rheap_open_sized that does.
+   field, and 5 more each allocation and each store. It takes memory, as
+   rheap_open_sized and rheap_watch_room do; no other call on a handle does.
 
    Mind the order: words, live, biggest, ratio, owners, slots. All are of one type, so no compiler
    finds two of them swapped. rheap_open_sized leaves out `live` alone.
