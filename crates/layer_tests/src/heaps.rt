@@ -5,6 +5,7 @@ mod drawing;
 mod giving;
 mod headline;
 mod heap;
+mod making;
 mod random_pictures;
 mod raw_objects;
 mod resizing;

@@ -2,6 +2,7 @@
 
 mod calls;
 mod collections;
+mod making;
 mod mutators;
 mod paces;
 mod sizes;
