@@ -80,6 +80,23 @@ fn expect_stores(rt: &impl Abort, heap: &mut GrowingHeap) {
     expect_equal(rt, heap.peek(1, A, 2), Ok(Reply::Int(8)));
 }
 
+/// Makes objects with their values, insisted on too. A value may be what the root held.
+fn expect_makes(rt: &impl Abort, heap: &mut GrowingHeap) {
+    let pair = [Operand::Int(7), Operand::Root(A)];
+    expect_equal(rt, heap.make(1, A, 2, &pair), Ok(Reply::Object(2)));
+    let made = heap.insist_make(1, A, 2, &pair);
+    expect_equal(rt, made, Ok(Reply::Object(2)));
+    let made = heap.insist_make_raw(1, B, 1, &[Operand::Int(5)]);
+    expect_equal(rt, made, Ok(Reply::Raw(1)));
+    expect_equal(rt, heap.peek(1, A, 1), Ok(Reply::Object(2)));
+}
+
+#[test]
+fn objects_are_made_with_their_values(rt: HostRuntime) {
+    let mut heap = GrowingHeap::new(rt.alloc(), 8_618).expect(&rt, "memory is ample");
+    expect_makes(&rt, &mut heap);
+}
+
 /// Watches two objects, and one of them no more.
 fn expect_watches(rt: &impl Abort, heap: &mut GrowingHeap) {
     expect_equal(rt, heap.watch_room(2), Ok(()));
