@@ -1,4 +1,4 @@
-//! The pace for a trace, found from its first line and its commands, and how its heap grows.
+//! What a trace's first line and its commands give to the rule of paces, and how its heap grows.
 
 ghost use Rattle.std.specs.Prelude.{◌≡◌};
 ghost use Rattle.rh_paced_trace.specs.Growing.{growth_of as growth_of_script};

@@ -1,4 +1,4 @@
-//! What a run adds up to: commands, refusals, cycles and so on, as its last line prints them.
+//! What a run adds up to: commands, refusals, flips and the words of roots that these wrote.
 
 /// The numbers of the line that ends the answers of a trace.
 #[derive(Clone, Copy, Debug, PartialEq, Eq)]

@@ -1,15 +1,18 @@
 //! Laws of the ways in which traces of commands are run.
 
-ghost use Rattle.std.specs.Prelude.{ℕ, List, Option, Result, Err, IfOk};
+ghost use Rattle.std.specs.Prelude.{◌≡◌, ℕ, List, Option, Some, Result, Err, IfOk};
 ghost use Rattle.std.specs.Io.KnownBytes.{Appends, Consumes, Keeps};
 ghost use Rattle.rh_core.specs.runs.Programs.{CommandAnswers};
+ghost use Rattle.rh_mutator.specs.Config.{fault_of};
+ghost use Rattle.rh_mutator.specs.declared.config.ConfigFault.{ConfigFault};
 ghost use Rattle.rh_text.specs.Output.{AppendsLess};
 ghost use Rattle.rh_syntax.specs.Spelling.{Script};
+ghost use Rattle.rh_trace.specs.Run.{config_of};
 ghost use Rattle.rh_trace.specs.declared.summary.Summary.{Summary};
 ghost use Rattle.rh_trace.specs.declared.way_fault.WayFault.{WayFault};
 ghost use Rattle.rh_paced_trace.specs.declared.fault.Unpaced.{Unpaced};
 ghost use Rattle.rh_paced_trace.specs.Growing.{EndsGrowing};
-ghost use Rattle.rh_paced_trace.specs.Run.{AreSumsOf, Ends, IsPlainRun, output_of};
+ghost use Rattle.rh_paced_trace.specs.Run.{AreSumsOf, Ends, IsCommandTrace, IsPlainRun, output_of};
 ghost use Rattle.rh_paced_trace.specs.Ways.{AnswersGrowing, AnswersPaced};
 
 use crate::laws::growing::growing_heaps_answer_traces_as_plain_heaps;
@@ -36,6 +39,24 @@ pub fn a_growing_run_ends_as_its_input_says()
     ensures { (at_most : ℕ) (input : List ℕ) (result : Result Summary (WayFault Unpaced))
         (old new : Option (List ℕ)) → AnswersGrowing at_most input result old new
         → EndsGrowing at_most input result old new }
+{}
+
+/// A run that ends for want of a heap has its cause in the input.
+///
+/// - `limits`: a paced run never ends with the fault Limits, which is one of growing runs.
+/// - `paced`, `growing`: one that ends with a fault of the sizes has read a trace of commands, whose
+///   first line has that fault.
+pub fn a_run_without_a_heap_has_its_cause()
+    ensures limits { (mark : Option ℕ) (input : List ℕ) (old new : Option (List ℕ))
+        → ¬ Ends mark input (Err (WayFault.Way Unpaced.Limits)) old new }
+    ensures paced { (mark : Option ℕ) (input : List ℕ) (fault : ConfigFault)
+        (old new : Option (List ℕ)) → Ends mark input (Err (WayFault.New fault)) old new
+        → (script : Script) × IsCommandTrace input script
+        × (fault_of (config_of script.header) ≡ Some fault) }
+    ensures growing { (at_most : ℕ) (input : List ℕ) (fault : ConfigFault)
+        (old new : Option (List ℕ)) → EndsGrowing at_most input (Err (WayFault.New fault)) old new
+        → (script : Script) × IsCommandTrace input script
+        × (fault_of (config_of script.header) ≡ Some fault) }
 {}
 
 /// A paced run of the bytes that a reader gave tells what a plain heap answers.

@@ -1,4 +1,4 @@
-//! The lines of a cycle (`begin`, `deal`, `give`, `flip` and so on), read and written.
+//! Lines that begin with their keyword (`begin`, `deal`, `stat`, `resize` and so on), read and written.
 
 ghost use Rattle.std.specs.Prelude.{◌≡◌, ◌+◌, ◌≤◌, [], ◌∷◌, ◌++◌, length, decimal};
 ghost use Rattle.std.specs.List.{join_with_byte};
