@@ -7,13 +7,13 @@ _rheap() {
         return
     fi
     case ${COMP_WORDS[1]} in
-    run) options='--explain --paced --mark --grow --cycles --history --echo --json -h --help' valued='--mark --grow' ;;
+    run) options='--explain --paced --mark --grow --cycles --trace-events --history --echo --json -h --help' valued='--mark --grow' ;;
     threads) options='--explain --replicators --idle -h --help' valued='--replicators --idle' ;;
     replay) options='--explain --echo --json -h --help' valued='' ;;
-    dump) options='--explain --dot --json -h --help' valued='' ;;
+    dump) options='--explain --dot --heapsnapshot --why --json -h --help' valued='--why' ;;
     draw) options='--explain --line -h --help' valued='--line' ;;
     shell) options='-h --help' valued='' ;;
-    lisp) options='--heap --grow --steps --cycles --explain -h --help' valued='--heap --grow --steps' ;;
+    lisp) options='--heap --grow --steps --cycles --trace-events --explain -h --help' valued='--heap --grow --steps' ;;
     completions) options='-h --help' valued='' ;;
     help)
         mapfile -t COMPREPLY < <(compgen -W 'run threads replay dump draw shell lisp completions' -- "$word")

@@ -20,6 +20,7 @@ fn driven<R: AllocGlobal + Threads + Wait + Sync, T: Read>(
         subcommand,
         file: "-",
         explain: false,
+        out: None,
         views: PLAIN,
     };
     let mut out = Vec::new(rt.alloc());
@@ -126,6 +127,7 @@ fn explained<R: AllocGlobal + Threads + Wait + Sync>(rt: &R, dump: &[u8]) -> (u8
         subcommand: Subcommand::Dump,
         file: "-",
         explain: true,
+        out: None,
         views: PLAIN,
     };
     let mut reader = KeptReader::new(rt.alloc(), dump);

@@ -18,6 +18,7 @@ const SESSION: Ask<'static> = Ask {
     },
     file: "-",
     explain: false,
+    out: None,
     views: PLAIN,
 };
 

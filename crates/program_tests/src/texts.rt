@@ -19,6 +19,15 @@ pub const CROSSED_FAULT: &[u8] = b"rheap: OUT is a file of its own, neither FILE
 
 pub const SESSION_FAULT: &[u8] = b"rheap: --cycles of lisp needs FILE: a session has none\n";
 
+/// What is told of trace events without the file of cycles.
+pub const EVENTS_FAULT: &[u8] = b"rheap: --trace-events needs --cycles OUT\n";
+
+/// What is told of two forms of a dump, and of what is no object's number.
+pub const FORMS_FAULT: &[u8] =
+    b"rheap: one of --dot, --heapsnapshot, --json and --why of dump can stand, and no more\n";
+
+pub const OBJECT_FAULT: &[u8] = b"rheap: --why needs the number of an object, as 7 or @7\n";
+
 /// What is told of a mark that can't be taken.
 pub const MARK_FAULT: &[u8] =
     b"rheap: --mark needs --paced and a number of words, 0 to 4294967295\n";

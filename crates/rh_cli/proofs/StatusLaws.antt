@@ -9,6 +9,8 @@ use Rattle.rh_dump.specs.Dump.{GraphState}
 use Rattle.rh_dump.specs.declared.reading.fault.DumpFault.{DumpFault}
 use Rattle.rh_dump.specs.texts.Reading.{graph_of_text}
 use Rattle.rh_dot.specs.Dot.{dot_text}
+use Rattle.rh_snapshot.specs.Text.{snapshot_text}
+use Rattle.rh_why.specs.Path.{why_text}
 use Rattle.rh_layout.specs.declared.command.Reply.{Reply}
 use Rattle.rh_layout.specs.declared.refusal.Refusal.{Refusal}
 use Rattle.rh_replay.specs.declared.checking.Verdict.{Verdict}
@@ -57,7 +59,7 @@ use Rattle.rh_shell.specs.declared.fault.ShellFault.TheVariants as shell_faults
 use Rattle.rh_commands.specs.Session.{IsSessionStatus, SessionEnds, session_status}
 use Rattle.rh_command_line.specs.declared.ask.Shell.{Shell}
 use Rattle.rh_command_line.specs.declared.ask.Subcommand.{Subcommand}
-use Rattle.rh_command_line.specs.declared.ask.Subcommand.TheVariants.{Run, RunPaced, RunGrowing, Threads, Replay, Dump, Dot, Draw, Session, Lisp, LispSession, Completions}
+use Rattle.rh_command_line.specs.declared.ask.Subcommand.TheVariants.{Run, RunPaced, RunGrowing, Threads, Replay, Dump, Dot, Snapshot, Why, Draw, Session, Lisp, LispSession, Completions}
 use Rattle.rh_commands.specs.declared.ending.Ending.{Ending}
 use Rattle.rh_commands.specs.declared.ending.Ending.TheVariants.{Done, WrongHistory}
 use Rattle.rh_commands.specs.declared.fault.LineFault.{LineFault}
@@ -454,6 +456,8 @@ concludes_late (Threads replicators idle) input status old new c = late_of_four 
 concludes_late Replay input status old new c = late_of_four status (replay_is_0_1_3_or_4 input c.0 status old new c.1 c.2)
 concludes_late Dump input status old new c = late_of_three status (count_is_0_1_or_3 counts_line input c.0 status old new c.1 c.2)
 concludes_late Dot input status old new c = late_of_three status (count_is_0_1_or_3 dot_text input c.0 status old new c.1 c.2)
+concludes_late Snapshot input status old new c = late_of_three status (count_is_0_1_or_3 snapshot_text input c.0 status old new c.1 c.2)
+concludes_late (Why object) input status old new c = late_of_three status (count_is_0_1_or_3 (why_text object) input c.0 status old new c.1 c.2)
 concludes_late Session input status old new c = late_of_three status (session_is_0_1_or_3 c.0 status c.2)
 concludes_late (Lisp limits) input status old new c = late_of_three status (lisp_is_0_1_or_3 c.0 status c.2)
 concludes_late (LispSession limits) input status old new c = late_of_three status (lisp_session_is_0_1_or_3 c.0 status c.2)
@@ -473,6 +477,12 @@ concludes_dump_0 input old new c = count_is_0 counts_line input c.0 old new c.1 
 pub concludes_dot_0 : (input : List ℕ) (old new : Option (List ℕ)) → Concludes Dot input 0 old new → (g : GraphState) × (graph_of_text input ≡ Ok g) × Appends old new (dot_text g)
 concludes_dot_0 input old new c = count_is_0 dot_text input c.0 old new c.1 c.2
 
+pub concludes_snapshot_0 : (input : List ℕ) (old new : Option (List ℕ)) → Concludes Snapshot input 0 old new → (g : GraphState) × (graph_of_text input ≡ Ok g) × Appends old new (snapshot_text g)
+concludes_snapshot_0 input old new c = count_is_0 snapshot_text input c.0 old new c.1 c.2
+
+pub concludes_why_0 : (object : ℕ) (input : List ℕ) (old new : Option (List ℕ)) → Concludes (Why object) input 0 old new → (g : GraphState) × (graph_of_text input ≡ Ok g) × Appends old new (why_text object g)
+concludes_why_0 object input old new c = count_is_0 (why_text object) input c.0 old new c.1 c.2
+
 pub concludes_run_3 : (input : List ℕ) (old new : Option (List ℕ)) → Concludes Run input 3 old new → StopsBeforeTotal (run_of input) old new
 concludes_run_3 input old new c = run_is_3 (run_of input) c.0 old new c.1 c.2
 
@@ -485,6 +495,12 @@ concludes_dump_3 input old new c = count_is_3 counts_line input c.0 old new c.1 
 pub concludes_dot_3 : (input : List ℕ) (old new : Option (List ℕ)) → Concludes Dot input 3 old new → Keeps old new
 concludes_dot_3 input old new c = count_is_3 dot_text input c.0 old new c.1 c.2
 
+pub concludes_snapshot_3 : (input : List ℕ) (old new : Option (List ℕ)) → Concludes Snapshot input 3 old new → Keeps old new
+concludes_snapshot_3 input old new c = count_is_3 snapshot_text input c.0 old new c.1 c.2
+
+pub concludes_why_3 : (object : ℕ) (input : List ℕ) (old new : Option (List ℕ)) → Concludes (Why object) input 3 old new → Keeps old new
+concludes_why_3 object input old new c = count_is_3 (why_text object) input c.0 old new c.1 c.2
+
 pub concludes_4 : (subcommand : Subcommand) (input : List ℕ) (old new : Option (List ℕ)) → Concludes subcommand input 4 old new
     → ((subcommand ≡ Replay) × ((h : HistoryState) × (at : ℕ) × (expected : Result Reply Refusal) × IsJudged input h (Wrong at expected) × Appends old new (report_text h (Wrong at expected))))
     ⊎ ((replicators : ℕ) × (idle : ℕ) × (subcommand ≡ Threads replicators idle) × Keeps old new)
@@ -496,6 +512,8 @@ concludes_4 (Threads replicators idle) input old new c =
 concludes_4 Replay input old new c = inl (refl, replay_is_4 input c.0 old new c.1 c.2)
 concludes_4 Dump input old new c = absurd (not_2_or_4 4 4 (inr refl) (count_is_0_1_or_3 counts_line input c.0 4 old new c.1 c.2) refl)
 concludes_4 Dot input old new c = absurd (not_2_or_4 4 4 (inr refl) (count_is_0_1_or_3 dot_text input c.0 4 old new c.1 c.2) refl)
+concludes_4 Snapshot input old new c = absurd (not_2_or_4 4 4 (inr refl) (count_is_0_1_or_3 snapshot_text input c.0 4 old new c.1 c.2) refl)
+concludes_4 (Why object) input old new c = absurd (not_2_or_4 4 4 (inr refl) (count_is_0_1_or_3 (why_text object) input c.0 4 old new c.1 c.2) refl)
 concludes_4 Session input old new c = absurd (not_2_or_4 4 4 (inr refl) (session_is_0_1_or_3 c.0 4 c.2) refl)
 concludes_4 (Lisp limits) input old new c = absurd (not_2_or_4 4 4 (inr refl) (lisp_is_0_1_or_3 c.0 4 c.2) refl)
 concludes_4 (LispSession limits) input old new c = absurd (not_2_or_4 4 4 (inr refl) (lisp_session_is_0_1_or_3 c.0 4 c.2) refl)
@@ -517,6 +535,12 @@ concludes_dump_fault input fault status old new is c = count_of_fault counts_lin
 pub concludes_dot_fault : (input : List ℕ) (fault : DumpFault) (status : ℕ) (old new : Option (List ℕ)) → graph_of_text input ≡ Err fault → Concludes Dot input status old new → (status ≡ 1) ⊎ (status ≡ 3)
 concludes_dot_fault input fault status old new is c = count_of_fault dot_text input fault c.0 status old new is c.1 c.2
 
+pub concludes_snapshot_fault : (input : List ℕ) (fault : DumpFault) (status : ℕ) (old new : Option (List ℕ)) → graph_of_text input ≡ Err fault → Concludes Snapshot input status old new → (status ≡ 1) ⊎ (status ≡ 3)
+concludes_snapshot_fault input fault status old new is c = count_of_fault snapshot_text input fault c.0 status old new is c.1 c.2
+
+pub concludes_why_fault : (object : ℕ) (input : List ℕ) (fault : DumpFault) (status : ℕ) (old new : Option (List ℕ)) → graph_of_text input ≡ Err fault → Concludes (Why object) input status old new → (status ≡ 1) ⊎ (status ≡ 3)
+concludes_why_fault object input fault status old new is c = count_of_fault (why_text object) input fault c.0 status old new is c.1 c.2
+
 history_of_fault : (input : List ℕ) (fault : HistoryFault) (outcome : Result Verdict LineFault) (status : ℕ) (old new : Option (List ℕ)) → history_of input ≡ Err fault
     → ReplayEnds input outcome old new → IsReplayStatus outcome status → (status ≡ 1) ⊎ (status ≡ 3)
 history_of_fault input fault (Ok verdict) status old new is ends own =
@@ -534,7 +558,7 @@ module _ (E : Result Summary (WayFault Unpaced) → Type 0) where
   way_is_0 (Ok summary) ends is = (summary, ends)
   way_is_0 (Err fault) ends is = absurd (way_fault_is_not_0 fault is)
 
-  way_is_3 : (outcome : Result Summary (WayFault Unpaced)) → E outcome → IsWayStatus outcome 3 → E (Err ends.OutOfMemory)
+  pub way_is_3 : (outcome : Result Summary (WayFault Unpaced)) → E outcome → IsWayStatus outcome 3 → E (Err ends.OutOfMemory)
   way_is_3 (Ok summary) ends (inl is) = absurd (omega (arith, is))
   way_is_3 (Ok summary) ends (inr is) = absurd (omega (arith, is))
   way_is_3 (Err fault) ends is = subst (λ (f : WayFault Unpaced). E (Err f)) ((way_memory_is_3 fault).0 (sym is)) ends

@@ -1,6 +1,6 @@
 -- What the statuses say of how what is viewed ended.
 use Rattle.std.proofs.Common.{◌≡◌, ◌≢◌, ◌↔◌, ◌∙◌, ◌⊎◌, true, false, inl, inr, ℕ, Bool, List, Option, Some, None, Result, Ok, Err, refl, subst, arith}
-use Rattle.std.specs.Io.KnownBytes.{Appends}
+use Rattle.std.specs.Io.KnownBytes.{Appends, Keeps}
 use Rattle.rh_layout.specs.declared.command.Reply.{Reply}
 use Rattle.rh_layout.specs.declared.refusal.Refusal.{Refusal}
 use Rattle.rh_dump.specs.Dump.{GraphState}
@@ -20,7 +20,7 @@ use Rattle.rh_trace.specs.Fixed.{by_way}
 use Rattle.rh_trace.specs.Ways.{of_run_fault}
 use Rattle.rh_choices.specs.declared.telling.Telling.{Telling}
 use Rattle.rh_trace_views.specs.Cycles.{cycles_text}
-use Rattle.rh_trace_views.specs.Run.{Ends, IsRun, IsTold, Written, run_cycles, run_history, view_of_run}
+use Rattle.rh_trace_views.specs.Run.{Ends, IsRun, IsTold, KeepsAll, Written, run_cycles, run_history, view_of_run}
 use Rattle.rh_commands.specs.Ways.{EndsGrowing, EndsPaced, growing_answered, growing_cycles, paced_answered, paced_cycles}
 use Rattle.rh_pace.specs.declared.pace.Pace.{Pace}
 use Rattle.rh_paced_trace.specs.declared.fault.Unpaced.{Unpaced}
@@ -33,10 +33,10 @@ use Rattle.rh_commands.specs.ViewLog.{HasCause, ViewLogState}
 use Rattle.rh_cli.specs.Views.{ConcludesViewed, HasFailed, HasRunFault}
 use Rattle.rh_commands.specs.Views.{ReportEnds, told_counts, told_report}
 use Rattle.rh_command_line.specs.declared.ask.Subcommand.{Subcommand}
-use Rattle.rh_command_line.specs.declared.ask.Subcommand.TheVariants.{Run, RunPaced, RunGrowing, Threads, Replay, Dump, Dot, Draw, Session, Lisp, LispSession, Completions}
+use Rattle.rh_command_line.specs.declared.ask.Subcommand.TheVariants.{Run, RunPaced, RunGrowing, Threads, Replay, Dump, Dot, Snapshot, Why, Draw, Session, Lisp, LispSession, Completions}
 use Rattle.rh_commands.specs.declared.fault.LineFault.{LineFault}
 use Rattle.rh_commands.specs.declared.fault.LineFault.TheVariants as faults
-use Rattle.rh_cli.proofs.StatusLaws.{concludes_late, count_is_0, count_is_0_1_or_3, late_of_four, late_of_three, way_fault_is_not_0, way_is_0, way_is_0_1_or_3}
+use Rattle.rh_cli.proofs.StatusLaws.{concludes_late, count_is_0, count_is_0_1_or_3, late_of_four, late_of_three, way_fault_is_not_0, way_is_0, way_is_0_1_or_3, way_is_3}
 
 view_is_0 : (outcome : Result Summary RunFault) (telling : Telling) (input : List ℕ) (w : Written) → Ends telling input outcome w → IsWayStatus (by_way outcome) 0
     → (script : Script) × IsRun input script × Appends w.old w.new (view_of_run telling script) × Appends w.history_old w.history_new (spelling (run_history script))
@@ -105,6 +105,8 @@ viewed_late telling Replay input status log w c = late_of_four status (report_is
 viewed_late telling Dump input status log w c = late_of_three status (count_is_0_1_or_3 (told_counts telling) input c.0.0 status w.old w.new c.0.1 c.0.2)
 viewed_late telling (Threads replicators idle) input status log w c = concludes_late (Threads replicators idle) input status w.old w.new c.0
 viewed_late telling Dot input status log w c = concludes_late Dot input status w.old w.new c.0
+viewed_late telling Snapshot input status log w c = concludes_late Snapshot input status w.old w.new c.0
+viewed_late telling (Why object) input status log w c = concludes_late (Why object) input status w.old w.new c.0
 viewed_late telling (Draw line) input status log w c = concludes_late (Draw line) input status w.old w.new c.0
 viewed_late telling (Lisp limits) input status log w c = concludes_late (Lisp limits) input status w.old w.new c.0
 viewed_late telling (LispSession limits) input status log w c = concludes_late (LispSession limits) input status w.old w.new c.0
@@ -142,6 +144,32 @@ pub viewed_growing_0 : (at_most : ℕ) (telling : Telling) (input : List ℕ) (l
 viewed_growing_0 at_most telling input log w c =
     let ends = (way_is_0 (λ outcome. EndsGrowing at_most telling input outcome w) c.0 c.1 c.2).1 in
     (ends.0, ends.1, ends.2, subst (λ (s : Summary). IsTold telling ends.0 (growing_answered ends.0 at_most ends.1) s (growing_cycles ends.0 at_most ends.1) w) ends.3 ends.4)
+
+-- where memory was refused nothing of the history is written
+history_kept : {Stopped : Type 0} (w : Written) → (Stopped → Keeps w.history_old w.history_new) → KeepsAll w ⊎ Stopped → Keeps w.history_old w.history_new
+history_kept w stopped (inl all) = all.1
+history_kept w stopped (inr some) = stopped some
+
+view_is_3 : (outcome : Result Summary RunFault) (telling : Telling) (input : List ℕ) (w : Written) → Ends telling input outcome w → IsWayStatus (by_way outcome) 3 → Keeps w.history_old w.history_new
+view_is_3 (Ok summary) telling input w ends (inl is) = absurd (omega (arith, is))
+view_is_3 (Ok summary) telling input w ends (inr is) = absurd (omega (arith, is))
+view_is_3 (Err run_faults.OutOfMemory) telling input w ends is = history_kept w (λ stopped. stopped.2.1) ends
+view_is_3 (Err run_faults.Read) telling input w ends is = absurd (omega (arith, is))
+view_is_3 (Err run_faults.Write) telling input w ends is = absurd (omega (arith, is))
+view_is_3 (Err run_faults.Long) telling input w ends is = absurd (omega (arith, is))
+view_is_3 (Err (run_faults.Trace fault)) telling input w ends is = absurd (omega (arith, is))
+view_is_3 (Err (run_faults.New fault)) telling input w ends is = absurd (omega (arith, is))
+
+pub viewed_run_3 : (telling : Telling) (input : List ℕ) (log : ViewLogState) (w : Written) → ConcludesViewed telling Run input 3 log w → Keeps w.history_old w.history_new
+viewed_run_3 telling input log w c = view_is_3 c.0 telling input w c.1 c.2
+
+pub viewed_paced_3 : (mark : Option ℕ) (telling : Telling) (input : List ℕ) (log : ViewLogState) (w : Written) → ConcludesViewed telling (RunPaced mark) input 3 log w → Keeps w.history_old w.history_new
+viewed_paced_3 mark telling input log w c =
+    history_kept w (λ stopped. stopped.3.1) (way_is_3 (λ outcome. EndsPaced mark telling input outcome w) c.0 c.1 c.2)
+
+pub viewed_growing_3 : (at_most : ℕ) (telling : Telling) (input : List ℕ) (log : ViewLogState) (w : Written) → ConcludesViewed telling (RunGrowing at_most) input 3 log w → Keeps w.history_old w.history_new
+viewed_growing_3 at_most telling input log w c =
+    history_kept w (λ stopped. stopped.3.1) (way_is_3 (λ outcome. EndsGrowing at_most telling input outcome w) c.0 c.1 c.2)
 
 pub viewed_replay_0 : (telling : Telling) (input : List ℕ) (log : ViewLogState) (w : Written) → ConcludesViewed telling Replay input 0 log w
     → (h : HistoryState) × (count : ℕ) × IsJudged input h (Legal count) × Appends w.old w.new (told_report telling h (Legal count))

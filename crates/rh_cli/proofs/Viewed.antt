@@ -9,7 +9,7 @@ use Rattle.rh_commands.specs.ViewLog.{FlushedSince, ViewLogState}
 use Rattle.rh_commands.specs.Views.{ConcludesCounts, ConcludesReport}
 use Rattle.rh_cli.specs.Views.{ConcludesViewed, KeepsOthers, reads_given, viewed_texts}
 use Rattle.rh_command_line.specs.declared.ask.Subcommand.{Subcommand}
-use Rattle.rh_command_line.specs.declared.ask.Subcommand.TheVariants.{Run, RunPaced, RunGrowing, Threads, Replay, Dump, Dot, Draw, Session, Lisp, LispSession, Completions}
+use Rattle.rh_command_line.specs.declared.ask.Subcommand.TheVariants.{Run, RunPaced, RunGrowing, Threads, Replay, Dump, Dot, Snapshot, Why, Draw, Session, Lisp, LispSession, Completions}
 
 -- where the first writer was and is, and nothing was written to the others
 abbrev pub told_alone : Option (List ℕ) → Option (List ℕ) → Option (List ℕ) → Option (List ℕ) → Written
@@ -52,6 +52,8 @@ unviewed telling Replay status log old new history cycles run paced growing repl
 unviewed telling Dump status log old new history cycles run paced growing replay dump input ends = absurd (dump refl)
 unviewed telling (Threads replicators idle) status log old new history cycles run paced growing replay dump input ends = (ends, others_kept old new history cycles)
 unviewed telling Dot status log old new history cycles run paced growing replay dump input ends = (ends, others_kept old new history cycles)
+unviewed telling Snapshot status log old new history cycles run paced growing replay dump input ends = (ends, others_kept old new history cycles)
+unviewed telling (Why object) status log old new history cycles run paced growing replay dump input ends = (ends, others_kept old new history cycles)
 unviewed telling (Draw line) status log old new history cycles run paced growing replay dump input ends = (ends, others_kept old new history cycles)
 unviewed telling (Lisp limits) status log old new history cycles run paced growing replay dump input ends = (ends, others_kept old new history cycles)
 unviewed telling (LispSession limits) status log old new history cycles run paced growing replay dump input ends = (ends, others_kept old new history cycles)

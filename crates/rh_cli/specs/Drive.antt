@@ -2,8 +2,8 @@
 use Rattle.std.specs.Prelude.{ℕ, Option, List}
 use Rattle.rh_trace.specs.Run.{run_of}
 use Rattle.rh_command_line.specs.declared.ask.Subcommand.{Subcommand}
-use Rattle.rh_command_line.specs.declared.ask.Subcommand.TheVariants.{Run, RunPaced, RunGrowing, Threads, Replay, Dump, Dot, Draw, Session, Lisp, LispSession, Completions}
-use Rattle.rh_commands.specs.Count.{ConcludesCount, ConcludesDot}
+use Rattle.rh_command_line.specs.declared.ask.Subcommand.TheVariants.{Run, RunPaced, RunGrowing, Threads, Replay, Dump, Dot, Snapshot, Why, Draw, Session, Lisp, LispSession, Completions}
+use Rattle.rh_commands.specs.Count.{ConcludesCount, ConcludesDot, ConcludesSnapshot, ConcludesWhy}
 use Rattle.rh_commands.specs.Draw.{ConcludesDraw, ConcludesSent}
 use Rattle.rh_commands.specs.Replay.{ConcludesReplay}
 use Rattle.rh_commands.specs.Runs.{ConcludesGrowing, ConcludesPaced, ConcludesRun}
@@ -22,6 +22,8 @@ Concludes (Threads replicators idle) input status old new =
 Concludes Replay input status old new = ConcludesReplay input status old new
 Concludes Dump input status old new = ConcludesCount input status old new
 Concludes Dot input status old new = ConcludesDot input status old new
+Concludes Snapshot input status old new = ConcludesSnapshot input status old new
+Concludes (Why object) input status old new = ConcludesWhy object input status old new
 Concludes (Draw line) input status old new = ConcludesDraw status old new
 Concludes Session input status old new = ConcludesSession input status old new
 Concludes (Lisp limits) input status old new = ConcludesLisp limits.steps input status old new

@@ -2,7 +2,7 @@
 
 ghost use Rattle.std.specs.Prelude.{◌≡◌, ◌≢◌, ◌⊎◌, [], map, option_map, Ok, IsTrue, IfOk, IfErr};
 ghost use Rattle.rh_cli.specs.Arguments.{IsArgumentsFault, IsClapFault, IsDueFault};
-ghost use Rattle.rh_command_line.specs.Ask.{command_and_file, command_and_file_of, error_kinds, explains_of, is_taken, viewed_of};
+ghost use Rattle.rh_command_line.specs.Ask.{command_and_file, command_and_file_of, error_kinds, explains_of, is_taken, out_of, viewed_of};
 ghost use Rattle.rh_command_line.specs.declared.ask.Ask.{Ask};
 
 use rh_command_line::{Ask, CommandLineError, read_command_line};
@@ -23,12 +23,16 @@ pub fn read_words<'a>(alloc: Global, arguments: &'a [&'a str]) -> Result<Ask<'a>
     // It asks for explanations exactly where that parse has the flag for them.
     ensures explained { IfOk result (λ ask.
         ask.explain ≡ explains_of (map (λ a. a.now) arguments.now)) }
+    // The text goes to the file that it has for it.
+    ensures written { IfOk result (λ ask.
+        out_of (map (λ a. a.now) arguments.now) ≡ option_map (λ t. t.now) ask.out) }
     // What is done is viewed as that parse says.
     ensures viewed { IfOk result (λ ask.
         viewed_of (map (λ a. a.now) arguments.now) ≡ record {
           telling = ask.views.telling;
           cycles = option_map (λ t. t.now) ask.views.cycles;
           history = option_map (λ t. t.now) ask.views.history;
+          events = ask.views.events;
         }) }
     // A request comes only where clap refuses nothing.
     ensures taken { IfOk result (λ ask. error_kinds (map (λ a. a.now) arguments.now) ≡ []) }

@@ -13,8 +13,8 @@ use crate::prompting::Alone;
 use rh_command_line::{Ask, Subcommand};
 use rh_commands::laws::runs::a_run_concludes_as_its_input_says;
 use rh_commands::{
-    Ending, LineFault, converse, count, draw, play_shared, print_completions, print_graph, replay,
-    run, tell,
+    Ending, LineFault, converse, count, draw, play_shared, print_completions, print_graph,
+    print_path, print_snapshot, replay, run, tell,
 };
 use rh_paced_trace::{Growing, Paced};
 use rh_shared_trace::RunOptions;
@@ -104,6 +104,8 @@ where
         Subcommand::Replay => replay(alloc, reader, out),
         Subcommand::Dump => count(alloc, reader, out),
         Subcommand::Dot => print_graph(alloc, reader, out),
+        Subcommand::Snapshot => print_snapshot(alloc, reader, out),
+        Subcommand::Why { object } => print_path(alloc, reader, out, object),
         Subcommand::Draw { line } => draw(alloc, reader, out, line),
         Subcommand::Session => converse(alloc, reader, out, &mut Alone),
         Subcommand::Lisp { limits } => run_program(alloc, reader, out, limits),

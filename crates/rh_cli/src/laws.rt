@@ -13,6 +13,8 @@ ghost use Rattle.rh_dump.specs.declared.reading.fault.DumpFault.{DumpFault as Du
 ghost use Rattle.rh_dump.specs.texts.Line.{dump_text, text_in};
 ghost use Rattle.rh_dump.specs.texts.Reading.{graph_of_text};
 ghost use Rattle.rh_dot.specs.Dot.{dot_text};
+ghost use Rattle.rh_snapshot.specs.Text.{snapshot_text};
+ghost use Rattle.rh_why.specs.Path.{why_text};
 ghost use Rattle.rh_layout.specs.declared.command.Reply.{Reply};
 ghost use Rattle.rh_layout.specs.declared.refusal.Refusal.{Refusal};
 ghost use Rattle.rh_replay.specs.declared.checking.Verdict.{Verdict as VerdictOf};
@@ -78,7 +80,7 @@ use std::alloc::Global;
 /// 0 says that all was done: a run answered its whole trace, a paced run its whole trace of
 /// commands at its pace, a growing run its whole trace of commands, the history of one in threads
 /// is written, a history is legal and its report is written, or the counts of a dump's graph are,
-/// or its text for Graphviz, or a picture, or completions, or the whole text of a session, or what
+/// or its text for Graphviz or as a heap snapshot, or a path in it, or a picture, or completions, or the whole text of a session, or what
 /// a program of the small Scheme printed that finished, with all lines of its cycles where these
 /// are written.
 pub fn status_0_says_done()
@@ -108,6 +110,14 @@ pub fn status_0_says_done()
     ensures dot { (input : List ℕ) (old new : Option (List ℕ))
         → Concludes SubcommandOf.Dot input 0 old new
         → (g : GraphState) × (graph_of_text input ≡ Ok g) × Appends old new (dot_text g) }
+    ensures snapshot { (input : List ℕ) (old new : Option (List ℕ))
+        → Concludes SubcommandOf.Snapshot input 0 old new
+        → (g : GraphState) × (graph_of_text input ≡ Ok g)
+        × Appends old new (snapshot_text g) }
+    ensures why { (object : ℕ) (input : List ℕ) (old new : Option (List ℕ))
+        → Concludes (SubcommandOf.Why object) input 0 old new
+        → (g : GraphState) × (graph_of_text input ≡ Ok g)
+        × Appends old new (why_text object g) }
     ensures draw { (line : Option ℕ) (input : List ℕ) (old new : Option (List ℕ))
         → Concludes (SubcommandOf.Draw line) input 0 old new
         → (text : List ℕ) × Appends old new text }
@@ -166,6 +176,14 @@ pub fn a_faulty_input_ends_with_1_or_3()
     ensures dot { (input : List ℕ) (fault : DumpFaultOf) (status : ℕ)
         (old new : Option (List ℕ)) → graph_of_text input ≡ Err fault
         → Concludes SubcommandOf.Dot input status old new → (status ≡ 1) ⊎ (status ≡ 3) }
+    ensures snapshot { (input : List ℕ) (fault : DumpFaultOf) (status : ℕ)
+        (old new : Option (List ℕ)) → graph_of_text input ≡ Err fault
+        → Concludes SubcommandOf.Snapshot input status old new
+        → (status ≡ 1) ⊎ (status ≡ 3) }
+    ensures why { (object : ℕ) (input : List ℕ) (fault : DumpFaultOf) (status : ℕ)
+        (old new : Option (List ℕ)) → graph_of_text input ≡ Err fault
+        → Concludes (SubcommandOf.Why object) input status old new
+        → (status ≡ 1) ⊎ (status ≡ 3) }
 {}
 
 /// 2 says that the command line isn't understood: no subcommand ends with it, and no fault but one
@@ -186,6 +204,9 @@ pub fn status_2_says_that_the_command_line_is_not_understood()
     ensures shell { status_of (FaultOf.CommandLine LineOf.Shell) ≡ 2 }
     ensures views { status_of (FaultOf.CommandLine LineOf.Views) ≡ 2 }
     ensures crossed { status_of (FaultOf.CommandLine LineOf.Crossed) ≡ 2 }
+    ensures events { status_of (FaultOf.CommandLine LineOf.Events) ≡ 2 }
+    ensures forms { status_of (FaultOf.CommandLine LineOf.Forms) ≡ 2 }
+    ensures object { status_of (FaultOf.CommandLine LineOf.Object) ≡ 2 }
     ensures session_cycles { status_of (FaultOf.CommandLine LineOf.SessionCycles) ≡ 2 }
     ensures words { status_of (FaultOf.CommandLine LineOf.Words) ≡ 2 }
     ensures steps { status_of (FaultOf.CommandLine LineOf.Steps) ≡ 2 }
@@ -200,7 +221,7 @@ pub fn status_2_says_that_the_command_line_is_not_understood()
 
 /// 3 says that memory was refused, or a thread, and no other fault has it: a run has then written
 /// nothing of its total line, and a paced or a growing run, one in threads, a check, a count, a text
-/// for Graphviz and a picture nothing at all.
+/// for Graphviz, a heap snapshot, a path and a picture nothing at all.
 pub fn status_3_says_want_of_memory()
     ensures fault { (fault : FaultOf) → (status_of fault ≡ 3) ↔ (fault ≡ FaultOf.OutOfMemory) }
     ensures run_fault { (fault : WayFaultOf UnpacedOf)
@@ -219,6 +240,10 @@ pub fn status_3_says_want_of_memory()
         → Concludes SubcommandOf.Dump input 3 old new → Keeps old new }
     ensures dot { (input : List ℕ) (old new : Option (List ℕ))
         → Concludes SubcommandOf.Dot input 3 old new → Keeps old new }
+    ensures snapshot { (input : List ℕ) (old new : Option (List ℕ))
+        → Concludes SubcommandOf.Snapshot input 3 old new → Keeps old new }
+    ensures why { (object : ℕ) (input : List ℕ) (old new : Option (List ℕ))
+        → Concludes (SubcommandOf.Why object) input 3 old new → Keeps old new }
     ensures draw { (line : Option ℕ) (input : List ℕ) (old new : Option (List ℕ))
         → Concludes (SubcommandOf.Draw line) input 3 old new → Keeps old new }
     ensures completions { (shell : ShellOf) (input : List ℕ) (old new : Option (List ℕ))
@@ -249,7 +274,8 @@ pub fn status_4_says_a_wrong_history()
 /// What is viewed ends with the statuses of what isn't, and never with 2. 0 says that all that was
 /// asked for is written: of a run, also of a paced and of a growing one, what is told of its lines,
 /// its history and its cycles, each whole; the report on a legal history; or the counts of a dump.
-/// 4 of a check says that the history is wrong, and that the whole report is written.
+/// 4 of a check says that the history is wrong, and that the whole report is written. 3 of a run says
+/// that nothing of its history is written.
 pub fn what_is_viewed_ends_with_the_same_statuses()
     ensures late { (telling : TellingOf) (subcommand : SubcommandOf) (input : List ℕ)
         (status : ℕ) (log : ViewLogState) (w : Written)
@@ -290,6 +316,17 @@ pub fn what_is_viewed_ends_with_the_same_statuses()
         → ConcludesViewed telling SubcommandOf.Dump input 0 log w
         → (g : GraphState) × (graph_of_text input ≡ Ok g)
         × Appends w.old w.new (told_counts telling g) }
+    ensures run_refused { (telling : TellingOf) (input : List ℕ) (log : ViewLogState) (w : Written)
+        → ConcludesViewed telling SubcommandOf.Run input 3 log w
+        → Keeps w.history_old w.history_new }
+    ensures paced_refused { (mark : Option ℕ) (telling : TellingOf) (input : List ℕ)
+        (log : ViewLogState) (w : Written)
+        → ConcludesViewed telling (SubcommandOf.RunPaced mark) input 3 log w
+        → Keeps w.history_old w.history_new }
+    ensures growing_refused { (at_most : ℕ) (telling : TellingOf) (input : List ℕ)
+        (log : ViewLogState) (w : Written)
+        → ConcludesViewed telling (SubcommandOf.RunGrowing at_most) input 3 log w
+        → Keeps w.history_old w.history_new }
 {}
 
 /// A viewed run ends with 1 only where its input has a fault, or a read, a write or a flush failed.

@@ -26,7 +26,7 @@ fn is_one_file<R: Files>(rt: &R, name: &str, other: &str) -> bool {
 
 /// Whether a text would go to the file that is read, or to one to which standard output or error
 /// goes.
-fn is_taken<R: Files>(rt: &R, file: &str, out: Option<&str>) -> bool {
+pub(crate) fn is_taken<R: Files>(rt: &R, file: &str, out: Option<&str>) -> bool {
     let Some(name) = out else {
         return false;
     };

@@ -1,9 +1,9 @@
 //! Where the texts of a request go: standard output, a file, or nowhere.
 
-ghost use Rattle.std.specs.Prelude.{◌≡◌, ◌⊎◌, option_map, IfOk, IfErr};
+ghost use Rattle.std.specs.Prelude.{◌≡◌, ◌⊎◌, Some, option_map, IfOk, IfErr};
 ghost use Rattle.rh_cli.specs.Outputs.{GoesTo, answers_file};
 
-use crate::one_file::are_crossed;
+use crate::one_file::{are_crossed, is_taken};
 use crate::output_file::{OutputFile, output_file};
 use either::{Either, Left, Right};
 use rh_command_line::{Views, is_output};
@@ -53,6 +53,26 @@ where
         return output_of(rt, None);
     }
     output_of(rt, Some("-"))
+}
+
+/// Where a text goes for which this file is given, where the other file is read. Nothing is written
+/// where it would go to that file. That a file has the name that is given for it no clause says.
+pub(crate) fn text_output<'a, R>(
+    rt: &'a R,
+    file: &str,
+    out: &str,
+) -> Result<Output<'a, R>, LineFault>
+where
+    R: Files + Print,
+    ensures goes { IfOk result (λ output. GoesTo (Some out.now) output) }
+    ensures refused { IfErr result (λ fault.
+        (fault ≡ LineFault.Write) ⊎ (fault ≡ LineFault.SameFile)) }
+{
+    let output = output_of(rt, Some(out))?;
+    if is_taken(rt, file, Some(out)) {
+        return Err(LineFault::SameFile);
+    }
+    Ok(output)
 }
 
 /// Where the texts of views go: the answers, the history and the cycles, where this file is read.

@@ -17,12 +17,13 @@ use crate::keeping::KeptReader;
 use crate::lisp::play_lisp;
 use crate::lisp_cycles::play_lisp_with_cycles;
 use crate::lisp_session::hold_entries;
-use crate::outputs::outputs_of;
+use crate::outputs::{outputs_of, text_output};
 use crate::prompting::Prompter;
 use crate::viewed_driving::{drive_viewed, reads_for};
 use rh_choices::{Limits, Telling};
 use rh_command_line::{Ask, Subcommand, Views};
 use rh_commands::{LineFault, ViewLog, converse, show, tell, tell_as, tell_ending};
+use rh_cycle_events::CycleEvents;
 use rh_trace_views::writers;
 use std::alloc::Global;
 use std::env::{self, Args};
@@ -184,6 +185,9 @@ where
     if let Subcommand::LispSession { limits } = ask.subcommand {
         return hold_entries(rt, limits, err, terminals.input, explains);
     }
+    if let Some(out) = ask.out {
+        return write_text(rt, threads, ask, out, err, explains);
+    }
     if !is_plain(&ask.views) {
         return Ok(view(rt, threads, ask, err, explains));
     }
@@ -193,6 +197,59 @@ where
     }
     let file = opened(rt, ask.file)?;
     Ok(carried_out(threads, rt.alloc(), ask, file, &mut out, err, explains))
+}
+
+/// Carries out a request whose text goes to a file of its own, or to standard output.
+fn write_text<R, T, E>(
+    rt: &R,
+    threads: &T,
+    ask: &Ask<'_>,
+    out: &str,
+    err: &mut E,
+    explains: bool,
+) -> Result<u8, LineFault>
+where
+    R: Files + Input + Print + AllocGlobal,
+    T: Threads + Wait + Sync,
+    E: Write,
+    ensures late { IfOk result (λ status. IsLateStatus status) }
+    ensures refused { IfErr result (λ fault.
+        (fault ≡ LineFault.Open) ⊎ (fault ≡ LineFault.OutOfMemory)) }
+    ensures input { IfErr result (λ fault. ask.now.file.now ≡ codes "-"
+        → fault ≡ LineFault.OutOfMemory) }
+{
+    if is_standard_input(ask.file) {
+        return write_text_of(rt, threads, ask, out, rt.reader(), err, explains);
+    }
+    let file = opened(rt, ask.file)?;
+    write_text_of(rt, threads, ask, out, file, err, explains)
+}
+
+/// Carries out a request whose text goes to this file, with what the reader gives. Nothing is read
+/// where the file can't be made.
+fn write_text_of<R, T, I, E>(
+    rt: &R,
+    threads: &T,
+    ask: &Ask<'_>,
+    out: &str,
+    reader: I,
+    err: &mut E,
+    explains: bool,
+) -> Result<u8, LineFault>
+where
+    R: Files + Print + AllocGlobal,
+    T: Threads + Wait + Sync,
+    I: Read + Drop,
+    E: Write,
+    ensures late { IfOk result (λ status. IsLateStatus status) }
+    ensures refused { IfErr result (λ fault. fault ≡ LineFault.OutOfMemory) }
+{
+    let output = match text_output(rt, ask.file, out) {
+        Ok(output) => output,
+        Err(fault) => return Ok(tell(&fault, err)),
+    };
+    let mut out = gathering(rt.alloc(), output)?;
+    Ok(carried_out(threads, rt.alloc(), ask, reader, &mut out, err, explains))
 }
 
 /// Whether there are answers or a report alone.
@@ -329,7 +386,7 @@ where
 }
 
 /// Carries out a request that is viewed, with what the reader gives. Nothing is read where a file
-/// can't be made for a text. Lines of cycles are written as they come.
+/// can't be made for a text. Lines of cycles are written as they come, as events where that is asked.
 fn with_outputs<R, T, I, E>(
     rt: &R,
     threads: &T,
@@ -369,7 +426,7 @@ where
 {
     let (out, history, cycles) = outputs_of(rt, ask.file, &ask.views)?;
     let (out, history) = gathering_both(rt.alloc(), out, history)?;
-    let mut out = writers(out, history, cycles);
+    let mut out = writers(out, history, CycleEvents::new(cycles, ask.views.events));
     let mut log = ViewLog::new(reads_for(ask.subcommand));
     Ok(drive_viewed(
         threads,

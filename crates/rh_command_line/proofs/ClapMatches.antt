@@ -13,7 +13,7 @@ use Rattle.std.specs.Str.{bytes_eq}
 use Rattle.std.proofs.lemmas.Slice.Eq.{bytes_eq-Decides}
 use Rattle.clap.proofs.WalkLemmas.{first_value-rows}
 use Rattle.clap.proofs.OnLiterals.{clap_on_literals}
-use Rattle.rh_command_line.specs.Ask.{Given, command_and_file_in, command_and_file_of, command_asked, error_kinds, explains_in, explains_of, given_in, given_of, is_set, is_taken, viewed_by, viewed_in, viewed_of, with_file}
+use Rattle.rh_command_line.specs.Ask.{Given, command_and_file_in, command_and_file_of, command_asked, error_kinds, explains_in, explains_of, given_in, given_of, is_set, is_taken, out_in, out_of, viewed_by, viewed_in, viewed_of, with_file}
 use Rattle.rh_command_line.specs.Table.{CommandState, first_word, names_command, rheap_app, rheap_app_for, table}
 use Rattle.rh_command_line.specs.Fault.{IsClapError}
 use Rattle.rh_command_line.specs.declared.fault.CommandLineError.{CommandLineError}
@@ -55,6 +55,13 @@ pub explains_in-matches : (m : ArgMatches) (n : Text) (values : ArgMatches) → 
     → explains_in (subcommand_rows_of m) ≡ is_set (given_of values (codes "explain"))
 explains_in-matches m n values name rows =
     ap explains_in (entered_is m n values name rows) ∙ ap (λ (g : Given). is_set (g (codes "explain"))) (sym (given_is values))
+
+-- what a subcommand with these matches says of the file of a text
+pub out_in-matches : (m : ArgMatches) (n : Text) (values : ArgMatches) → Some n ≡ subcommand_name_of m
+    → Some (rows_of (found_of values)) ≡ option_map (λ (p : Text × List Row). p.1) (subcommand_rows_of m)
+    → out_in (subcommand_rows_of m) ≡ given_of values (codes "heapsnapshot")
+out_in-matches m n values name rows =
+    ap out_in (entered_is m n values name rows) ∙ ap (λ (g : Given). g (codes "heapsnapshot")) (sym (given_is values))
 
 -- what a subcommand with these matches says of views
 pub viewed_in-matches : (m : ArgMatches) (n : Text) (values : ArgMatches) → Some n ≡ subcommand_name_of m
@@ -110,6 +117,13 @@ unfolding explains_of
 explains_of-matches a arguments m is h =
     let entered = (h (ap is_simple is ∙ is_simple_line (first_word arguments))).1 in
     ap explains_in (sym (entered ∙ ap (λ (x : App). subcommand_of x arguments) is))
+
+-- and with the file of a text
+pub out_of-matches : (a : App) (arguments : List Text) (m : ArgMatches) → a ≡ rheap_app arguments → HasMatchesOf a arguments m → out_of arguments ≡ out_in (subcommand_rows_of m)
+unfolding out_of
+out_of-matches a arguments m is h =
+    let entered = (h (ap is_simple is ∙ is_simple_line (first_word arguments))).1 in
+    ap out_in (sym (entered ∙ ap (λ (x : App). subcommand_of x arguments) is))
 
 -- and with views
 pub viewed_of-matches : (a : App) (arguments : List Text) (m : ArgMatches) → a ≡ rheap_app arguments → HasMatchesOf a arguments m → viewed_of arguments ≡ viewed_in (subcommand_rows_of m)

@@ -1,5 +1,5 @@
 -- What the program is asked, by what clap takes of its arguments.
-use Rattle.std.specs.Prelude.{ℕ, ◌+◌, ◌-◌, ◌^◌, nat_le, nat_lt, List, Bool, true, false, if◌then◌else◌, Option, Some, None, is_some, Result, Ok, Err, codes, find, ◌&&◌}
+use Rattle.std.specs.Prelude.{ℕ, ◌+◌, ◌-◌, ◌^◌, ◌==◌, nat_le, nat_lt, List, [], ◌∷◌, Bool, true, false, if◌then◌else◌, Option, Some, None, is_some, Result, Ok, Err, codes, find, ◌&&◌}
 use Rattle.std.specs.Option.{option_map}
 use Rattle.std.specs.Str.{bytes_eq}
 use Rattle.rh_text.specs.Number.{number_of}
@@ -9,7 +9,7 @@ use Rattle.clap.specs.declared.builder.action.ArgAction.{ArgAction}
 use Rattle.clap.specs.declared.builder.action.ArgAction.TheVariants.{SetTrue}
 use Rattle.rh_command_line.specs.Table.{Argument, CommandState, rheap_app}
 use Rattle.rh_command_line.specs.declared.ask.Subcommand.{Subcommand}
-use Rattle.rh_command_line.specs.declared.ask.Subcommand.TheVariants.{Run, RunPaced, RunGrowing, Threads, Replay, Dump, Dot, Draw, Session, Lisp, LispSession, Completions}
+use Rattle.rh_command_line.specs.declared.ask.Subcommand.TheVariants.{Run, RunPaced, RunGrowing, Threads, Replay, Dump, Dot, Snapshot, Why, Draw, Session, Lisp, LispSession, Completions}
 use Rattle.rh_choices.specs.declared.limits.HeapWords.{HeapWords}
 use Rattle.rh_choices.specs.declared.limits.HeapWords.TheVariants.{UpTo, Just}
 use Rattle.rh_choices.specs.declared.limits.Limits.{Limits}
@@ -143,10 +143,29 @@ given_in rows name = first_of name rows
 abbrev pub given_of : ArgMatches → Given
 given_of values name = first_value (found_of values) name
 
--- what is written of a dump: its graph for Graphviz where that is asked, and else its counts
-abbrev pub dump_asked : Bool → Subcommand
-dump_asked false = Dump
-dump_asked true = Dot
+-- a text without the @ that it may begin with
+abbrev pub without_at : Text → Text
+without_at [] = []
+without_at (byte ∷ bytes) = if byte == 64 then bytes else byte ∷ bytes
+
+-- the path to an object of a number that was read, or the fault where it is none
+abbrev pub why_for : Option ℕ → Result Subcommand CommandLineFault
+why_for None = Err faults.Object
+why_for (Some object) = Ok (Why object)
+
+-- the path that is asked for, to the object of this number
+abbrev pub why_asked : Text → Result Subcommand CommandLineFault
+why_asked object = why_for (number_of (without_at object))
+
+-- What is written of a dump: its graph for Graphviz or as a heap snapshot, or the path to an object,
+-- where that is asked, and else its counts. It is written in one of these forms, and as JSON only
+-- its counts are.
+abbrev pub dump_asked : Bool → Bool → Option Text → Option Text → Result Subcommand CommandLineFault
+dump_asked false json None None = Ok Dump
+dump_asked true json None None = Ok Dot
+dump_asked false false (Some out) None = Ok Snapshot
+dump_asked false false None (Some object) = why_asked object
+dump_asked dot json snapshot why = Err faults.Forms
 
 -- the command of this name with its options, of those that are given
 abbrev pub command_named : Text → Given → Result Subcommand CommandLineFault
@@ -156,7 +175,9 @@ command_named name given =
     else (if bytes_eq name (codes "threads")
     then threads_asked (given (codes "replicators")) (given (codes "idle"))
     else (if bytes_eq name (codes "replay") then Ok Replay
-    else (if bytes_eq name (codes "dump") then Ok (dump_asked (is_set (given (codes "dot"))))
+    else (if bytes_eq name (codes "dump")
+    then dump_asked (is_set (given (codes "dot"))) (is_set (given (codes "json")))
+    (given (codes "heapsnapshot")) (given (codes "why"))
     else (if bytes_eq name (codes "draw") then draw_asked (given (codes "line"))
     else (if bytes_eq name (codes "shell") then Ok Session
     else (if bytes_eq name (codes "lisp")
@@ -181,6 +202,12 @@ output_texts given =
     + (once (is_set (given (codes "echo"))) + (once (is_set (given (codes "json")))
     + once (is_set (given (codes "dot"))))))
 
+-- whether what is asked for has no file
+abbrev pub lacks_file : Bool → Option Text → Bool
+lacks_file false file = false
+lacks_file true None = true
+lacks_file true (Some file) = false
+
 -- whether two files that are given are one, other than standard input and output
 abbrev pub is_same_file : Option Text → Option Text → Bool
 is_same_file None other = false
@@ -193,14 +220,17 @@ abbrev pub is_crossed : Given → Bool
 is_crossed given =
     if is_same_file (given (codes "cycles")) (given (codes "history")) then true
     else (if is_same_file (given (codes "cycles")) (given (codes "FILE")) then true
-    else is_same_file (given (codes "history")) (given (codes "FILE")))
+    else (if is_same_file (given (codes "heapsnapshot")) (given (codes "FILE")) then true
+    else is_same_file (given (codes "history")) (given (codes "FILE"))))
 
--- the command of this name with its options, where at most one text is for standard output, and no
--- text for a file that has another
+-- the command of this name with its options, where trace events have the file of cycles, at most one
+-- text is for standard output, and no text for a file that has another
 abbrev pub command_asked : Text → Given → Result Subcommand CommandLineFault
 command_asked name given =
-    if nat_lt 1 (output_texts given) then Err faults.Views
-    else (if is_crossed given then Err faults.Crossed else command_named name given)
+    if lacks_file (is_set (given (codes "trace-events"))) (given (codes "cycles"))
+    then Err faults.Events
+    else (if nat_lt 1 (output_texts given) then Err faults.Views
+    else (if is_crossed given then Err faults.Crossed else command_named name given))
 
 -- how what is done is told, by the flags
 abbrev pub telling_of : Bool → Bool → Telling
@@ -208,11 +238,13 @@ telling_of echo true = Json
 telling_of true false = Echo
 telling_of false false = Answers
 
--- how what is done is viewed: how it is told, and the files of its cycles and of its history
+-- how what is done is viewed: how it is told, the files of its cycles and of its history, and whether
+-- the cycles are written as trace events
 pub record Viewed : Type 0 where
   pub telling : Telling
   pub cycles : Option Text
   pub history : Option Text
+  pub events : Bool
 
 -- how it is, by the options
 abbrev pub viewed_by : Given → Viewed
@@ -220,6 +252,7 @@ viewed_by given = record {
   telling = telling_of (is_set (given (codes "echo"))) (is_set (given (codes "json")));
   cycles = given (codes "cycles");
   history = given (codes "history");
+  events = is_set (given (codes "trace-events"));
 }
 
 -- the file, or standard input of a command that takes none
@@ -250,9 +283,18 @@ explains_in (Some found) = is_set (given_in found.1 (codes "explain"))
 unfoldable pub explains_of : List Text → Bool
 explains_of arguments = explains_in (subcommand_of (rheap_app arguments) arguments)
 
+-- the file that a parse has for a text
+abbrev pub out_in : Option (Text × List Row) → Option Text
+out_in None = None
+out_in (Some found) = given_in found.1 (codes "heapsnapshot")
+
+-- and that clap's parse of the arguments has
+unfoldable pub out_of : List Text → Option Text
+out_of arguments = out_in (subcommand_of (rheap_app arguments) arguments)
+
 -- how a parse says that what is done is viewed
 abbrev pub viewed_in : Option (Text × List Row) → Viewed
-viewed_in None = record { telling = Answers; cycles = None; history = None }
+viewed_in None = record { telling = Answers; cycles = None; history = None; events = false }
 viewed_in (Some found) = viewed_by (given_in found.1)
 
 -- how clap's parse of the arguments does

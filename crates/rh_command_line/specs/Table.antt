@@ -102,6 +102,7 @@ run_arguments = file_argument
     ∷ option_of (codes "mark") (codes "paced" ∷ []) (codes "grow" ∷ [])
     ∷ option_of (codes "grow") (codes "paced" ∷ []) []
     ∷ option_of (codes "cycles") [] []
+    ∷ flag_of (codes "trace-events") (codes "cycles" ∷ []) []
     ∷ option_of (codes "history") [] []
     ∷ echo_argument
     ∷ json_argument
@@ -121,6 +122,8 @@ abbrev pub dump_arguments : List Argument
 dump_arguments = file_argument
     ∷ explain_argument
     ∷ flag_of (codes "dot") [] (codes "json" ∷ [])
+    ∷ option_of (codes "heapsnapshot") [] (codes "dot" ∷ codes "json" ∷ [])
+    ∷ option_of (codes "why") [] (codes "dot" ∷ codes "heapsnapshot" ∷ codes "json" ∷ [])
     ∷ json_argument
     ∷ []
 
@@ -133,6 +136,7 @@ lisp_arguments = word_of (codes "FILE") false
     ∷ option_of (codes "grow") [] []
     ∷ option_of (codes "steps") [] []
     ∷ option_of (codes "cycles") (codes "FILE" ∷ []) []
+    ∷ flag_of (codes "trace-events") (codes "cycles" ∷ []) []
     ∷ explain_argument
     ∷ []
 

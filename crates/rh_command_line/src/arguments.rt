@@ -2,7 +2,7 @@
 
 ghost use Rattle.std.specs.Prelude.{◌≡◌, ◌≢◌, ◌≤◌, ◌⊎◌, [], map, option_map, Ok, Err, IsTrue, IfOk, IfErr};
 ghost use Rattle.clap.specs.Words.{kind_of, subcommand_rows_of};
-ghost use Rattle.rh_command_line.specs.Ask.{command_asked, given_of, is_output, output_texts, telling_of, viewed_by, viewed_in, viewed_of, command_and_file, command_and_file_in, command_and_file_of, command_named, completions_asked, completions_for, error_kinds, explains_in, explains_of, file_or_input, draw_asked, dump_asked, growing_asked, number_within, once, run_given, is_crossed, is_same_file, is_set, is_taken, run_asked, threads_asked};
+ghost use Rattle.rh_command_line.specs.Ask.{command_asked, given_of, is_output, output_texts, telling_of, viewed_by, viewed_in, viewed_of, command_and_file, command_and_file_in, command_and_file_of, command_named, completions_asked, completions_for, error_kinds, explains_in, explains_of, file_or_input, draw_asked, dump_asked, growing_asked, number_within, once, out_in, out_of, run_given, is_crossed, is_same_file, is_set, is_taken, run_asked, lacks_file, threads_asked, why_asked, without_at};
 ghost use Rattle.rh_command_line.specs.Fault.{IsClapError, IsDue};
 ghost use Rattle.rh_command_line.specs.declared.ask.Ask.{Ask};
 
@@ -38,8 +38,9 @@ const MAX_IDLE: u32 = 65_535;
 /// 65,535; `Words` and then `Steps` where `lisp` has both `--heap` and `--grow`, or such an option
 /// or `--steps` with a value that is no number below 2^32; `Line` where `draw` has `--line` with a
 /// value that is no number from 1 below 2^32;
-/// `Shell` where `completions` is asked for another shell than bash, zsh and fish; `Views` where
-/// two texts are for standard output, and then `Crossed` where two are for one file, or one for the
+/// `Forms` and then `Object` where `dump` has more than one of its forms, or `--why` with a value that
+/// is no such number after an `@` or without one; `Shell` where `completions` is asked for another shell than bash, zsh and fish; `Events` where
+/// `--trace-events` stands without `--cycles`, then `Views` where two texts are for standard output, and then `Crossed` where two are for one file, or one for the
 /// file that is read; `SessionCycles` where `lisp` has `--cycles` and no file;
 /// `OutOfMemory` where memory was refused.
 pub fn read_command_line<'a>(
@@ -52,12 +53,16 @@ pub fn read_command_line<'a>(
     // It asks for explanations exactly where that parse has the flag for them.
     ensures explained { IfOk result (λ ask.
         ask.explain ≡ explains_of (map (λ a. a.now) arguments.now)) }
+    // The text goes to the file that it has for it.
+    ensures written { IfOk result (λ ask.
+        out_of (map (λ a. a.now) arguments.now) ≡ option_map (λ t. t.now) ask.out) }
     // What is done is viewed as that parse says.
     ensures viewed { IfOk result (λ ask.
         viewed_of (map (λ a. a.now) arguments.now) ≡ record {
           telling = ask.views.telling;
           cycles = option_map (λ t. t.now) ask.views.cycles;
           history = option_map (λ t. t.now) ask.views.history;
+          events = ask.views.events;
         }) }
     // A request comes only where clap refuses nothing.
     ensures taken { IfOk result (λ ask. error_kinds (map (λ a. a.now) arguments.now) ≡ []) }
@@ -96,6 +101,8 @@ fn matches_of<'a>(
         ≡ command_and_file_in (subcommand_rows_of matches)) }
     ensures explained { IfOk result (λ matches. explains_of (map (λ a. a.now) arguments.now)
         ≡ explains_in (subcommand_rows_of matches)) }
+    ensures written { IfOk result (λ matches. out_of (map (λ a. a.now) arguments.now)
+        ≡ out_in (subcommand_rows_of matches)) }
     ensures viewed { IfOk result (λ matches. viewed_of (map (λ a. a.now) arguments.now)
         ≡ viewed_in (subcommand_rows_of matches)) }
     ensures taken { IfOk result (λ matches. error_kinds (map (λ a. a.now) arguments.now) ≡ []) }
@@ -117,11 +124,14 @@ fn ask_of<'a>(matches: &ArgMatches<'a>) -> Result<Ask<'a>, CommandLineFault>
         command_and_file_in (subcommand_rows_of matches.now) ≡ Ok (command_and_file ask)) }
     ensures explained { IfOk result (λ ask.
         explains_in (subcommand_rows_of matches.now) ≡ ask.explain) }
+    ensures written { IfOk result (λ ask.
+        out_in (subcommand_rows_of matches.now) ≡ option_map (λ t. t.now) ask.out) }
     ensures viewed { IfOk result (λ ask.
         viewed_in (subcommand_rows_of matches.now) ≡ record {
           telling = ask.views.telling;
           cycles = option_map (λ t. t.now) ask.views.cycles;
           history = option_map (λ t. t.now) ask.views.history;
+          events = ask.views.events;
         }) }
     ensures none { IfErr result (λ fault.
         command_and_file_in (subcommand_rows_of matches.now) ≡ Err fault) }
@@ -134,6 +144,7 @@ fn ask_of<'a>(matches: &ArgMatches<'a>) -> Result<Ask<'a>, CommandLineFault>
         subcommand,
         file: file_or_input(values.get_str("FILE")),
         explain: is_set(values.get_str("explain")),
+        out: values.get_str("heapsnapshot"),
         views: views_of(values),
     })
 }
@@ -144,6 +155,7 @@ fn views_of<'a>(values: &ArgMatches<'a>) -> Views<'a>
       telling = result.telling;
       cycles = option_map (λ t. t.now) result.cycles;
       history = option_map (λ t. t.now) result.history;
+      events = result.events;
     } }
 {
     let telling = telling_of(
@@ -154,6 +166,7 @@ fn views_of<'a>(values: &ArgMatches<'a>) -> Views<'a>
         telling,
         cycles: values.get_str("cycles"),
         history: values.get_str("history"),
+        events: is_set(values.get_str("trace-events")),
     }
 }
 
@@ -217,6 +230,13 @@ fn output_texts(given: &ArgMatches<'_>) -> u32
     once(is_output(given.get_str("cycles"))) + (once(is_output(given.get_str("history"))) + flags)
 }
 
+/// Whether what is asked for has no file.
+fn lacks_file(is_asked: bool, file: Option<&str>) -> bool
+    ensures { result ≡ lacks_file is_asked (option_map (λ t. t.now) file.entry) }
+{
+    if is_asked { file.is_none() } else { false }
+}
+
 /// Whether two files that are given are one, other than standard input and output.
 fn is_same_file(one: Option<&str>, other: Option<&str>) -> bool
     ensures { result ≡ is_same_file (option_map (λ t. t.now) one.entry)
@@ -244,6 +264,9 @@ fn is_crossed(given: &ArgMatches<'_>) -> bool
     if is_same_file(given.get_str("cycles"), given.get_str("FILE")) {
         return true;
     }
+    if is_same_file(given.get_str("heapsnapshot"), given.get_str("FILE")) {
+        return true;
+    }
     is_same_file(given.get_str("history"), given.get_str("FILE"))
 }
 
@@ -252,6 +275,12 @@ fn is_crossed(given: &ArgMatches<'_>) -> bool
 fn command_asked(name: &str, given: &ArgMatches<'_>) -> Result<Subcommand, CommandLineFault>
     ensures asked { result ≡ command_asked name.now (given_of given.now) }
 {
+    if lacks_file(
+        is_set(given.get_str("trace-events")),
+        given.get_str("cycles"),
+    ) {
+        return Err(CommandLineFault::Events);
+    }
     if output_texts(given) > 1 {
         return Err(CommandLineFault::Views);
     }
@@ -279,7 +308,12 @@ fn command_named(name: &str, given: &ArgMatches<'_>) -> Result<Subcommand, Comma
         return Ok(Subcommand::Replay);
     }
     if name == "dump" {
-        return Ok(dump_asked(is_set(given.get_str("dot"))));
+        return dump_asked(
+            is_set(given.get_str("dot")),
+            is_set(given.get_str("json")),
+            given.get_str("heapsnapshot"),
+            given.get_str("why"),
+        );
     }
     if name == "draw" {
         return draw_asked(given.get_str("line"));
@@ -302,14 +336,46 @@ fn command_named(name: &str, given: &ArgMatches<'_>) -> Result<Subcommand, Comma
     Err(CommandLineFault::Incomplete)
 }
 
-/// What is written of a dump: its graph for Graphviz where that is asked, and else its counts.
-fn dump_asked(dot: bool) -> Subcommand
-    ensures { result ≡ dump_asked dot }
+/// What is written of a dump: its graph for Graphviz or as a heap snapshot, or the path to an
+/// object, where that is asked, and else its counts.
+fn dump_asked(
+    dot: bool,
+    json: bool,
+    snapshot: Option<&str>,
+    why: Option<&str>,
+) -> Result<Subcommand, CommandLineFault>
+    ensures asked { result ≡ dump_asked dot json (option_map (λ t. t.now) snapshot.entry)
+        (option_map (λ t. t.now) why.entry) }
 {
-    if dot {
-        Subcommand::Dot
-    } else {
-        Subcommand::Dump
+    match snapshot {
+        None => match why {
+            None if dot => Ok(Subcommand::Dot),
+            None => Ok(Subcommand::Dump),
+            Some(_) if dot || json => Err(CommandLineFault::Forms),
+            Some(object) => why_asked(object),
+        },
+        Some(_) if dot || json || why.is_some() => Err(CommandLineFault::Forms),
+        Some(_) => Ok(Subcommand::Snapshot),
+    }
+}
+
+/// The path that is asked for, to the object of this number.
+fn why_asked(object: &str) -> Result<Subcommand, CommandLineFault>
+    ensures asked { result ≡ why_asked object.now }
+{
+    match read_number(without_at(object.as_bytes())) {
+        Some(object) => Ok(Subcommand::Why { object }),
+        None => Err(CommandLineFault::Object),
+    }
+}
+
+/// A text without the `@` that it may begin with.
+fn without_at(text: &[u8]) -> &[u8]
+    ensures { result.now ≡ without_at text.now }
+{
+    match text {
+        [first, rest @ ..] => { if *first == b'@' { rest } else { text } }
+        _ => text,
     }
 }
 

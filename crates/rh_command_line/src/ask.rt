@@ -24,6 +24,8 @@ pub struct Views<'a> {
     /// The file that the history of a run's commands goes to; `-` is standard output, in place of
     /// the answers.
     pub history: Option<&'a str>,
+    /// Whether the cycles are written as trace events, and not as lines.
+    pub events: bool,
 }
 
 /// No view: answers or a report alone, on standard output.
@@ -31,6 +33,7 @@ pub const PLAIN: Views<'static> = Views {
     telling: Telling::Answers,
     cycles: None,
     history: None,
+    events: false,
 };
 
 /// What is to be done with the file.
@@ -62,6 +65,13 @@ pub enum Subcommand {
     Dump,
     /// Write the graph that the dump in it has as a text for Graphviz.
     Dot,
+    /// Write the graph that the dump in it has as a heap snapshot.
+    Snapshot,
+    /// Print a shortest path from a root to an object of the dump in it.
+    Why {
+        /// The number of the object.
+        object: u32,
+    },
     /// Draw the heap of the trace in it.
     Draw {
         /// The number of the line, from 1, after which it is drawn; without one it is the last.
@@ -95,6 +105,8 @@ pub struct Ask<'a> {
     pub file: &'a str,
     /// Whether a fault is to be explained, also where standard error is no terminal.
     pub explain: bool,
+    /// The file that the text goes to; `-` is standard output, and so it is without one.
+    pub out: Option<&'a str>,
     /// How what is done is viewed.
     pub views: Views<'a>,
 }

@@ -11,13 +11,13 @@ _rheap() {
         return
     fi
     case ${COMP_WORDS[1]} in
-    run) options='--explain --paced --mark --grow --cycles --history --echo --json -h --help' valued='--mark --grow' ;;
+    run) options='--explain --paced --mark --grow --cycles --trace-events --history --echo --json -h --help' valued='--mark --grow' ;;
     threads) options='--explain --replicators --idle -h --help' valued='--replicators --idle' ;;
     replay) options='--explain --echo --json -h --help' valued='' ;;
-    dump) options='--explain --dot --json -h --help' valued='' ;;
+    dump) options='--explain --dot --heapsnapshot --why --json -h --help' valued='--why' ;;
     draw) options='--explain --line -h --help' valued='--line' ;;
     shell) options='-h --help' valued='' ;;
-    lisp) options='--heap --grow --steps --cycles --explain -h --help' valued='--heap --grow --steps' ;;
+    lisp) options='--heap --grow --steps --cycles --trace-events --explain -h --help' valued='--heap --grow --steps' ;;
     completions) options='-h --help' valued='' ;;
     help)
         mapfile -t COMPREPLY < <(compgen -W 'run threads replay dump draw shell lisp completions' -- \"$word\")
@@ -80,6 +80,7 @@ argument)
             '--mark=[With --paced\\: a cycle begins where fewer than N words are free]:N: ' \\
             '--grow=[With --paced, without --mark\\: each of its spaces grows to at most N words]:N: ' \\
             '--cycles=[Writes a line for each cycle to the file OUT; - is standard output]:OUT:_files' \\
+            '--trace-events[With --cycles\\: writes trace events, which Perfetto shows, and not lines]' \\
             '--history=[Writes the history of the commands to the file OUT; - is standard output]:OUT:_files' \\
             '--echo[Prints each line'\\''s number, its text and its answer, with tabs between]' \\
             '--json[Prints objects of JSON, one a line]' \\
@@ -106,6 +107,8 @@ argument)
         _arguments \\
             '--explain[Shows the part of a line that is wrong, and says what may stand there]' \\
             '--dot[Prints its graph instead, as a text for Graphviz]' \\
+            '--heapsnapshot=[Writes its graph instead, as a heap snapshot, to the file OUT; - is standard output]:OUT:_files' \\
+            '--why=[Prints a shortest path from a root to this object instead\\: 7 or @7 is object @7]:ADDRESS: ' \\
             '--json[Prints objects of JSON, one a line]' \\
             '(- *)'{-h,--help}'[Print help]' \\
             '1:FILE:_files'
@@ -128,6 +131,7 @@ argument)
             '--grow=[Each of its spaces grows to at most so many words; 16777216 if it isn'\\''t said]:WORDS: ' \\
             '--steps=[The instructions that may be done, 0 to 4294967295; 2^64 - 1 without it]:N: ' \\
             '--cycles=[Writes a line for each cycle of its heap to the file OUT; - is standard output]:OUT:_files' \\
+            '--trace-events[With --cycles\\: writes trace events, which Perfetto shows, and not lines]' \\
             '--explain[Shows the part of a line that is wrong, and says what may stand there]' \\
             '(- *)'{-h,--help}'[Print help]' \\
             '1:FILE:_files'
@@ -163,6 +167,7 @@ complete -c rheap -n '__fish_seen_subcommand_from run' -l paced -d 'Runs a trace
 complete -c rheap -n '__fish_seen_subcommand_from run' -l mark -x -d 'With --paced: a cycle begins where fewer than N words are free'
 complete -c rheap -n '__fish_seen_subcommand_from run' -l grow -x -d 'With --paced, without --mark: each of its spaces grows to at most N words'
 complete -c rheap -n '__fish_seen_subcommand_from run' -l cycles -r -d 'Writes a line for each cycle to the file OUT; - is standard output'
+complete -c rheap -n '__fish_seen_subcommand_from run' -l trace-events -d 'With --cycles: writes trace events, which Perfetto shows, and not lines'
 complete -c rheap -n '__fish_seen_subcommand_from run' -l history -r -d 'Writes the history of the commands to the file OUT; - is standard output'
 complete -c rheap -n '__fish_seen_subcommand_from run' -l echo -d 'Prints each line\\'s number, its text and its answer, with tabs between'
 complete -c rheap -n '__fish_seen_subcommand_from run' -l json -d 'Prints objects of JSON, one a line'
@@ -177,6 +182,8 @@ complete -c rheap -n '__fish_seen_subcommand_from replay' -l json -d 'Prints obj
 complete -c rheap -n '__fish_seen_subcommand_from replay' -s h -l help -d 'Print help'
 complete -c rheap -n '__fish_seen_subcommand_from dump' -l explain -d 'Shows the part of a line that is wrong, and says what may stand there'
 complete -c rheap -n '__fish_seen_subcommand_from dump' -l dot -d 'Prints its graph instead, as a text for Graphviz'
+complete -c rheap -n '__fish_seen_subcommand_from dump' -l heapsnapshot -r -d 'Writes its graph instead, as a heap snapshot, to the file OUT; - is standard output'
+complete -c rheap -n '__fish_seen_subcommand_from dump' -l why -x -d 'Prints a shortest path from a root to this object instead: 7 or @7 is object @7'
 complete -c rheap -n '__fish_seen_subcommand_from dump' -l json -d 'Prints objects of JSON, one a line'
 complete -c rheap -n '__fish_seen_subcommand_from dump' -s h -l help -d 'Print help'
 complete -c rheap -n '__fish_seen_subcommand_from draw' -l explain -d 'Shows the part of a line that is wrong, and says what may stand there'
@@ -188,6 +195,7 @@ complete -c rheap -n '__fish_seen_subcommand_from lisp' -l heap -x -d 'Each of i
 complete -c rheap -n '__fish_seen_subcommand_from lisp' -l grow -x -d 'Each of its spaces grows to at most so many words; 16777216 if it isn\\'t said'
 complete -c rheap -n '__fish_seen_subcommand_from lisp' -l steps -x -d 'The instructions that may be done, 0 to 4294967295; 2^64 - 1 without it'
 complete -c rheap -n '__fish_seen_subcommand_from lisp' -l cycles -r -d 'Writes a line for each cycle of its heap to the file OUT; - is standard output'
+complete -c rheap -n '__fish_seen_subcommand_from lisp' -l trace-events -d 'With --cycles: writes trace events, which Perfetto shows, and not lines'
 complete -c rheap -n '__fish_seen_subcommand_from lisp' -l explain -d 'Shows the part of a line that is wrong, and says what may stand there'
 complete -c rheap -n '__fish_seen_subcommand_from lisp' -s h -l help -d 'Print help'
 complete -c rheap -n '__fish_seen_subcommand_from completions' -s h -l help -d 'Print help'

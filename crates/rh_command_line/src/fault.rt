@@ -42,6 +42,15 @@ pub enum CommandLineFault {
     /// A text is for the file that is read, or two are for one file, by their names.
     #[error("rheap: OUT is a file of its own, neither FILE nor another OUT")]
     Crossed,
+    /// `--trace-events` stands without `--cycles`.
+    #[error("rheap: --trace-events needs --cycles OUT")]
+    Events,
+    /// More than one of `--dot`, `--json`, `--heapsnapshot` and `--why` is given to `dump`.
+    #[error("rheap: one of --dot, --heapsnapshot, --json and --why of dump can stand, and no more")]
+    Forms,
+    /// The value of `--why` isn't the number of an object, 0 to 4,294,967,295, with or without the @.
+    #[error("rheap: --why needs the number of an object, as 7 or @7")]
+    Object,
     /// `lisp` has `--cycles` and no file, a session.
     #[error("rheap: --cycles of lisp needs FILE: a session has none")]
     SessionCycles,

@@ -131,6 +131,7 @@ OUT are files of their own.
   --history OUT  the commands that no limit refused, with their answers: `rheap replay` reads it, if
                  it has at most 16777216 bytes
   --cycles OUT   a line of numbers for each cycle as it ends, with tabs between, and a head line
+  --trace-events with --cycles: trace events in their place, which Perfetto and chrome://tracing show
 
 Statuses:
   0  done; a refused line is an answer, and no failure
@@ -277,7 +278,16 @@ With --dot the graph is printed in place of its counts, as a text for Graphviz, 
 `rheap dump FILE --dot | dot -Tsvg >FILE.svg`: roots are boxes at the left, objects are tables of
 their fields, raw ones with round corners, and each reference is an arrow.
 
-With --json the counts are an object of JSON.
+With --heapsnapshot the graph is written to OUT as a heap snapshot of V8, which Chrome's DevTools
+open under Memory if the file's name ends in .heapsnapshot. Object @K is there under its number, with
+the bytes that it takes in a space, and each reference is an edge.
+
+With --why a shortest path is printed from a root to the object of this number, 7 or @7: a line for
+each reference, `OWNER.SLOT @K` for the root's, and then `@K FIELD @J` for field FIELD of object @K,
+the last of which is to that object. If the dump hasn't the object, the line is `@7 isn't reached`.
+
+With --json the counts are an object of JSON. One of --dot, --heapsnapshot, --why and --json can
+stand.
 
 On failure standard error has one line, as `rheap: line 3: Order`, or `rheap: open failed`; the
 others are read failed, write failed and out of memory, as `rheap run --help` tells them. Where the
@@ -395,6 +405,8 @@ stays. A prompt stands on standard error where standard input is a terminal. The
                 from 1. OUT is a file, other than FILE, or - for standard output in place of what
                 the program prints. If a line isn't written, what the program prints isn't either.
                 A session has none
+  --trace-events
+                with --cycles: trace events in their place, which Perfetto and chrome://tracing show
 
 Statuses:
   0  the program came to its end, or the input of a session did

@@ -1,10 +1,10 @@
 //! Laws of command lines: how each is read, and what may not stand together. The function does
 //! nothing: its contract is the law.
 
-ghost use Rattle.std.specs.Prelude.{◌≡◌, ◌-◌, ◌^◌, List, ℕ, [], ◌∷◌, Some, None, Ok, Err, IsErr, IsFalse, IsTrue, Contains, false, codes};
+ghost use Rattle.std.specs.Prelude.{◌≡◌, ◌-◌, ◌^◌, List, ℕ, [], ◌∷◌, Some, None, Ok, Err, IsErr, IsFalse, IsTrue, Contains, true, false, codes};
 ghost use Rattle.rh_choices.specs.declared.limits.HeapWords.{HeapWords as HeapWordsOf};
 ghost use Rattle.rh_choices.specs.declared.telling.Telling.{Telling as TellingOf};
-ghost use Rattle.rh_command_line.specs.Ask.{command_and_file_of, explains_of, is_taken, stands_on, viewed_of};
+ghost use Rattle.rh_command_line.specs.Ask.{command_and_file_of, explains_of, is_taken, out_of, stands_on, viewed_of};
 ghost use Rattle.rh_command_line.specs.Table.{Argument, CommandState, command_with, has_options, run_arguments, table};
 ghost use Rattle.rh_command_line.specs.declared.ask.Shell.{Shell as ShellOf};
 ghost use Rattle.rh_command_line.specs.declared.ask.Subcommand.{Subcommand as SubcommandOf};
@@ -29,6 +29,22 @@ pub fn worked_command_lines()
         ≡ is_taken (codes "rheap" ∷ codes "run" ∷ codes "x" ∷ codes "--dot" ∷ []) }
     ensures dot_twice { false ≡ is_taken (codes "rheap" ∷ codes "dump" ∷ codes "x"
         ∷ codes "--dot" ∷ codes "--dot" ∷ []) }
+    ensures snapshot { command_and_file_of (codes "rheap" ∷ codes "dump" ∷ codes "x"
+        ∷ codes "--heapsnapshot" ∷ codes "o" ∷ []) ≡ Ok (SubcommandOf.Snapshot, codes "x") }
+    ensures snapshot_out { out_of (codes "rheap" ∷ codes "dump" ∷ codes "x"
+        ∷ codes "--heapsnapshot=o" ∷ []) ≡ Some (codes "o") }
+    ensures snapshot_crossed { command_and_file_of (codes "rheap" ∷ codes "dump" ∷ codes "x"
+        ∷ codes "--heapsnapshot=x" ∷ []) ≡ Err FaultOf.Crossed }
+    ensures snapshot_dot { command_and_file_of (codes "rheap" ∷ codes "dump" ∷ codes "x"
+        ∷ codes "--dot" ∷ codes "--heapsnapshot=o" ∷ []) ≡ Err FaultOf.Forms }
+    ensures why { command_and_file_of (codes "rheap" ∷ codes "dump" ∷ codes "x"
+        ∷ codes "--why" ∷ codes "7" ∷ []) ≡ Ok (SubcommandOf.Why 7, codes "x") }
+    ensures why_at { command_and_file_of (codes "rheap" ∷ codes "dump" ∷ codes "--why=@7"
+        ∷ codes "x" ∷ []) ≡ Ok (SubcommandOf.Why 7, codes "x") }
+    ensures why_json { command_and_file_of (codes "rheap" ∷ codes "dump" ∷ codes "x"
+        ∷ codes "--json" ∷ codes "--why=7" ∷ []) ≡ Err FaultOf.Forms }
+    ensures why_no_number { command_and_file_of (codes "rheap" ∷ codes "dump" ∷ codes "x"
+        ∷ codes "--why=@@7" ∷ []) ≡ Err FaultOf.Object }
     ensures draw { command_and_file_of (codes "rheap" ∷ codes "draw" ∷ codes "x" ∷ [])
         ≡ Ok (SubcommandOf.Draw None, codes "x") }
     ensures draw_line { command_and_file_of
@@ -76,6 +92,7 @@ pub fn worked_command_lines()
           telling = TellingOf.Answers;
           cycles = Some (codes "c");
           history = None;
+          events = false;
         } }
     ensures lisp_session_cycles { command_and_file_of (codes "rheap" ∷ codes "lisp"
         ∷ codes "--cycles=c" ∷ []) ≡ Err FaultOf.SessionCycles }
@@ -85,13 +102,28 @@ pub fn worked_command_lines()
         ≡ is_taken (codes "rheap" ∷ codes "lisp" ∷ codes "x" ∷ codes "--mark=7" ∷ []) }
     ensures session_file { false ≡ is_taken (codes "rheap" ∷ codes "shell" ∷ codes "x" ∷ []) }
     ensures plain { viewed_of (codes "rheap" ∷ codes "run" ∷ codes "x" ∷ [])
-        ≡ record { telling = TellingOf.Answers; cycles = None; history = None } }
+        ≡ record {
+          telling = TellingOf.Answers;
+          cycles = None;
+          history = None;
+          events = false;
+        } }
     ensures viewed { viewed_of (codes "rheap" ∷ codes "run" ∷ codes "x" ∷ codes "--json"
         ∷ codes "--history=h" ∷ codes "--cycles" ∷ codes "c" ∷ []) ≡ record {
           telling = TellingOf.Json;
           cycles = Some (codes "c");
           history = Some (codes "h");
+          events = false;
         } }
+    ensures events { viewed_of (codes "rheap" ∷ codes "run" ∷ codes "x"
+        ∷ codes "--cycles=c" ∷ codes "--trace-events" ∷ []) ≡ record {
+          telling = TellingOf.Answers;
+          cycles = Some (codes "c");
+          history = None;
+          events = true;
+        } }
+    ensures events_alone { command_and_file_of (codes "rheap" ∷ codes "run" ∷ codes "x"
+        ∷ codes "--trace-events" ∷ []) ≡ Err FaultOf.Events }
     ensures echo_json { command_and_file_of (codes "rheap" ∷ codes "replay" ∷ codes "x"
         ∷ codes "--echo" ∷ codes "--json" ∷ []) ≡ Err FaultOf.Views }
     ensures dot_json { command_and_file_of (codes "rheap" ∷ codes "dump" ∷ codes "x"

@@ -1,5 +1,5 @@
-//! The table of the command line: its commands, what stands behind each, and what may stand
-//! together. What clap knows of the command line is made of it.
+//! The table of the command line: its commands, what stands behind each, and which options may not
+//! stand together. What clap knows of the command line is made of it.
 
 ghost use Rattle.std.specs.Prelude.{◌≡◌, map};
 ghost use Rattle.rh_command_line.specs.Table.{command_row, table};
@@ -110,6 +110,13 @@ const RUN: &[ArgumentRow] = &[
         not_with: &[],
     },
     ArgumentRow {
+        name: "trace-events",
+        spelling: Spelling::Flag,
+        help: "With --cycles: writes trace events, which Perfetto shows, and not lines",
+        needs: &["cycles"],
+        not_with: &[],
+    },
+    ArgumentRow {
         name: "history",
         spelling: Spelling::Valued { value: "OUT" },
         help: "Writes the history of the commands to the file OUT; - is standard output",
@@ -153,6 +160,20 @@ const DUMP: &[ArgumentRow] = &[
         help: "Prints its graph instead, as a text for Graphviz",
         needs: &[],
         not_with: &["json"],
+    },
+    ArgumentRow {
+        name: "heapsnapshot",
+        spelling: Spelling::Valued { value: "OUT" },
+        help: "Writes its graph instead, as a heap snapshot, to the file OUT; - is standard output",
+        needs: &[],
+        not_with: &["dot", "json"],
+    },
+    ArgumentRow {
+        name: "why",
+        spelling: Spelling::Valued { value: "ADDRESS" },
+        help: "Prints a shortest path from a root to this object instead: 7 or @7 is object @7",
+        needs: &[],
+        not_with: &["dot", "heapsnapshot", "json"],
     },
     JSON,
 ];
@@ -205,6 +226,13 @@ const LISP: &[ArgumentRow] = &[
         spelling: Spelling::Valued { value: "OUT" },
         help: "Writes a line for each cycle of its heap to the file OUT; - is standard output",
         needs: &["FILE"],
+        not_with: &[],
+    },
+    ArgumentRow {
+        name: "trace-events",
+        spelling: Spelling::Flag,
+        help: "With --cycles: writes trace events, which Perfetto shows, and not lines",
+        needs: &["cycles"],
         not_with: &[],
     },
     EXPLAIN,

@@ -1,4 +1,4 @@
--- How writing the counts of a dump, or its graph for Graphviz, ends the program.
+-- How writing the counts of a dump, its graph in a form, or a path in it, ends the program.
 use Rattle.std.specs.Prelude.{◌≡◌, ℕ, ◌⊎◌, Option, List, ◌∷◌, [], ◌++◌, length, Result, Ok, Err, codes, decimal}
 use Rattle.std.specs.Io.KnownBytes.{Appends, Keeps}
 use Rattle.rh_text.specs.declared.output.Write.{Write}
@@ -6,6 +6,8 @@ use Rattle.rh_text.specs.Output.{AppendsLess}
 use Rattle.rh_dump.specs.Dump.{GraphState}
 use Rattle.rh_dump.specs.texts.Reading.{graph_of_text}
 use Rattle.rh_dot.specs.Dot.{dot_text}
+use Rattle.rh_snapshot.specs.Text.{snapshot_text}
+use Rattle.rh_why.specs.Path.{why_text}
 use Rattle.rh_commands.specs.declared.fault.LineFault.{LineFault}
 use Rattle.rh_commands.specs.declared.fault.LineFault.TheVariants as faults
 use Rattle.rh_commands.specs.Fault.{status_of}
@@ -58,3 +60,11 @@ ConcludesCount input status old new = ConcludesDump counts_line input status old
 -- writing the graph ended so: the text is that for Graphviz
 abbrev pub ConcludesDot : List ℕ → ℕ → Option (List ℕ) → Option (List ℕ) → Type 0
 ConcludesDot input status old new = ConcludesDump dot_text input status old new
+
+-- writing it as a heap snapshot did
+abbrev pub ConcludesSnapshot : List ℕ → ℕ → Option (List ℕ) → Option (List ℕ) → Type 0
+ConcludesSnapshot input status old new = ConcludesDump snapshot_text input status old new
+
+-- telling the path to the object of a number did
+abbrev pub ConcludesWhy : ℕ → List ℕ → ℕ → Option (List ℕ) → Option (List ℕ) → Type 0
+ConcludesWhy object input status old new = ConcludesDump (why_text object) input status old new

@@ -1,4 +1,4 @@
-//! The faults of the program, with the message of each and its exit status: 1 to 4, or 0 for help.
+//! The faults of the program, and which message and exit status (1 to 4, or 0 for help) each has.
 
 ghost use Rattle.std.specs.Prelude.{◌≡◌};
 ghost use Rattle.rh_commands.specs.declared.fault.LineFault.TheVariants.{OutOfMemory};

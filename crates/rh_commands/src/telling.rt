@@ -1,4 +1,4 @@
-//! Writes the message of a fault, and returns its exit status.
+//! Writes the message of a fault, and hands on the status that `fault.rt` gives it.
 
 ghost use Rattle.std.specs.Prelude.{◌≡◌, ◌⊎◌};
 ghost use Rattle.rh_commands.specs.Fault.{status_of, status_after};

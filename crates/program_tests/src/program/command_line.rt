@@ -2,8 +2,9 @@
 
 use crate::expectations::{Row, expect_bytes, expect_equal, expect_prefix};
 use crate::texts::{
-    CROSSED_FAULT, GROW_FAULT, IDLE_FAULT, LINE_FAULT, MARK_FAULT, REPLICATORS_FAULT,
-    SESSION_FAULT, STEPS_FAULT, VIEWS_FAULT, WITHOUT_FIELDS_ECHO, WORDS_FAULT,
+    CROSSED_FAULT, EVENTS_FAULT, FORMS_FAULT, GROW_FAULT, IDLE_FAULT, LINE_FAULT, MARK_FAULT,
+    OBJECT_FAULT, REPLICATORS_FAULT, SESSION_FAULT, STEPS_FAULT, VIEWS_FAULT, WITHOUT_FIELDS_ECHO,
+    WORDS_FAULT,
 };
 use rh_cli::{Ask, PLAIN, Subcommand, Terminals, play, read_words};
 use samples::terminal::Terminal;
@@ -33,6 +34,17 @@ const COMMANDS: &[(&str, Subcommand)] = &[
     ("dump", Subcommand::Dump),
 ];
 
+/// A request for this alone.
+fn plain(subcommand: Subcommand, file: &str) -> Ask<'_> {
+    Ask {
+        subcommand,
+        file,
+        explain: false,
+        out: None,
+        views: PLAIN,
+    }
+}
+
 #[test]
 fn arguments_that_ask_for_each_command(rt: HostRuntime) {
     for (row, &(name, subcommand)) in COMMANDS.iter().enumerate() {
@@ -40,9 +52,7 @@ fn arguments_that_ask_for_each_command(rt: HostRuntime) {
         let file = "first";
         let words = ["rheap", name, file];
         let ask = read_words(rt.alloc(), &words);
-        assert!(rt;
-            matches!(ask, Ok(ask) if ask == Ask { subcommand, file, explain: false, views: PLAIN })
-        );
+        assert!(rt; matches!(ask, Ok(ask) if ask == plain(subcommand, file)));
     }
 }
 
@@ -534,6 +544,36 @@ const VIEWED: &[Call<'static>] = &[
         2,
         b"",
         VIEWS_FAULT,
+    ),
+    (
+        &[b"rheap", b"run", b"-", b"--trace-events"],
+        2,
+        b"",
+        EVENTS_FAULT,
+    ),
+    (
+        &[b"rheap", b"dump", b"-", b"--dot", b"--heapsnapshot=-"],
+        2,
+        b"",
+        FORMS_FAULT,
+    ),
+    (
+        &[b"rheap", b"dump", b"-", b"--why=7", b"--json"],
+        2,
+        b"",
+        FORMS_FAULT,
+    ),
+    (
+        &[b"rheap", b"dump", b"-", b"--why", b"7.0"],
+        2,
+        b"",
+        OBJECT_FAULT,
+    ),
+    (
+        &[b"rheap", b"dump", b"a", b"--heapsnapshot=a"],
+        2,
+        b"",
+        CROSSED_FAULT,
     ),
     (
         &[b"rheap", b"dump", b"-", b"--echo"],

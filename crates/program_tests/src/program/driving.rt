@@ -13,6 +13,7 @@ pub const RUN: Ask<'static> = Ask {
     subcommand: Subcommand::Run,
     file: "-",
     explain: false,
+    out: None,
     views: PLAIN,
 };
 
@@ -20,6 +21,7 @@ pub const PACED: Ask<'static> = Ask {
     subcommand: Subcommand::RunPaced { mark: None },
     file: "-",
     explain: false,
+    out: None,
     views: PLAIN,
 };
 
@@ -30,6 +32,7 @@ pub const THREADS: Ask<'static> = Ask {
     },
     file: "-",
     explain: false,
+    out: None,
     views: PLAIN,
 };
 
@@ -37,6 +40,7 @@ pub const REPLAY: Ask<'static> = Ask {
     subcommand: Subcommand::Replay,
     file: "-",
     explain: false,
+    out: None,
     views: PLAIN,
 };
 
@@ -44,6 +48,7 @@ pub const DUMP: Ask<'static> = Ask {
     subcommand: Subcommand::Dump,
     file: "-",
     explain: false,
+    out: None,
     views: PLAIN,
 };
 
@@ -51,6 +56,7 @@ pub const DOT: Ask<'static> = Ask {
     subcommand: Subcommand::Dot,
     file: "-",
     explain: false,
+    out: None,
     views: PLAIN,
 };
 
@@ -58,6 +64,7 @@ pub const DRAW: Ask<'static> = Ask {
     subcommand: Subcommand::Draw { line: None },
     file: "-",
     explain: false,
+    out: None,
     views: PLAIN,
 };
 

@@ -17,6 +17,7 @@ const GROWING: Ask<'static> = Ask {
     subcommand: Subcommand::RunGrowing { at_most: 20 },
     file: "-",
     explain: true,
+    out: None,
     views: PLAIN,
 };
 
@@ -25,6 +26,7 @@ const BEYOND: Ask<'static> = Ask {
     subcommand: Subcommand::Draw { line: Some(40) },
     file: "-",
     explain: true,
+    out: None,
     views: PLAIN,
 };
 

@@ -24,6 +24,7 @@ const MARKED: Ask<'static> = Ask {
     subcommand: Subcommand::RunPaced { mark: Some(20) },
     file: "-",
     explain: false,
+    out: None,
     views: PLAIN,
 };
 
@@ -31,6 +32,7 @@ const GROWING: Ask<'static> = Ask {
     subcommand: Subcommand::RunGrowing { at_most: 29 },
     file: "-",
     explain: false,
+    out: None,
     views: PLAIN,
 };
 
@@ -41,6 +43,7 @@ const ALONE: Ask<'static> = Ask {
     },
     file: "-",
     explain: false,
+    out: None,
     views: PLAIN,
 };
 
@@ -51,6 +54,24 @@ const CROWDED: Ask<'static> = Ask {
     },
     file: "-",
     explain: false,
+    out: None,
+    views: PLAIN,
+};
+
+/// Paths to an object of a dump, and to one that it hasn't.
+const WHY: Ask<'static> = Ask {
+    subcommand: Subcommand::Why { object: 1 },
+    file: "-",
+    explain: false,
+    out: None,
+    views: PLAIN,
+};
+
+const WHY_NOT: Ask<'static> = Ask {
+    subcommand: Subcommand::Why { object: 2 },
+    file: "-",
+    explain: false,
+    out: None,
     views: PLAIN,
 };
 
@@ -87,6 +108,8 @@ const PLAYED: &[(Ask<'static>, &[u8], u8, &[u8])] = &[
     (DUMP, ITSELF, 0, b"roots 1 objects 1\n"),
     (DUMP, BESIDE_RAW, 0, b"roots 2 objects 2\n"),
     (DOT, BESIDE_RAW, 0, BESIDE_RAW_GRAPH),
+    (WHY, BESIDE_RAW, 0, b"0.3 @0\n@0 0 @1\n"),
+    (WHY_NOT, BESIDE_RAW, 0, b"@2 isn't reached\n"),
 ];
 
 /// All of these. The table is named here alone, since a proof writes it out wherever it is named.
@@ -223,7 +246,7 @@ fn fail_devices<R: AllocGlobal + Abort + Threads + Wait + Sync>(
 
 #[test]
 fn devices_that_fail(rt: HostRuntime) {
-    expect_equal(&rt, fail_devices(&rt, all_played()), 14);
+    expect_equal(&rt, fail_devices(&rt, all_played()), 16);
     expect_unflushed(&rt, &DRAW, WHOLE_CYCLE);
     expect_untold(&rt, &DRAW);
 }
@@ -274,7 +297,7 @@ fn fail_reads_of_each<R: AllocGlobal + Abort + Threads + Wait + Sync>(
 
 #[test]
 fn first_and_last_reads_fail(rt: HostRuntime) {
-    expect_equal(&rt, fail_reads_of_each(&rt, all_played()), 140);
+    expect_equal(&rt, fail_reads_of_each(&rt, all_played()), 160);
 }
 
 /// What is asked, of which text, what is wrong with it where it is cut: before its first byte,
@@ -463,7 +486,7 @@ fn refuse_faulty<R: AllocGlobal + Abort + Threads + Wait + Sync>(
 
 #[test]
 fn each_allocation_is_refused(rt: HostRuntime) {
-    expect_equal(&rt, refuse_each(&rt, all_played()), 14);
+    expect_equal(&rt, refuse_each(&rt, all_played()), 16);
     expect_equal(&rt, refuse_faulty(&rt, FAULTY), 8);
 }
 

@@ -336,6 +336,7 @@ const MARKED: Ask<'static> = Ask {
     subcommand: Subcommand::RunPaced { mark: Some(9) },
     file: "-",
     explain: false,
+    out: None,
     views: PLAIN,
 };
 
@@ -344,6 +345,7 @@ const GROWING: Ask<'static> = Ask {
     subcommand: Subcommand::RunGrowing { at_most: 1_000 },
     file: "-",
     explain: false,
+    out: None,
     views: PLAIN,
 };
 
@@ -353,6 +355,7 @@ const BOUNDLESS: Ask<'static> = Ask {
     },
     file: "-",
     explain: false,
+    out: None,
     views: PLAIN,
 };
 

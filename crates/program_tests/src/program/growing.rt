@@ -18,6 +18,7 @@ fn growing(at_most: u32) -> Ask<'static> {
         subcommand: Subcommand::RunGrowing { at_most },
         file: "-",
         explain: false,
+        out: None,
         views: PLAIN,
     }
 }

@@ -244,6 +244,7 @@ fn a_program_without_a_file_is_told_without_its_place(rt: HostRuntime) {
         subcommand: Subcommand::Lisp { limits: AMPLE },
         file: "-",
         explain: false,
+        out: None,
         views: PLAIN,
     };
     for (row, &(text, status, printed, told)) in ALONE.iter().enumerate() {
@@ -500,6 +501,7 @@ const SESSION: Ask<'static> = Ask {
     subcommand: Subcommand::LispSession { limits: SMALL },
     file: "-",
     explain: false,
+    out: None,
     views: PLAIN,
 };
 

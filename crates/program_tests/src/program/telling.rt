@@ -2,8 +2,8 @@
 
 use crate::expectations::{Row, expect_bytes, expect_equal};
 use crate::texts::{
-    CROSSED_FAULT, GROW_FAULT, IDLE_FAULT, LINE_FAULT, MARK_FAULT, REPLICATORS_FAULT,
-    SESSION_FAULT, STEPS_FAULT, VIEWS_FAULT, WORDS_FAULT,
+    CROSSED_FAULT, EVENTS_FAULT, FORMS_FAULT, GROW_FAULT, IDLE_FAULT, LINE_FAULT, MARK_FAULT,
+    OBJECT_FAULT, REPLICATORS_FAULT, SESSION_FAULT, STEPS_FAULT, VIEWS_FAULT, WORDS_FAULT,
 };
 use rh_cli::{CommandLineFault, LineFault, tell};
 use std::process::Abort;
@@ -20,7 +20,7 @@ fn expect_faults_told<R: AllocGlobal + Abort>(rt: &R, faults: &[(LineFault, u8, 
 
 #[test]
 fn faults_before_a_run_are_told(rt: HostRuntime) {
-    let table: [(LineFault, u8, &[u8]); 17] = [
+    let table: [(LineFault, u8, &[u8]); 20] = [
         (LineFault::Open, 1, b"rheap: open failed\n"),
         (
             LineFault::NoText,
@@ -71,6 +71,21 @@ fn faults_before_a_run_are_told(rt: HostRuntime) {
             LineFault::CommandLine(CommandLineFault::Crossed),
             2,
             CROSSED_FAULT,
+        ),
+        (
+            LineFault::CommandLine(CommandLineFault::Events),
+            2,
+            EVENTS_FAULT,
+        ),
+        (
+            LineFault::CommandLine(CommandLineFault::Forms),
+            2,
+            FORMS_FAULT,
+        ),
+        (
+            LineFault::CommandLine(CommandLineFault::Object),
+            2,
+            OBJECT_FAULT,
         ),
         (
             LineFault::CommandLine(CommandLineFault::SessionCycles),

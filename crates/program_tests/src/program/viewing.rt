@@ -24,7 +24,9 @@ fn told(subcommand: Subcommand, telling: Telling) -> Ask<'static> {
         subcommand,
         file: "-",
         explain: false,
+        out: None,
         views: Views {
+            events: false,
             telling,
             cycles: None,
             history: None,

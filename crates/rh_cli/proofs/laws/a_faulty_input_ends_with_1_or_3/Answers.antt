@@ -1,4 +1,4 @@
-use Rattle.rh_cli.proofs.StatusLaws.{concludes_run_fault, concludes_replay_fault, concludes_dump_fault, concludes_dot_fault, concludes_paced_fault, concludes_growing_fault}
+use Rattle.rh_cli.proofs.StatusLaws.{concludes_run_fault, concludes_replay_fault, concludes_dump_fault, concludes_dot_fault, concludes_snapshot_fault, concludes_why_fault, concludes_paced_fault, concludes_growing_fault}
 use Rattle.rh_cli.proofs.SharedStatuses.{concludes_shared_fault}
 use Rattle.rh_cli.proofs.laws.a_faulty_input_ends_with_1_or_3.Goals as goal
 
@@ -22,3 +22,9 @@ returns-clause-growing c = λ at_most input status old new. concludes_growing_fa
 
 pub returns-clause-dot : goal.returns-clause-dot
 returns-clause-dot c = concludes_dot_fault
+
+pub returns-clause-snapshot : goal.returns-clause-snapshot
+returns-clause-snapshot c = concludes_snapshot_fault
+
+pub returns-clause-why : goal.returns-clause-why
+returns-clause-why c = concludes_why_fault

@@ -1,4 +1,4 @@
-use Rattle.rh_cli.proofs.StatusLaws.{concludes_run_0, concludes_replay_0, concludes_dump_0, concludes_dot_0, concludes_draw_0, concludes_completions_0, concludes_session_0, concludes_lisp_0, done_is_0, only_help_is_0, concludes_paced_run, concludes_growing_run}
+use Rattle.rh_cli.proofs.StatusLaws.{concludes_run_0, concludes_replay_0, concludes_dump_0, concludes_dot_0, concludes_snapshot_0, concludes_why_0, concludes_draw_0, concludes_completions_0, concludes_session_0, concludes_lisp_0, done_is_0, only_help_is_0, concludes_paced_run, concludes_growing_run}
 use Rattle.rh_cli.proofs.LispStatuses.{lisp_cycles_is_0, lisp_session_is_0}
 use Rattle.rh_cli.proofs.SharedStatuses.{concludes_shared_0}
 use Rattle.rh_cli.proofs.laws.status_0_says_done.Goals as goal
@@ -29,6 +29,12 @@ returns-clause-growing c = concludes_growing_run
 
 pub returns-clause-dot : goal.returns-clause-dot
 returns-clause-dot c = concludes_dot_0
+
+pub returns-clause-snapshot : goal.returns-clause-snapshot
+returns-clause-snapshot c = concludes_snapshot_0
+
+pub returns-clause-why : goal.returns-clause-why
+returns-clause-why c = concludes_why_0
 
 pub returns-clause-draw : goal.returns-clause-draw
 returns-clause-draw c = concludes_draw_0

@@ -47,3 +47,12 @@ returns-clause-words c = refl
 
 pub returns-clause-steps : goal.returns-clause-steps
 returns-clause-steps c = refl
+
+pub returns-clause-forms : goal.returns-clause-forms
+returns-clause-forms c = refl
+
+pub returns-clause-object : goal.returns-clause-object
+returns-clause-object c = refl
+
+pub returns-clause-events : goal.returns-clause-events
+returns-clause-events c = refl

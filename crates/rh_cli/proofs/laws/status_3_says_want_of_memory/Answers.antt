@@ -1,4 +1,4 @@
-use Rattle.rh_cli.proofs.StatusLaws.{memory_is_3, concludes_paced_3, concludes_growing_3, concludes_run_3, concludes_replay_3, concludes_dump_3, concludes_dot_3, concludes_draw_3, concludes_completions_3, concludes_lisp_3, way_memory_is_3}
+use Rattle.rh_cli.proofs.StatusLaws.{memory_is_3, concludes_paced_3, concludes_growing_3, concludes_run_3, concludes_replay_3, concludes_dump_3, concludes_dot_3, concludes_snapshot_3, concludes_why_3, concludes_draw_3, concludes_completions_3, concludes_lisp_3, way_memory_is_3}
 use Rattle.rh_cli.proofs.SharedStatuses.{concludes_shared_3}
 use Rattle.rh_cli.proofs.laws.status_3_says_want_of_memory.Goals as goal
 
@@ -28,6 +28,12 @@ returns-clause-growing c = concludes_growing_3
 
 pub returns-clause-dot : goal.returns-clause-dot
 returns-clause-dot c = concludes_dot_3
+
+pub returns-clause-snapshot : goal.returns-clause-snapshot
+returns-clause-snapshot c = concludes_snapshot_3
+
+pub returns-clause-why : goal.returns-clause-why
+returns-clause-why c = concludes_why_3
 
 pub returns-clause-draw : goal.returns-clause-draw
 returns-clause-draw c = concludes_draw_3

@@ -1,7 +1,7 @@
 use Rattle.std.proofs.Common.{◌≡◌, ◌∙◌, ap, codes, sym, Err}
 use Rattle.std.proofs.lemmas.Result.{err_from_is_err_and}
 use Rattle.rh_command_line.specs.Ask.{file_or_input, given_of, is_set, with_file}
-use Rattle.rh_command_line.proofs.ClapMatches.{command_and_file_in-matches, explains_in-matches, viewed_in-matches}
+use Rattle.rh_command_line.proofs.ClapMatches.{command_and_file_in-matches, explains_in-matches, out_in-matches, viewed_in-matches}
 use Rattle.rh_command_line.proofs.arguments.ask_of.Goals as goal
 
 pub returns-in_err-subcommand-clause-none : goal.returns-in_err-subcommand-clause-none
@@ -23,6 +23,10 @@ pub returns-clause-explained : goal.returns-clause-explained
 returns-clause-explained c =
     explains_in-matches c.args.matches.now c.in-Some.name.now c.in-Some.values.now c.in-Some.ensures.name c.in-Some.ensures.rows
     ∙ ap is_set (sym c.get_str-2.ensures) ∙ sym c.is_set.ensures
+
+pub returns-clause-written : goal.returns-clause-written
+returns-clause-written c =
+    out_in-matches c.args.matches.now c.in-Some.name.now c.in-Some.values.now c.in-Some.ensures.name c.in-Some.ensures.rows ∙ sym c.get_str-3.ensures
 
 pub returns-clause-viewed : goal.returns-clause-viewed
 returns-clause-viewed c =

@@ -1,7 +1,7 @@
 use Rattle.std.proofs.Common.{Ok, Err, ap, map, ◌≡◌, ◌∙◌}
 use Rattle.clap.specs.Words.{app_of}
 use Rattle.rh_command_line.specs.Table.{rheap_app, rheap_app_for}
-use Rattle.rh_command_line.proofs.ClapMatches.{command_and_file_of-matches, explains_of-matches, viewed_of-matches, fails_by_error_kinds, taken-app, told_of_clap}
+use Rattle.rh_command_line.proofs.ClapMatches.{command_and_file_of-matches, explains_of-matches, out_of-matches, viewed_of-matches, fails_by_error_kinds, taken-app, told_of_clap}
 use Rattle.rh_command_line.proofs.arguments.matches_of.Goals as goal
 
 pub returns-in-Ok : goal.returns-in-Ok
@@ -10,6 +10,7 @@ returns-in-Ok c =
     record {
       held = command_and_file_of-matches _ _ c.in-Ok.matches is c.in-Ok.ensures.matches;
       explained = explains_of-matches _ _ c.in-Ok.matches is c.in-Ok.ensures.matches;
+      written = out_of-matches _ _ c.in-Ok.matches is c.in-Ok.ensures.matches;
       viewed = viewed_of-matches _ _ c.in-Ok.matches is c.in-Ok.ensures.matches;
       taken = fails_by_error_kinds _ _ (Ok c.in-Ok.matches) is c.in-Ok.ensures.kinds;
       refused = tt;
@@ -22,6 +23,7 @@ returns-in-Err c =
     record {
       held = tt;
       explained = tt;
+      written = tt;
       viewed = tt;
       taken = tt;
       refused = λ taken. c.error_of.ensures.memory (c.in-Err.ensures.passes (taken-app _ _ is taken));

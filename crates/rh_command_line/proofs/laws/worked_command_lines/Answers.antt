@@ -2,7 +2,7 @@ use Rattle.std.proofs.Common.{refl}
 use Rattle.clap.proofs.OnLiterals.{clap_on_literals}
 use Rattle.std.specs.Fmt.{digits}
 use Rattle.rh_text.specs.Number.{number_of}
-use Rattle.rh_command_line.specs.Ask.{command_and_file_of, explains_of, is_taken, viewed_of}
+use Rattle.rh_command_line.specs.Ask.{command_and_file_of, explains_of, is_taken, out_of, viewed_of}
 use Rattle.rh_command_line.proofs.laws.worked_command_lines.Goals as goal
 
 pub returns-clause-help : goal.returns-clause-help
@@ -247,3 +247,43 @@ returns-clause-lisp_crossed c = refl
 pub returns-clause-lisp_mark : goal.returns-clause-lisp_mark
 unfolding is_taken clap_on_literals
 returns-clause-lisp_mark c = refl
+
+pub returns-clause-snapshot : goal.returns-clause-snapshot
+unfolding command_and_file_of number_of digits clap_on_literals
+returns-clause-snapshot c = refl
+
+pub returns-clause-snapshot_crossed : goal.returns-clause-snapshot_crossed
+unfolding command_and_file_of number_of digits clap_on_literals
+returns-clause-snapshot_crossed c = refl
+
+pub returns-clause-snapshot_dot : goal.returns-clause-snapshot_dot
+unfolding command_and_file_of number_of digits clap_on_literals
+returns-clause-snapshot_dot c = refl
+
+pub returns-clause-why : goal.returns-clause-why
+unfolding command_and_file_of number_of digits clap_on_literals
+returns-clause-why c = refl
+
+pub returns-clause-why_at : goal.returns-clause-why_at
+unfolding command_and_file_of number_of digits clap_on_literals
+returns-clause-why_at c = refl
+
+pub returns-clause-why_json : goal.returns-clause-why_json
+unfolding command_and_file_of number_of digits clap_on_literals
+returns-clause-why_json c = refl
+
+pub returns-clause-why_no_number : goal.returns-clause-why_no_number
+unfolding command_and_file_of number_of digits clap_on_literals
+returns-clause-why_no_number c = refl
+
+pub returns-clause-snapshot_out : goal.returns-clause-snapshot_out
+unfolding out_of clap_on_literals
+returns-clause-snapshot_out c = refl
+
+pub returns-clause-events : goal.returns-clause-events
+unfolding viewed_of clap_on_literals
+returns-clause-events c = refl
+
+pub returns-clause-events_alone : goal.returns-clause-events_alone
+unfolding command_and_file_of clap_on_literals
+returns-clause-events_alone c = refl

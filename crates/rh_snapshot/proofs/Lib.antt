@@ -1,0 +1,4 @@
+mod Counts
+mod Parts
+mod Sections
+mod Edges

@@ -1,0 +1,15 @@
+use Rattle.std.proofs.Common.{◌≡◌, true, false, drop, length}
+use Rattle.rh_text.specs.lemmas.Appends.{Sent}
+use Rattle.rh_text.specs.IoLog.{MadeSince}
+use Rattle.rh_dump.specs.Graph.{total}
+use Rattle.rh_snapshot.proofs.Parts.{nodes_text}
+use Rattle.rh_snapshot.proofs.writing.write_nodes.Given as goal
+
+abbrev pub invariant-loop-shape : goal.invariant-loop-shape
+invariant-loop-shape g l = record {
+  sent : Sent (g.W.Write.contents l.fn.writer) (g.W.Write.contents l.writer) (nodes_text 0 l.shapes l.values) (nodes_text l.number (drop l.shape-index l.shapes) l.rest);
+  filled : total (drop l.shape-index l.shapes) ≡ length l.rest;
+  number : l.number ≡ l.shape-index;
+  none_failed : l.writes.failed ≡ false;
+  counted : MadeSince 0 l.fn.writes l.writes;
+}

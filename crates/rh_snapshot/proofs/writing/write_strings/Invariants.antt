@@ -1,0 +1,12 @@
+use Rattle.std.proofs.Common.{◌≡◌, true, false, drop, length}
+use Rattle.rh_text.specs.lemmas.Appends.{Sent}
+use Rattle.rh_text.specs.IoLog.{MadeSince}
+use Rattle.rh_snapshot.proofs.Parts.{strings_text}
+use Rattle.rh_snapshot.proofs.writing.write_strings.Given as goal
+
+abbrev pub invariant-loop-root : goal.invariant-loop-root
+invariant-loop-root g l = record {
+  sent : Sent (g.W.Write.contents l.fn.writer) (g.W.Write.contents l.writer) (strings_text l.roots) (strings_text (drop l.root-index l.roots));
+  none_failed : l.writes.failed ≡ false;
+  counted : MadeSince 0 l.fn.writes l.writes;
+}

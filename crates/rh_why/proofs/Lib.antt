@@ -1,0 +1,5 @@
+mod MetObjects
+mod First
+mod Ways
+mod Steps
+mod Texts
