@@ -72,6 +72,36 @@ static uint8_t watch_and_unwatch(rheap *heap, rheap_root_id root) {
     return status == RHEAP_DONE ? rheap_unwatch(heap, ticket) : status;
 }
 
+/* A pair of a number and a root, and a frame of three of each, by one call. */
+static uint8_t make_pair(rheap *heap, rheap_root_id dst, int64_t number, rheap_root_id root) {
+    rheap_init values[2];
+    values[0] = rheap_of_int(number);
+    values[1] = rheap_of_root(root);
+    return rheap_insist_make(heap, 1, dst, 2, values, 2);
+}
+
+static uint8_t make_frame(rheap *heap, rheap_root_id dst, int64_t number, rheap_root_id root) {
+    rheap_init values[6];
+    int at;
+    for (at = 0; at < 6; at += 2) {
+        values[at] = rheap_of_int(number);
+        values[at + 1] = rheap_of_root(root);
+    }
+    return rheap_insist_make(heap, 1, dst, 6, values, 6);
+}
+
+/* The same by a call for the object and one for each field. */
+static uint8_t fill_object(rheap *heap, rheap_root_id dst, int64_t number, rheap_root_id root,
+                           uint32_t fields) {
+    uint8_t status = rheap_insist_alloc(heap, 1, dst, fields);
+    uint32_t at;
+    for (at = 0; at < fields && status == RHEAP_DONE; at++) {
+        status = at % 2 == 0 ? rheap_insist_store_int(heap, 1, dst, at, number)
+                             : rheap_insist_store_root(heap, 1, dst, at, root);
+    }
+    return status;
+}
+
 /* If this is the call that is asked for, makes it so many times. */
 #define ON(name, call)                                                                             \
     if (strcmp(argv[1], name) == 0) {                                                              \
@@ -92,6 +122,11 @@ int main(int argc, char **argv) {
     rheap_root_id text = rheap_slot(1, 3);
     rheap_root_id row = rheap_slot(1, 4);
     rheap_value values[4];
+    /* Two roots, a number and nil. */
+    static const rheap_init mixed[4] = {{RHEAP_OBJECT, {1, 0}, 0},
+                                        {RHEAP_OBJECT, {1, 1}, 0},
+                                        {RHEAP_NUMBER, {0, 0}, 7},
+                                        {RHEAP_NIL, {0, 0}, 0}};
     /* A field of the object, and one of the object there. */
     static const uint32_t path[3] = {1, 1, 0};
     uint64_t ticket;
@@ -122,6 +157,11 @@ int main(int argc, char **argv) {
     must(rheap_store_root(&heap, 1, object, 1, other));
     must(rheap_store_root(&heap, 1, other, 1, object));
     must(rheap_watch_room(&heap, 8));
+    /* The same in slots of owner 0. */
+    must(rheap_alloc(&heap, 0, rheap_slot(0, 0), 4));
+    must(rheap_alloc(&heap, 0, rheap_slot(0, 1), 4));
+    must(rheap_store_int(&heap, 0, rheap_slot(0, 0), 0, 7));
+    must(rheap_store_root(&heap, 0, rheap_slot(0, 0), 1, rheap_slot(0, 1)));
     ON("alloc", rheap_alloc(&heap, 1, free_slot, 4))
     ON("store_root", rheap_store_root(&heap, 1, object, 1, other))
     ON("store_int", rheap_store_int(&heap, 1, object, 0, n))
@@ -140,9 +180,16 @@ int main(int argc, char **argv) {
     ON("insist_alloc", rheap_insist_alloc(&heap, 1, free_slot, 4))
     ON("insist_store_root", rheap_insist_store_root(&heap, 1, object, 1, other))
     ON("insist_store_int", rheap_insist_store_int(&heap, 1, object, 0, n))
+    ON("make_pair", make_pair(&heap, free_slot, n, other))
+    ON("make_frame", make_frame(&heap, free_slot, n, other))
+    ON("fill_pair", fill_object(&heap, free_slot, n, other, 2))
+    ON("fill_frame", fill_object(&heap, free_slot, n, other, 6))
     ON("load_roots", rheap_load_roots(&heap, 1, row, object, 0, values, 4, &done))
     ON("store_roots", rheap_store_roots(&heap, 1, other, 0, row, 4, &done))
     ON("insist_store_roots", rheap_insist_store_roots(&heap, 1, other, 0, row, 4, &done))
+    ON("load_roots_untold", rheap_load_roots_untold(&heap, 1, row, object, 0, 4, &done))
+    ON("store_row", rheap_store_row(&heap, 1, other, 0, mixed, 4, &done))
+    ON("insist_store_row", rheap_insist_store_row(&heap, 1, other, 0, mixed, 4, &done))
     ON("drop_roots", rheap_drop_roots(&heap, 1, row, 4, &done))
     ON("load_path", rheap_load_path(&heap, 1, free_slot, object, path, 3, &done, &value))
     ON("watch_and_unwatch", watch_and_unwatch(&heap, object))
@@ -154,6 +201,19 @@ int main(int argc, char **argv) {
     ON("load_ints", rheap_load_ints(&heap, 1, text, 0, packed, FIELDS, &count))
     ON("load_text", rheap_load_text(&heap, 1, text, 0, bytes, BYTES, &count))
     ON("unpack_each", unpack_each(&heap, text, bytes))
+    ON("shared_alloc", rheap_shared_alloc(&heap, 2, 4))
+    ON("shared_store_root", rheap_shared_store_root(&heap, 0, 1, 1))
+    ON("shared_store_int", rheap_shared_store_int(&heap, 0, 0, n))
+    ON("shared_store_nil", rheap_shared_store_nil(&heap, 0, 0))
+    ON("shared_load_root", rheap_shared_load(&heap, 2, 0, 1, &value))
+    ON("shared_load_int", rheap_shared_load(&heap, 2, 0, 0, &value))
+    ON("shared_load_untold", rheap_shared_load_untold(&heap, 2, 0, 1))
+    ON("shared_copy", rheap_shared_copy(&heap, 2, 1))
+    ON("shared_drop", rheap_shared_drop(&heap, 2))
+    ON("shared_peek", rheap_shared_peek(&heap, 0, 0, &value))
+    ON("shared_insist_alloc", rheap_shared_insist_alloc(&heap, 2, 4))
+    ON("shared_insist_store_root", rheap_shared_insist_store_root(&heap, 0, 1, 1))
+    ON("shared_insist_store_int", rheap_shared_insist_store_int(&heap, 0, 0, n))
     must(rheap_close(&heap));
     return 0;
 }

@@ -18,7 +18,7 @@
  * and have statuses of their own.
  *
  * What a program must keep, since nothing checks it:
- *   - make the handle by RHEAP_INIT before the first call, and leave its word alone from then on;
+ *   - make the handle by RHEAP_INIT before the first call, and leave its words alone from then on;
  *   - move it, if you like, but never use two copies of it;
  *   - make one call at a time on a handle, a reading one too; a lock, or a thread's start or end,
  *     orders two threads, and a lock that lets two readers in doesn't;
@@ -30,7 +30,21 @@
  * neither words written, up to 4,097 for 3 units, nor looks at roots. So ask for no more owners and
  * slots than you use. Below, ratio is that with which the heap was opened. A call that names no
  * units does no collector work, but for the rheap_insist_ calls, which may do that of two
- * rheap_collect, and rheap_insist_store_roots for each of its stores.
+ * rheap_collect, and rheap_insist_store_roots and rheap_insist_store_row for each of their stores.
+ *
+ * What a call costs, in instructions of x86-64, with the loop of 10 to 12 round it. No cycle is on,
+ * and nothing is refused; docs/c.md says how they were counted, and what of:
+ *   alloc, 4 fields     113     load           88 to 100     4 roots: load_roots      331
+ *   store_root          106     load_untold           83       store_roots            349
+ *   store_int            68     peek, field       69, 65       insist_store_roots     440
+ *   store_nil            57     root, room        62, 26       drop_roots             101
+ *   copy, drop       54, 37     same                  66     load_path, 3 fields      259
+ *   143 numbers: store_ints  3,004, load_ints  2,378     watch and unwatch            119
+ *   1,000 bytes: store_text  2,781, load_text  3,731     next_gone, none gone          28
+ *   make of 2 values, 6 values    330, 696               store_row of 4 values        446
+ * The other rheap_insist_ calls cost what the plain ones do. In a cycle an allocation or a store does its
+ * collector work too: 400 to 1,000 instructions, mostly. Words and memory: an object takes 2 words
+ * and one for each field, a word 32 bytes, a ticket 12 bytes, and an entry of the log 32.
  */
 #ifndef RHEAP_H
 #define RHEAP_H
@@ -47,9 +61,9 @@ extern "C" {
 #endif
 
 /* The statuses. From 1 to 7 the call asks what it may not; from 8 to 10 a limit refuses it. Where
-   several hold, the least of 1 to 10 is answered, and NOT_OPEN before them. The calls on fields
-   in a row say their own order. A call that opens a heap answers the first that holds of IS_OPEN,
-   NO_PACE, BAD_SIZES and NO_MEMORY. */
+   several hold, the least of 1 to 10 is answered, and NOT_OPEN before them. rheap_make and the calls
+   on fields in a row say their own order. A call that opens a heap answers the first that holds of
+   IS_OPEN, BAD_GROWTH, NO_PACE, BAD_SIZES and NO_MEMORY. */
 enum {
     /* The call was done. */
     RHEAP_DONE = 0,
@@ -65,7 +79,7 @@ enum {
     RHEAP_RAW_FIELD = 5,
     /* The number is below RHEAP_MIN_INT or above RHEAP_MAX_INT. */
     RHEAP_INT_RANGE = 6,
-    /* An object may not have so many fields: more than RHEAP_MAX_FIELDS. */
+    /* An object may not have so many fields, or values for them: more than RHEAP_MAX_FIELDS. */
     RHEAP_FIELDS_RANGE = 7,
     /* The object needs more words, its fields and 2, than are free. rheap_room tells both. */
     RHEAP_SPACE_FULL = 8,
@@ -91,7 +105,12 @@ enum {
     /* The ticket watches no object: it isn't there, it is free, or its object is gone. */
     RHEAP_NOT_WATCHED = 18,
     /* A heap may not have so many tickets: more than RHEAP_MAX_TICKETS in all. */
-    RHEAP_TICKETS_RANGE = 19
+    RHEAP_TICKETS_RANGE = 19,
+    /* A value that a call is given is of none of the kinds below. */
+    RHEAP_BAD_KIND = 20,
+    /* The factor isn't 100 to 1,000 percent, at_least is above at_most, or at_most is above
+       16,777,216. */
+    RHEAP_BAD_GROWTH = 21
 };
 
 /* The kinds of values. */
@@ -119,15 +138,18 @@ enum {
    rheap_open too. An assignment makes a second copy: use one of the two from then on, and give the
    other RHEAP_INIT. */
 typedef struct rheap {
+    /* A heap of fixed sizes, or null. */
     void *at;
+    /* A heap that grows, or null. One of the two at most is open. */
+    void *grows_at;
 } rheap;
 
 /* A handle that holds no heap. It initialises alone. A handle in memory of malloc takes it by
    `*heap = (rheap)RHEAP_INIT;` in C, and by `*heap = rheap RHEAP_INIT;` in C++. */
 #ifdef __cplusplus
-#define RHEAP_INIT { nullptr }
+#define RHEAP_INIT { nullptr, nullptr }
 #else
-#define RHEAP_INIT { 0 }
+#define RHEAP_INIT { 0, 0 }
 #endif
 
 /* A root: a slot of an owner, both counted from 0. */
@@ -145,6 +167,18 @@ typedef struct rheap_value {
     /* The number; 0 where the value is none. */
     int64_t number;
 } rheap_value;
+
+/* A value that a call is given, for a field. rheap_of_nil, rheap_of_int and rheap_of_root, below, make
+   one each. */
+typedef struct rheap_init {
+    /* RHEAP_NIL, RHEAP_NUMBER, or RHEAP_OBJECT or RHEAP_RAW: both mean what the root holds, whatever
+       that is. */
+    uint32_t kind;
+    /* The root. It isn't looked at where the kind is RHEAP_NIL or RHEAP_NUMBER. */
+    rheap_root_id root;
+    /* The number. It isn't looked at where the kind isn't RHEAP_NUMBER. */
+    int64_t number;
+} rheap_init;
 
 /* The numbers of a heap. */
 typedef struct rheap_stats {
@@ -206,6 +240,33 @@ typedef struct rheap_words {
     uint64_t free;
 } rheap_words;
 
+/* Whether a heap has too few words: what rheap_short tells. */
+enum {
+    /* It has enough. A heap of fixed sizes says so always. */
+    RHEAP_AMPLE = 0,
+    /* It may have no more words: it has at_most. */
+    RHEAP_AT_MOST = 1,
+    /* Memory for more words was refused. It asks again after its next cycle. */
+    RHEAP_REFUSED = 2
+};
+
+/* How a heap grows, and what else it is made with. */
+typedef struct rheap_growth {
+    /* The words with which it begins; it never has fewer: 8 to at_most, and enough
+       for a pace: 8,618 are enough for objects of any size at ratio 32. */
+    uint32_t at_least;
+    /* The most words that it may have: at most RHEAP_MAX_WORDS. */
+    uint32_t at_most;
+    /* The words that it gets after a cycle, in percent of those that are used then: 100 to 1,000.
+       It gets more where fewer wouldn't be in time. */
+    uint32_t factor;
+    /* As of rheap_open. */
+    uint32_t biggest;
+    uint32_t ratio;
+    uint32_t owners;
+    uint32_t slots;
+} rheap_growth;
+
 /* --- Life --- */
 
 /* Opens a heap without objects, whose roots are all nil, in a space of so many words.
@@ -218,8 +279,8 @@ typedef struct rheap_words {
    comes either, but of rheap_store_ints and rheap_store_text; rheap_pace tells the mark.
 
    In a cycle at most `ratio` units of collector work follow each allocated word and each stored
-   field, and 5 more each allocation and each store. It takes memory, as
-   rheap_open_sized and rheap_watch_room do; no other call on a handle does.
+   field, and 5 more each allocation and each store. It takes memory, as the other calls that open
+   a heap and rheap_watch_room do; no other call on a heap of fixed sizes does.
 
    Mind the order: words, live, biggest, ratio, owners, slots. All are of one type, so no compiler
    finds two of them swapped. rheap_open_sized leaves out `live` alone.
@@ -234,6 +295,25 @@ uint8_t rheap_open(rheap *heap, uint32_t words, uint32_t live, uint32_t biggest,
 uint8_t rheap_open_sized(rheap *heap, uint32_t words, uint32_t biggest, uint32_t ratio,
                          uint32_t owners, uint32_t slots);
 
+/* Opens a heap that grows. It begins with 40,000 words, or with at_most where that is less. After
+   each cycle it should have twice the words that are used then, at least those that it began with,
+   more where fewer wouldn't be in time, and at most at_most. Where it has fewer it gets these, and
+   where it has more than twice as many it gives memory back.
+
+   It collects in time, as rheap_open says, however many words live, as long as rheap_short tells
+   RHEAP_AMPLE: if the program makes no object of more than biggest words, each finds room, but for
+   the epochs. Where memory for more words is refused, nothing fails for that: the heap goes on with
+   the words that it has, and asks again after its next cycle. All calls on a handle work as on a
+   heap of fixed sizes. Those that end a cycle take memory then: rheap_alloc and the like, stores,
+   rheap_collect, rheap_increment.
+
+   DONE, IS_OPEN, BAD_GROWTH, NO_PACE, BAD_SIZES, NO_MEMORY. */
+uint8_t rheap_open_growing(rheap *heap, uint32_t at_most, uint32_t biggest, uint32_t ratio,
+                           uint32_t owners, uint32_t slots);
+
+/* The same, with all that a growth has. */
+uint8_t rheap_open_growth(rheap *heap, const rheap_growth *growth);
+
 /* Closes the heap, and frees its memory. The handle may be opened again. DONE, NOT_OPEN. */
 uint8_t rheap_close(rheap *heap);
 
@@ -247,9 +327,34 @@ uint8_t rheap_alloc(rheap *heap, uint32_t owner, rheap_root_id dst, uint32_t fie
 /* The same of a raw object: its fields hold nil and numbers alone. */
 uint8_t rheap_alloc_raw(rheap *heap, uint32_t owner, rheap_root_id dst, uint32_t fields);
 
+/* The root `dst` names a new object of so many fields, which take the values, from the first field
+   on, as many as `length` says: all of them, or nothing is done. Fields past them are nil. So a pair
+   goes to the front of a list by
+
+       rheap_init pair[] = {rheap_of_int(7), rheap_of_root(list)};
+       status = rheap_make(&heap, owner, list, 2, pair, 2);
+
+   since what a root holds is read before `dst` is written. If no value names `dst`, it is
+   rheap_alloc and a store for each value. In a cycle the work of all of them follows: at most
+   ratio * (fields + 2 + length) + 5 units; none follow outside. More than 8 values take 1 KiB of the
+   stack, and more than 64 take 64 KiB.
+
+   NOT_OPEN comes first, then FIELDS_RANGE for too many values, and BAD_KIND. Then comes what the
+   allocation asks, then what the store of each value asks, in their order, and then the limits:
+   LOG_FULL comes where a cycle is on and the log has fewer places left than there are values.
+   DONE, NO_ROOT, NOT_YOURS, NO_FIELD, RAW_FIELD (of rheap_make_raw alone), INT_RANGE, FIELDS_RANGE,
+   SPACE_FULL, LOG_FULL, NUMBERS_SPENT, BAD_KIND, NOT_OPEN. */
+uint8_t rheap_make(rheap *heap, uint32_t owner, rheap_root_id dst, uint32_t fields,
+                   const rheap_init *values, size_t length);
+
+/* The same of a raw object. A root among the values has to hold nil or a number: else RAW_FIELD. */
+uint8_t rheap_make_raw(rheap *heap, uint32_t owner, rheap_root_id dst, uint32_t fields,
+                       const rheap_init *values, size_t length);
+
 /* --- Fields, counted from 0 --- */
 
-/* The root `dst` takes the value of a field of the object that `src` names; `value` tells it.
+/* The root `dst` takes the value of a field of the object that `src` names; `value` tells it. Both
+   may be one root.
    DONE, NO_ROOT, NOT_YOURS, NOT_OBJECT, NO_FIELD, NOT_OPEN. */
 uint8_t rheap_load(rheap *heap, uint32_t owner, rheap_root_id dst, rheap_root_id src,
                    uint32_t field, rheap_value *value);
@@ -314,7 +419,7 @@ uint8_t rheap_store_text(rheap *heap, uint32_t owner, rheap_root_id object, uint
 uint8_t rheap_load_text(rheap *heap, uint32_t owner, rheap_root_id object, uint32_t from,
                         void *text, size_t length, uint32_t *count);
 
-/* --- Roots in a row, and paths --- */
+/* --- Roots and values in a row, and paths --- */
 
 /* Each of these calls is a list of commands, done one after the other up to the first that is
    refused, as if the program made a call for each. `count` tells how many were done; they stay
@@ -328,6 +433,20 @@ uint8_t rheap_load_text(rheap *heap, uint32_t owner, rheap_root_id object, uint3
    DONE, NO_ROOT, NOT_YOURS, NOT_OBJECT, NO_FIELD, NOT_OPEN. */
 uint8_t rheap_load_roots(rheap *heap, uint32_t owner, rheap_root_id first, rheap_root_id src,
                          uint32_t from, rheap_value *values, size_t length, size_t *count);
+
+/* The same where the values aren't looked at: none is told, in fewer instructions.
+   DONE, NO_ROOT, NOT_YOURS, NOT_OBJECT, NO_FIELD, NOT_OPEN. */
+uint8_t rheap_load_roots_untold(rheap *heap, uint32_t owner, rheap_root_id first,
+                                rheap_root_id src, uint32_t from, size_t length, size_t *count);
+
+/* The fields from `from` on of the object that `object` names take these values, as many as `length`
+   says: nil, numbers and what roots hold, in any order. In a cycle at most ratio + 5 units follow
+   each store; none follow outside. After LOG_FULL rheap_insist_store_row stores them. Where one is
+   of none of the kinds, it is BAD_KIND, and nothing is stored.
+   DONE, NO_ROOT, NOT_YOURS, NOT_OBJECT, NO_FIELD, RAW_FIELD, INT_RANGE, LOG_FULL, NUMBERS_SPENT,
+   BAD_KIND, NOT_OPEN. */
+uint8_t rheap_store_row(rheap *heap, uint32_t owner, rheap_root_id object, uint32_t from,
+                        const rheap_init *values, size_t length, size_t *count);
 
 /* The fields from `from` on of the object that `object` names take what the roots from `first` on
    hold: as many as `length` says. In a cycle at most ratio + 5 units follow each store; none follow
@@ -369,6 +488,10 @@ uint8_t rheap_same(rheap *heap, uint32_t owner, rheap_root_id a, rheap_root_id b
    are spent. Stop at the first: each further try collects twice. */
 uint8_t rheap_insist_alloc(rheap *heap, uint32_t owner, rheap_root_id dst, uint32_t fields);
 uint8_t rheap_insist_alloc_raw(rheap *heap, uint32_t owner, rheap_root_id dst, uint32_t fields);
+uint8_t rheap_insist_make(rheap *heap, uint32_t owner, rheap_root_id dst, uint32_t fields,
+                          const rheap_init *values, size_t length);
+uint8_t rheap_insist_make_raw(rheap *heap, uint32_t owner, rheap_root_id dst, uint32_t fields,
+                              const rheap_init *values, size_t length);
 uint8_t rheap_insist_store_nil(rheap *heap, uint32_t owner, rheap_root_id object, uint32_t field);
 uint8_t rheap_insist_store_int(rheap *heap, uint32_t owner, rheap_root_id object, uint32_t field,
                                int64_t number);
@@ -391,6 +514,36 @@ uint8_t rheap_insist_store_text(rheap *heap, uint32_t owner, rheap_root_id objec
    DONE, NO_ROOT, NOT_YOURS, NOT_OBJECT, NO_FIELD, RAW_FIELD, NUMBERS_SPENT, NOT_OPEN. */
 uint8_t rheap_insist_store_roots(rheap *heap, uint32_t owner, rheap_root_id object, uint32_t from,
                                  rheap_root_id first, size_t length, size_t *count);
+
+/* As rheap_store_row, where each store is insisted on. LOG_FULL never comes.
+   DONE, NO_ROOT, NOT_YOURS, NOT_OBJECT, NO_FIELD, RAW_FIELD, INT_RANGE, NUMBERS_SPENT, BAD_KIND,
+   NOT_OPEN. */
+uint8_t rheap_insist_store_row(rheap *heap, uint32_t owner, rheap_root_id object, uint32_t from,
+                               const rheap_init *values, size_t length, size_t *count);
+
+/* --- The slots of owner 0 by number --- */
+
+/* A program with one owner names no owner: it keeps all its roots in the slots of owner 0, which all
+   owners share, and names a slot by its number alone. Each call is the one without shared_ by owner
+   0, with the same statuses but NOT_YOURS, in fewer instructions. For the others rheap_slot(0, n)
+   names the root in slot n. */
+uint8_t rheap_shared_alloc(rheap *heap, uint32_t dst, uint32_t fields);
+uint8_t rheap_shared_alloc_raw(rheap *heap, uint32_t dst, uint32_t fields);
+uint8_t rheap_shared_load(rheap *heap, uint32_t dst, uint32_t src, uint32_t field,
+                          rheap_value *value);
+uint8_t rheap_shared_load_untold(rheap *heap, uint32_t dst, uint32_t src, uint32_t field);
+uint8_t rheap_shared_peek(rheap *heap, uint32_t src, uint32_t field, rheap_value *value);
+uint8_t rheap_shared_store_nil(rheap *heap, uint32_t object, uint32_t field);
+uint8_t rheap_shared_store_int(rheap *heap, uint32_t object, uint32_t field, int64_t number);
+uint8_t rheap_shared_store_root(rheap *heap, uint32_t object, uint32_t field, uint32_t src);
+uint8_t rheap_shared_copy(rheap *heap, uint32_t dst, uint32_t src);
+uint8_t rheap_shared_drop(rheap *heap, uint32_t root);
+uint8_t rheap_shared_insist_alloc(rheap *heap, uint32_t dst, uint32_t fields);
+uint8_t rheap_shared_insist_alloc_raw(rheap *heap, uint32_t dst, uint32_t fields);
+uint8_t rheap_shared_insist_store_nil(rheap *heap, uint32_t object, uint32_t field);
+uint8_t rheap_shared_insist_store_int(rheap *heap, uint32_t object, uint32_t field,
+                                      int64_t number);
+uint8_t rheap_shared_insist_store_root(rheap *heap, uint32_t object, uint32_t field, uint32_t src);
 
 /* --- Reading --- */
 
@@ -418,6 +571,11 @@ uint8_t rheap_peek(rheap *heap, uint32_t owner, rheap_root_id src, uint32_t fiel
    DONE, NOT_OPEN. */
 uint8_t rheap_room(rheap *heap, uint32_t fields, rheap_words *room);
 
+/* Whether a heap that grows has had too few words since its last cycle, so that a call may find no
+   room: `is` tells RHEAP_AMPLE, RHEAP_AT_MOST or RHEAP_REFUSED. Of a heap of fixed sizes it tells
+   RHEAP_AMPLE. DONE, NOT_OPEN. */
+uint8_t rheap_short(rheap *heap, uint8_t *is);
+
 /* --- Watching objects --- */
 
 /* A program that keeps something of its own beside an object, such as an open file, has the object
@@ -431,12 +589,14 @@ uint8_t rheap_room(rheap *heap, uint32_t fields, rheap_words *room);
    units. So take the room that you need, and free what you need no more. */
 
 /* Makes room for so many tickets more than there are: a new heap has none. It takes 12 bytes for
-   each, and is the only call on an open heap that takes memory; refused, it changes nothing.
+   each, and is the only call on an open heap of fixed sizes that takes memory; refused, it changes
+   nothing.
    DONE, TICKETS_RANGE, NO_MEMORY, NOT_OPEN. */
 uint8_t rheap_watch_room(rheap *heap, uint32_t additional);
 
 /* Watches the object that the root names now; `ticket` tells the ticket, the free one with the
-   least number. What the root holds later doesn't matter.
+   least number. So each is less than the room that was made, and can index an array of so many.
+   What the root holds later doesn't matter.
    DONE, NO_ROOT, NOT_YOURS, NOT_OBJECT, WATCHES_FULL, NOT_OPEN. */
 uint8_t rheap_watch(rheap *heap, uint32_t owner, rheap_root_id root, uint64_t *ticket);
 
@@ -520,14 +680,35 @@ static inline rheap_root_id rheap_slot(uint32_t owner, uint32_t slot) {
     return root;
 }
 
+/* A value that a call is given: nil, a whole number, or what a root holds. */
+static inline rheap_init rheap_of_nil(void) {
+    rheap_init value;
+    value.kind = RHEAP_NIL;
+    value.root = rheap_slot(0, 0);
+    value.number = 0;
+    return value;
+}
+static inline rheap_init rheap_of_int(int64_t number) {
+    rheap_init value = rheap_of_nil();
+    value.kind = RHEAP_NUMBER;
+    value.number = number;
+    return value;
+}
+static inline rheap_init rheap_of_root(rheap_root_id root) {
+    rheap_init value = rheap_of_nil();
+    value.kind = RHEAP_OBJECT;
+    value.root = root;
+    return value;
+}
+
 /* The name of a status, without its prefix. */
 static inline const char *rheap_name(uint8_t status) {
     static const char *const names[] = {
         "DONE",       "NO_ROOT",       "NOT_YOURS",    "NOT_OBJECT", "NO_FIELD",      "RAW_FIELD",
         "INT_RANGE",  "FIELDS_RANGE",  "SPACE_FULL",   "LOG_FULL",   "NUMBERS_SPENT", "EPOCHS_SPENT",
         "NOT_OPEN",   "IS_OPEN",       "NO_PACE",      "BAD_SIZES",  "NO_MEMORY",     "WATCHES_FULL",
-        "NOT_WATCHED", "TICKETS_RANGE"};
-    return status <= RHEAP_TICKETS_RANGE ? names[status] : "UNKNOWN";
+        "NOT_WATCHED", "TICKETS_RANGE", "BAD_KIND",     "BAD_GROWTH"};
+    return status <= RHEAP_BAD_GROWTH ? names[status] : "UNKNOWN";
 }
 
 /* Slots of one owner that are used as a stack: rheap_push takes the next one, and rheap_pop_to

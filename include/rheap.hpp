@@ -5,11 +5,10 @@
  *     rh::heap heap(rh::sizes{4096, 4});             // words, biggest; ratio 32, 2 owners
  *     rh::slots slots(heap, 1, 0, 8);                // eight slots of owner 1, from 0 on
  *     rh::scoped_root list(slots), cell(slots);      // two of them, given back at the end
- *     heap.alloc(cell, 2);
- *     heap.store(cell, 0, 7);
- *     heap.store(cell, 1, list);
+ *     heap.make(cell, {7, list});                    // an object of two fields
+ *     heap.store(cell, 0, 8);
  *     swap(list, cell);                              // no call of the heap
- *     std::int64_t seven = std::get<std::int64_t>(heap.peek(list, 0));
+ *     std::int64_t eight = std::get<std::int64_t>(heap.peek(list, 0));
  *
  * Each call is there twice. `heap.alloc(..)` throws rh::error if the heap refuses it.
  * `heap.try_alloc(..)` is noexcept and returns an rh::result, which has the value or the status;
@@ -30,6 +29,10 @@
  */
 #ifndef RHEAP_HPP
 #define RHEAP_HPP
+
+#ifdef RHEAP_ON_REFUSAL_H
+#error "include rheap_on_refusal.h after rheap.hpp"
+#endif
 
 #include "rheap.h"
 
@@ -78,7 +81,9 @@ enum class status : std::uint8_t {
     no_memory = RHEAP_NO_MEMORY,
     watches_full = RHEAP_WATCHES_FULL,
     not_watched = RHEAP_NOT_WATCHED,
-    tickets_range = RHEAP_TICKETS_RANGE
+    tickets_range = RHEAP_TICKETS_RANGE,
+    bad_kind = RHEAP_BAD_KIND,
+    bad_growth = RHEAP_BAD_GROWTH
 };
 
 // The name of a status, as "SPACE_FULL".
@@ -252,6 +257,75 @@ struct root {
     friend constexpr bool operator!=(root a, root b) noexcept { return !(a == b); }
 };
 
+// A slot of owner 0, by its number: a root that all owners share. Calls on such slots alone take
+// fewer instructions.
+struct shared {
+    std::uint32_t slot;
+    operator root() const noexcept { return {0, slot}; }
+};
+
+// --- Values for fields ---
+
+namespace detail {
+
+// A number that is too large for 64 bits becomes one that the heap refuses: INT_RANGE.
+template <class N>
+std::int64_t whole(N number) noexcept {
+    static_assert(sizeof(N) <= sizeof(std::int64_t), "a number of at most 64 bits");
+    if constexpr (std::is_unsigned_v<N> && sizeof(N) == sizeof(std::int64_t)) {
+        return number > static_cast<std::uint64_t>(INT64_MAX) ? INT64_MAX
+                                                              : static_cast<std::int64_t>(number);
+    } else {
+        return static_cast<std::int64_t>(number);
+    }
+}
+
+} // namespace detail
+
+// What a field takes: nil, a whole number of any integral type, or what a root holds.
+class init {
+public:
+    init(nil_t) noexcept : of_(::rheap_of_nil()) {}
+    template <class N, std::enable_if_t<std::is_integral_v<N>, int> = 0>
+    init(N number) noexcept : of_(::rheap_of_int(detail::whole(number))) {}
+    template <class R, std::enable_if_t<std::is_convertible_v<const R &, root>, int> = 0>
+    init(const R &src) noexcept : of_(::rheap_of_root(static_cast<root>(src).id())) {}
+
+    // Its owner, where it is a root's value, and else 0.
+    std::uint32_t owner() const noexcept { return of_.root.owner; }
+
+private:
+    ::rheap_init of_;
+};
+
+// The values of a new object, or of fields in a row: a list in braces, or anything with data() and
+// size(), as a std::vector of rh::init. It names them, and is for the call that takes it.
+class values {
+public:
+    values(std::initializer_list<init> of) noexcept : first_(std::data(of)), size_(of.size()) {}
+    template <class Row, std::enable_if_t<std::is_convertible_v<
+                             decltype(std::data(std::declval<const Row &>())), const init *>, int> = 0>
+    values(const Row &of) noexcept : first_(std::data(of)), size_(std::size(of)) {}
+
+    std::size_t size() const noexcept { return size_; }
+    // The fields of an object that has no others.
+    std::uint32_t fields() const noexcept {
+        return static_cast<std::uint32_t>(size_ < RHEAP_MAX_FIELDS ? size_ : RHEAP_MAX_FIELDS);
+    }
+    const init *begin() const noexcept { return first_; }
+    const init *end() const noexcept { return first_ + size_; }
+    // As C has them.
+    const ::rheap_init *given() const noexcept {
+        static_assert(std::is_standard_layout_v<init> && sizeof(init) == sizeof(::rheap_init));
+        static constexpr ::rheap_init none{};
+        return size_ == 0 ? &none : reinterpret_cast<const ::rheap_init *>(first_);
+    }
+
+private:
+    const init *first_;
+    std::size_t size_;
+};
+
 // A ticket that watches an object. It is a number below the tickets that the heap has, so what a
 // program keeps beside its objects can lie in a vector. Once it was told or freed, the same number
 // is given to another object.
@@ -266,14 +340,31 @@ struct ticket {
 
 class gone;
 
-// The sizes of a heap, as rheap_open_sized has them.
+// The sizes of a heap, as rheap_open_sized has them. Each flip looks at all slots, so ask for no more
+// than you use: there may be RHEAP_MAX_SLOTS of each owner.
 struct sizes {
     std::uint32_t words;
     std::uint32_t biggest;
     std::uint32_t ratio = 32;
     std::uint32_t owners = 2;
-    std::uint32_t slots = RHEAP_MAX_SLOTS;
+    std::uint32_t slots = 32;
 };
+
+// How a heap grows, as rheap_open_growth has it. It begins with at_least words, or with at_most where
+// that is less.
+struct growth {
+    std::uint32_t at_most;
+    std::uint32_t biggest;
+    std::uint32_t ratio = 32;
+    std::uint32_t owners = 2;
+    std::uint32_t slots = 32;
+    std::uint32_t at_least = 40000;
+    std::uint32_t factor = 200;
+};
+
+// Whether a heap that grows has too few words, as rheap_short tells it.
+enum class shortage : std::uint8_t { none = RHEAP_AMPLE, at_most = RHEAP_AT_MOST,
+                                     refused = RHEAP_REFUSED };
 
 // A heap that collects by itself. It is closed, and its memory freed, where it ends. It may be
 // moved; what it was moved from holds none, and its calls are NOT_OPEN. What names a heap, as
@@ -286,6 +377,12 @@ public:
     explicit heap(const sizes &of) { try_open(of).value(); }
     // Opens one of which no more than so many words live at once.
     heap(const sizes &of, std::uint32_t live) { try_open(of, live).value(); }
+    // Opens one that grows. Throws BAD_GROWTH, NO_PACE, BAD_SIZES, NO_MEMORY.
+    static heap growing(const growth &of) {
+        heap made;
+        made.try_open_growing(of).value();
+        return made;
+    }
     heap(heap &&other) noexcept : raw_(std::exchange(other.raw_, ::rheap RHEAP_INIT)) {}
     heap &operator=(heap &&other) noexcept {
         if (this != &other) {
@@ -307,8 +404,14 @@ public:
         return of_call(
             ::rheap_open(&raw_, of.words, live, of.biggest, of.ratio, of.owners, of.slots));
     }
+    result<void> try_open_growing(const growth &of) noexcept {
+        const ::rheap_growth growth = {of.at_least < of.at_most ? of.at_least : of.at_most,
+                                       of.at_most, of.factor, of.biggest, of.ratio, of.owners,
+                                       of.slots};
+        return of_call(::rheap_open_growth(&raw_, &growth));
+    }
     result<void> try_close() noexcept { return of_call(::rheap_close(&raw_)); }
-    bool is_open() const noexcept { return raw_.at != nullptr; }
+    bool is_open() const noexcept { return raw_.at != nullptr || raw_.grows_at != nullptr; }
     explicit operator bool() const noexcept { return is_open(); }
     // The handle, for calls of rheap.h. Close it by this object alone.
     ::rheap *handle() noexcept { return &raw_; }
@@ -333,6 +436,68 @@ public:
         try_insist_alloc_raw(dst, fields).value();
     }
 
+    // The same of slots of owner 0 by number.
+    result<void> try_alloc(shared dst, std::uint32_t fields) noexcept {
+        return of_call(::rheap_shared_alloc(&raw_, dst.slot, fields));
+    }
+    result<void> try_alloc_raw(shared dst, std::uint32_t fields) noexcept {
+        return of_call(::rheap_shared_alloc_raw(&raw_, dst.slot, fields));
+    }
+    result<void> try_insist_alloc(shared dst, std::uint32_t fields) noexcept {
+        return of_call(::rheap_shared_insist_alloc(&raw_, dst.slot, fields));
+    }
+    result<void> try_insist_alloc_raw(shared dst, std::uint32_t fields) noexcept {
+        return of_call(::rheap_shared_insist_alloc_raw(&raw_, dst.slot, fields));
+    }
+    void alloc(shared dst, std::uint32_t fields) { try_alloc(dst, fields).value(); }
+    void alloc_raw(shared dst, std::uint32_t fields) { try_alloc_raw(dst, fields).value(); }
+    void insist_alloc(shared dst, std::uint32_t fields) { try_insist_alloc(dst, fields).value(); }
+    void insist_alloc_raw(shared dst, std::uint32_t fields) {
+        try_insist_alloc_raw(dst, fields).value();
+    }
+
+    // Objects with their values: `heap.make(list, {7, list})` makes one of two fields. What a root
+    // holds is read before `dst` names the object. With `fields`, those past the values are nil.
+    result<void> try_make(root dst, std::uint32_t fields, values of) noexcept {
+        return of_call(::rheap_make(&raw_, owner_of(dst, of), dst.id(), fields, of.given(), of.size()));
+    }
+    result<void> try_make_raw(root dst, std::uint32_t fields, values of) noexcept {
+        return of_call(
+            ::rheap_make_raw(&raw_, owner_of(dst, of), dst.id(), fields, of.given(), of.size()));
+    }
+    result<void> try_insist_make(root dst, std::uint32_t fields, values of) noexcept {
+        return of_call(
+            ::rheap_insist_make(&raw_, owner_of(dst, of), dst.id(), fields, of.given(), of.size()));
+    }
+    result<void> try_insist_make_raw(root dst, std::uint32_t fields, values of) noexcept {
+        return of_call(
+            ::rheap_insist_make_raw(&raw_, owner_of(dst, of), dst.id(), fields, of.given(), of.size()));
+    }
+    result<void> try_make(root dst, values of) noexcept { return try_make(dst, of.fields(), of); }
+    result<void> try_make_raw(root dst, values of) noexcept {
+        return try_make_raw(dst, of.fields(), of);
+    }
+    result<void> try_insist_make(root dst, values of) noexcept {
+        return try_insist_make(dst, of.fields(), of);
+    }
+    result<void> try_insist_make_raw(root dst, values of) noexcept {
+        return try_insist_make_raw(dst, of.fields(), of);
+    }
+    void make(root dst, values of) { try_make(dst, of).value(); }
+    void make(root dst, std::uint32_t fields, values of) { try_make(dst, fields, of).value(); }
+    void make_raw(root dst, values of) { try_make_raw(dst, of).value(); }
+    void make_raw(root dst, std::uint32_t fields, values of) {
+        try_make_raw(dst, fields, of).value();
+    }
+    void insist_make(root dst, values of) { try_insist_make(dst, of).value(); }
+    void insist_make(root dst, std::uint32_t fields, values of) {
+        try_insist_make(dst, fields, of).value();
+    }
+    void insist_make_raw(root dst, values of) { try_insist_make_raw(dst, of).value(); }
+    void insist_make_raw(root dst, std::uint32_t fields, values of) {
+        try_insist_make_raw(dst, fields, of).value();
+    }
+
     // Stores: nil, a whole number of any integral type, or what a root holds. A number that is no
     // whole one doesn't compile.
     result<void> try_store(root at, std::uint32_t field, nil_t) noexcept {
@@ -343,7 +508,7 @@ public:
     }
     template <class N, std::enable_if_t<std::is_integral_v<N>, int> = 0>
     result<void> try_store(root at, std::uint32_t field, N number) noexcept {
-        return of_call(::rheap_store_int(&raw_, at.owner, at.id(), field, whole(number)));
+        return of_call(::rheap_store_int(&raw_, at.owner, at.id(), field, detail::whole(number)));
     }
     result<void> try_insist_store(root at, std::uint32_t field, nil_t) noexcept {
         return of_call(::rheap_insist_store_nil(&raw_, at.owner, at.id(), field));
@@ -354,7 +519,7 @@ public:
     }
     template <class N, std::enable_if_t<std::is_integral_v<N>, int> = 0>
     result<void> try_insist_store(root at, std::uint32_t field, N number) noexcept {
-        return of_call(::rheap_insist_store_int(&raw_, at.owner, at.id(), field, whole(number)));
+        return of_call(::rheap_insist_store_int(&raw_, at.owner, at.id(), field, detail::whole(number)));
     }
     template <class What>
     void store(root at, std::uint32_t field, const What &what) {
@@ -362,6 +527,37 @@ public:
     }
     template <class What>
     void insist_store(root at, std::uint32_t field, const What &what) {
+        try_insist_store(at, field, what).value();
+    }
+
+    // The same of slots of owner 0 by number.
+    result<void> try_store(shared at, std::uint32_t field, nil_t) noexcept {
+        return of_call(::rheap_shared_store_nil(&raw_, at.slot, field));
+    }
+    result<void> try_store(shared at, std::uint32_t field, shared src) noexcept {
+        return of_call(::rheap_shared_store_root(&raw_, at.slot, field, src.slot));
+    }
+    template <class N, std::enable_if_t<std::is_integral_v<N>, int> = 0>
+    result<void> try_store(shared at, std::uint32_t field, N number) noexcept {
+        return of_call(::rheap_shared_store_int(&raw_, at.slot, field, detail::whole(number)));
+    }
+    result<void> try_insist_store(shared at, std::uint32_t field, nil_t) noexcept {
+        return of_call(::rheap_shared_insist_store_nil(&raw_, at.slot, field));
+    }
+    result<void> try_insist_store(shared at, std::uint32_t field, shared src) noexcept {
+        return of_call(::rheap_shared_insist_store_root(&raw_, at.slot, field, src.slot));
+    }
+    template <class N, std::enable_if_t<std::is_integral_v<N>, int> = 0>
+    result<void> try_insist_store(shared at, std::uint32_t field, N number) noexcept {
+        return of_call(
+            ::rheap_shared_insist_store_int(&raw_, at.slot, field, detail::whole(number)));
+    }
+    template <class What>
+    void store(shared at, std::uint32_t field, const What &what) {
+        try_store(at, field, what).value();
+    }
+    template <class What>
+    void insist_store(shared at, std::uint32_t field, const What &what) {
         try_insist_store(at, field, what).value();
     }
 
@@ -388,6 +584,25 @@ public:
         return of_call(::rheap_peek(&raw_, src.owner, src.id(), field, &of), of);
     }
     value peek(root src, std::uint32_t field) { return try_peek(src, field).value(); }
+    // The same of slots of owner 0 by number.
+    result<value> try_load(shared dst, shared src, std::uint32_t field) noexcept {
+        ::rheap_value of;
+        return of_call(::rheap_shared_load(&raw_, dst.slot, src.slot, field, &of), of);
+    }
+    value load(shared dst, shared src, std::uint32_t field) {
+        return try_load(dst, src, field).value();
+    }
+    result<void> try_load_untold(shared dst, shared src, std::uint32_t field) noexcept {
+        return of_call(::rheap_shared_load_untold(&raw_, dst.slot, src.slot, field));
+    }
+    void load_untold(shared dst, shared src, std::uint32_t field) {
+        try_load_untold(dst, src, field).value();
+    }
+    result<value> try_peek(shared src, std::uint32_t field) noexcept {
+        ::rheap_value of;
+        return of_call(::rheap_shared_peek(&raw_, src.slot, field, &of), of);
+    }
+    value peek(shared src, std::uint32_t field) { return try_peek(src, field).value(); }
     // What a root holds, and how many fields its object has.
     result<value> try_get(root at) noexcept {
         ::rheap_value of;
@@ -409,6 +624,15 @@ public:
         return of_call(::rheap_drop(&raw_, at.owner, at.id()));
     }
     void drop(root at) { try_drop(at).value(); }
+    // The same of slots of owner 0 by number.
+    result<void> try_copy(shared dst, shared src) noexcept {
+        return of_call(::rheap_shared_copy(&raw_, dst.slot, src.slot));
+    }
+    void copy(shared dst, shared src) { try_copy(dst, src).value(); }
+    result<void> try_drop(shared at) noexcept {
+        return of_call(::rheap_shared_drop(&raw_, at.slot));
+    }
+    void drop(shared at) { try_drop(at).value(); }
     result<bool> try_same(root a, root b) noexcept {
         std::uint8_t is;
         const auto told = ::rheap_same(&raw_, owner_of(a, b), a.id(), b.id(), &is);
@@ -529,6 +753,35 @@ public:
     }
     void drop_roots(root first, std::size_t length) { try_drop_roots(first, length).value(); }
 
+    // The same where the values aren't looked at, in less work.
+    counted<void> try_load_roots_untold(root first, root src, std::uint32_t from,
+                                        std::size_t length) noexcept {
+        std::size_t count;
+        const auto status = ::rheap_load_roots_untold(&raw_, owner_of(first, src), first.id(),
+                                                      src.id(), from, length, &count);
+        return {of_call(status), count};
+    }
+    void load_roots_untold(root first, root src, std::uint32_t from, std::size_t length) {
+        try_load_roots_untold(first, src, from, length).value();
+    }
+    // Values of all kinds in a row: `heap.store_row(frame, 1, {7, rh::nil, list})`.
+    counted<void> try_store_row(root at, std::uint32_t from, values of) noexcept {
+        std::size_t count;
+        const auto status = ::rheap_store_row(&raw_, owner_of(at, of), at.id(), from, of.given(),
+                                              of.size(), &count);
+        return {of_call(status), count};
+    }
+    counted<void> try_insist_store_row(root at, std::uint32_t from, values of) noexcept {
+        std::size_t count;
+        const auto status = ::rheap_insist_store_row(&raw_, owner_of(at, of), at.id(), from,
+                                                     of.given(), of.size(), &count);
+        return {of_call(status), count};
+    }
+    void store_row(root at, std::uint32_t from, values of) { try_store_row(at, from, of).value(); }
+    void insist_store_row(root at, std::uint32_t from, values of) {
+        try_insist_store_row(at, from, of).value();
+    }
+
     // Follows a path of fields, as `heap.load_path(third, list, {1, 1, 0})`. The value is the last
     // that was loaded: nil where there are no fields, and `dst` is as it was then.
     counted<value> try_load_path(root dst, root src, const std::uint32_t *fields,
@@ -604,6 +857,13 @@ public:
         return of_call(::rheap_room(&raw_, fields, &of), of);
     }
     ::rheap_words room(std::uint32_t fields) { return try_room(fields).value(); }
+    // Whether a heap that grows has too few words.
+    result<rh::shortage> try_shortage() noexcept {
+        std::uint8_t is = 0;
+        const auto status = ::rheap_short(&raw_, &is);
+        return of_call(status, static_cast<rh::shortage>(is));
+    }
+    rh::shortage shortage() { return try_shortage().value(); }
 
 private:
     // The second is lent, and not read before the call is done.
@@ -620,17 +880,13 @@ private:
     static std::uint32_t owner_of(root a, root b) noexcept {
         return a.owner != 0 ? a.owner : b.owner;
     }
-    // A number that is too large for 64 bits becomes one that the heap refuses: INT_RANGE.
-    template <class N>
-    static std::int64_t whole(N number) noexcept {
-        static_assert(sizeof(N) <= sizeof(std::int64_t), "a number of at most 64 bits");
-        if constexpr (std::is_unsigned_v<N> && sizeof(N) == sizeof(std::int64_t)) {
-            return number > static_cast<std::uint64_t>(INT64_MAX)
-                       ? INT64_MAX
-                       : static_cast<std::int64_t>(number);
-        } else {
-            return static_cast<std::int64_t>(number);
+    static std::uint32_t owner_of(root dst, const values &of) noexcept {
+        std::uint32_t owner = dst.owner;
+        for (const init &each : of) {
+            if (owner != 0) break;
+            owner = each.owner();
         }
+        return owner;
     }
 
     ::rheap raw_ = RHEAP_INIT;

@@ -42,6 +42,10 @@
 #ifndef RHEAP_ARRAY_H
 #define RHEAP_ARRAY_H
 
+#ifdef RHEAP_ON_REFUSAL_H
+#error "include rheap_on_refusal.h after rheap_array.h"
+#endif
+
 #include "rheap.h"
 #include <string.h>
 
@@ -151,6 +155,27 @@ static inline uint8_t rheap_array_copy(rheap_scope *scope, rheap_root_id to, rhe
     return RHEAP_DONE;
 }
 
+/* The same of raw objects, many numbers at once. */
+static inline uint8_t rheap_array_copy_raw(rheap_scope *scope, rheap_root_id to,
+                                           rheap_root_id from, uint32_t fields) {
+    int64_t numbers[64];
+    uint32_t field = 0;
+    while (field < fields) {
+        uint32_t count;
+        uint32_t some = fields - field < 64 ? fields - field : 64;
+        uint8_t status = rheap_load_ints(scope->heap, scope->owner, from, field, numbers, some,
+                                         &count);
+        if (status == RHEAP_DONE && count > 0) {
+            status = rheap_insist_store_ints(scope->heap, scope->owner, to, field, numbers, count);
+        }
+        if (status != RHEAP_DONE) {
+            return status;
+        }
+        field += count < some ? count + 1 : count; /* Past a field that is nil, as a new one is. */
+    }
+    return RHEAP_DONE;
+}
+
 /* An object with more fields takes the place of the one that `at` names, and that a field of
    `object` refers to. It is whole before that field takes it, and `at` names it then. */
 static inline uint8_t rheap_array_widen(rheap_scope *scope, rheap_root_id object, uint32_t field,
@@ -159,7 +184,8 @@ static inline uint8_t rheap_array_widen(rheap_scope *scope, rheap_root_id object
     rheap_root_id hand = rheap_push(scope);
     uint8_t status = rheap_array_alloc(scope, next, fields, was.kind == RHEAP_RAW);
     if (status == RHEAP_DONE) {
-        status = rheap_array_copy(scope, next, at, was.fields, hand);
+        status = was.kind == RHEAP_RAW ? rheap_array_copy_raw(scope, next, at, was.fields)
+                                       : rheap_array_copy(scope, next, at, was.fields, hand);
     }
     if (status == RHEAP_DONE) {
         status = rheap_insist_store_root(scope->heap, scope->owner, object, field, next);
@@ -526,27 +552,50 @@ static inline size_t rheap_array_span(uint32_t from, size_t length) {
     return length == 0 ? 0 : end / 7 + (end % 7 != 0);
 }
 
+/* Bytes of one element, from the byte `from` on, so many of them, are taken out of it, or put in. */
+static inline uint8_t rheap_array_take_part(rheap_scope *scope, rheap_root_id array, uint32_t from,
+                                            unsigned char *bytes, uint32_t part) {
+    rheap_value value;
+    uint32_t shift = from % 7 * 8;
+    uint32_t k;
+    uint8_t status = rheap_array_peek(scope, array, from / 7, &value);
+    for (k = 0; k < part; k++, shift += 8) {
+        bytes[k] = RHEAP_ARRAY_CAST(
+            unsigned char, RHEAP_ARRAY_CAST(uint64_t, value.number) >> shift & 0xffu);
+    }
+    return status;
+}
+static inline uint8_t rheap_array_put_part(rheap_scope *scope, rheap_root_id array, uint32_t from,
+                                           const unsigned char *bytes, uint32_t part) {
+    rheap_value value;
+    uint32_t shift = from % 7 * 8;
+    uint64_t bits;
+    uint32_t k;
+    uint8_t status = rheap_array_peek(scope, array, from / 7, &value);
+    bits = RHEAP_ARRAY_CAST(uint64_t, value.number) & UINT64_C(0xffffffffffffff);
+    for (k = 0; k < part; k++, shift += 8) {
+        bits = (bits & ~(UINT64_C(0xff) << shift)) | RHEAP_ARRAY_CAST(uint64_t, bytes[k]) << shift;
+    }
+    return status != RHEAP_DONE ? status
+                                : rheap_array_set_int(scope, array, from / 7,
+                                                      RHEAP_ARRAY_CAST(int64_t, bits));
+}
+
+/* How many of so many bytes, from the byte `from` on, are in its element. */
+static inline uint32_t rheap_array_part(uint32_t from, size_t length) {
+    uint32_t rest = 7 - from % 7;
+    return length < rest ? RHEAP_ARRAY_CAST(uint32_t, length) : rest;
+}
+
 /* A byte, counted from 0: byte i is in element i / 7, the first one in its lowest eight bits.
    DONE, NO_ROOT, NOT_YOURS, NOT_OBJECT, NO_FIELD, NUMBERS_SPENT (of the second), NOT_OPEN. */
 static inline uint8_t rheap_array_get_byte(rheap_scope *scope, rheap_root_id array, uint32_t index,
                                            uint8_t *byte) {
-    rheap_value value;
-    uint8_t status = rheap_array_peek(scope, array, index / 7, &value);
-    *byte = RHEAP_ARRAY_CAST(
-        uint8_t, RHEAP_ARRAY_CAST(uint64_t, value.number) >> (index % 7 * 8) & 0xffu);
-    return status;
+    return rheap_array_take_part(scope, array, index, byte, 1);
 }
 static inline uint8_t rheap_array_set_byte(rheap_scope *scope, rheap_root_id array, uint32_t index,
                                            uint8_t byte) {
-    rheap_value value;
-    uint32_t shift = index % 7 * 8;
-    uint64_t bits;
-    uint8_t status = rheap_array_peek(scope, array, index / 7, &value);
-    bits = RHEAP_ARRAY_CAST(uint64_t, value.number) & UINT64_C(0xffffffffffffff);
-    bits = (bits & ~(UINT64_C(0xff) << shift)) | RHEAP_ARRAY_CAST(uint64_t, byte) << shift;
-    return status != RHEAP_DONE ? status
-                                : rheap_array_set_int(scope, array, index / 7,
-                                                      RHEAP_ARRAY_CAST(int64_t, bits));
+    return rheap_array_put_part(scope, array, index, &byte, 1);
 }
 
 /* Bytes in a row, from the byte `from` on, `length` of them; both count bytes. Each of them must be
@@ -562,9 +611,9 @@ static inline uint8_t rheap_array_store_bytes(rheap_scope *scope, rheap_root_id 
     uint8_t status = rheap_array_find(scope, at, array, from / 7,
                                       rheap_array_span(from, length), &field, &run);
     while (status == RHEAP_DONE && length > 0) {
-        uint32_t done = 1;
-        if (from % 7 != 0 || length < 7) {
-            status = rheap_array_set_byte(scope, array, from, *next);
+        uint32_t done = rheap_array_part(from, length);
+        if (done < 7) {
+            status = rheap_array_put_part(scope, array, from, next, done);
         } else {
             status = rheap_array_find(scope, at, array, from / 7, length / 7, &field, &run);
             done = 7 * run;
@@ -587,21 +636,19 @@ static inline uint8_t rheap_array_load_bytes(rheap_scope *scope, rheap_root_id a
     uint8_t status = rheap_array_find(scope, at, array, from / 7,
                                       rheap_array_span(from, length), &field, &run);
     while (status == RHEAP_DONE && length > 0) {
-        uint32_t done = 0;
-        if (from % 7 == 0 && length >= 7) {
+        uint32_t done = rheap_array_part(from, length);
+        if (done < 7) {
+            status = rheap_array_take_part(scope, array, from, next, done);
+        } else {
             status = rheap_array_find(scope, at, array, from / 7, length / 7, &field, &run);
             if (status == RHEAP_DONE) {
                 status = rheap_load_text(scope->heap, scope->owner, at, field, next, 7 * run,
                                          &done);
             }
-        }
-        if (status == RHEAP_DONE && done == 0 && from % 7 == 0 && length >= 7) {
-            memset(next, 0, 7); /* The element holds no number. */
-            done = 7;
-        }
-        if (status == RHEAP_DONE && done == 0) {
-            status = rheap_array_get_byte(scope, array, from, next);
-            done = 1;
+            if (status == RHEAP_DONE && done == 0) {
+                memset(next, 0, 7); /* The element holds no number. */
+                done = 7;
+            }
         }
         from += done;
         next += done;

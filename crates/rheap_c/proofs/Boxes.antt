@@ -11,7 +11,8 @@ use Rattle.std.specs.contracts.impls.GlobalAllocator.TheImpl.{ghosts, dict}
 use Rattle.std.specs.contracts.alloc.Global as heap
 use Rattle.std.proofs.alloc.Global.TheLaws as heap_laws
 use Rattle.rh_pace.proofs.paced_heap.PacedHeap.TheLaws as paced_laws
-use Rattle.rheap_c.specs.Held.{heap_type}
+use Rattle.rh_growing.proofs.growing_heap.GrowingHeap.TheLaws as growing_laws
+use Rattle.rheap_c.specs.Held.{heap_type, growing_type}
 
 abbrev given : RattleType → RattleType
 given R = arg (bare (layout R)) no R
@@ -33,6 +34,16 @@ X = given heap_type
 
 abbrev pub LX : Laws X
 LX = arg_laws (bare (layout heap_type)) no heap_type heap_type_laws refl
+
+-- the same of a heap that grows
+abbrev pub growing_type_laws : Laws growing_type
+growing_type_laws = growing_laws.the_row_laws heap.the_row ghosts heap_laws.the_row_laws
+
+abbrev pub growing_X : RattleType
+growing_X = given growing_type
+
+abbrev pub growing_LX : Laws growing_X
+growing_LX = arg_laws (bare (layout growing_type)) no growing_type growing_type_laws refl
 
 -- the allocator's drop does nothing
 abbrev pub frees : Dict

@@ -25,9 +25,9 @@ use Rattle.std.specs.contracts.impls.GlobalAllocator.TheImpl.{ghosts}
 use Rattle.std.proofs.GlobalToken.{dealloc_token-Testable}
 use Rattle.rheap_c.specs.Held.{boxed, heap_type, held}
 use Rattle.rheap_c.specs.Parted.{parted}
-use Rattle.rheap_c.specs.contracts.handle.Rheap as handle
+use Rattle.rheap_c.specs.contracts.fixed_part.FixedPart as handle
 use Rattle.rheap_c.specs.contracts.parted.Parted as apart
-use Rattle.rheap_c.proofs.handle.Rheap.TheLaws as handle_laws
+use Rattle.rheap_c.proofs.fixed_part.FixedPart.TheLaws as handle_laws
 use Rattle.rheap_c.proofs.parted.Parted.TheLaws as apart_laws
 
 abbrev pub Handle : RattleType
@@ -42,7 +42,7 @@ word p = vstruct (vcons (ptr_val p) vnil)
 
 module _ {M : Type 1} {𝓤 : Ura M} {𝓛 : Logic 𝓤} {K : Type 0} {Γ : List (Item 𝓤)} {G : Goal 𝓤 𝓛.H} where
   -- such a struct is its word, and what it owns beside
-  word_in : K → (name : Sym) (args : List Lifetime) (types : List RattleType) (p : Ptr) (F : Fml)
+  pub word_in : K → (name : Sym) (args : List Lifetime) (types : List RattleType) (p : Ptr) (F : Fml)
       → let S : RattleType = Struct (record { name = name; args = args; types = types; fields = RawPtr ∷ [] }) in
       Step K 𝓛 (‵ (fsep (S.own_val (p, tt) (word p ∷ [])) F) ∷ Γ) G (‵ F ∷ Γ) G
   word_in t name args types p F =

@@ -49,7 +49,7 @@ use Rattle.rheap_c.specs.Room.{AlwaysFindRoom, AlwaysFindSpace, FindRoomIfFit, R
 use Rattle.rheap_c.specs.Runs.{Answer, AreMade, Call, IsMade, after_call, answer_to, answers_to, command_of, doing, is_limit_status, with_numbers, with_read, with_text}
 use Rattle.rheap_c.specs.Runs.Call.{Does, Loads, Compares, InsistsOn, CollectsNow, IncrementsNow, Peeks, ReadsField, ReadsRoot, Counts, TellsNumbers, StoresInts, InsistsOnInts, LoadsInts, LoadsText}
 use Rattle.rheap_c.specs.Told.{status_of}
-use Rattle.rheap_c.specs.declared.opening.OpenFault.{OpenFault}
+use Rattle.rheap_c.specs.declared.open_fault.OpenFault.{OpenFault}
 use Rattle.rheap_c.proofs.Readings.{field_answer-load, peek_answer-load, root_answer-copy}
 use Rattle.rheap_c.proofs.Refused.{full_told}
 use Rattle.rheap_c.proofs.Rows.{is_limit_status-status_of, ready-either}

@@ -1,5 +1,6 @@
 pub mod Boxes
 pub mod Handles
+pub mod GrowingHandles
 pub mod Openings
 pub mod Readings
 pub mod Rows
@@ -12,4 +13,19 @@ pub mod Bounded
 pub mod Unless
 pub mod KeptTexts
 pub mod RootRows
+pub mod MadeWith
 pub mod Tickets
+mod SharedSlots
+mod ValueRows
+mod RowLaws
+pub mod Parts
+pub mod GrownRuns
+pub mod Quiet
+pub mod InTurn
+pub mod GrownStores
+pub mod GrownTried
+mod GrownRows
+mod GrownMadeWith
+pub mod Inside
+pub mod Growths
+mod CrossedNumbers

@@ -5,7 +5,7 @@ use Rattle.std.proofs.lemmas.Bool.{false≢true}
 use Rattle.rh_mutator.specs.declared.config.Config.{Config}
 use Rattle.rh_pace.specs.declared.pace.Pace.{Pace}
 use Rattle.rh_pace.specs.Paced.{PacedState}
-use Rattle.rheap_c.specs.declared.opening.OpenFault.TheVariants.{NoPace}
+use Rattle.rheap_c.specs.declared.open_fault.OpenFault.TheVariants.{NoPace}
 use Rattle.rheap_c.specs.Opened.{IsOpened, Opens}
 
 -- with status 14, where no heap is open and there can be no pace

@@ -146,12 +146,12 @@ module _ (old : PacedState) (owner : ℕ) (object : RootId) (from : ℕ) (number
 -- As a plain heap.
 module _ (row : List (ℕ × Command)) (old new : PacedState) (p : PlainHeap) (a : Answer)
     (shape : a ≡ with_status a.status) (stands : StandsFor old.heap.mutators p) where
-  abbrev RowPlainly : Type 0
+  abbrev pub RowPlainly : Type 0
   RowPlainly = StoresAsPlain (Some row) p a
       × StandsFor new.heap.mutators (plain_after_row (Some row) (is_limit_status a.status) p)
 
   -- what no limit refuses
-  unlimited-row : (asked : Option Refusal) → asked ≡ plain_refusal p row
+  pub unlimited-row : (asked : Option Refusal) → asked ≡ plain_refusal p row
       → is_limit_status a.status ≡ false → a.status ≡ row_status asked
       → StandsFor new.heap.mutators (plain_unless_refused asked p row) → RowPlainly
   unlimited-row asked met unlimited is after = (

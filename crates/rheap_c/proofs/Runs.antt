@@ -33,11 +33,11 @@ use Rattle.rh_pace.proofs.StoredInTime.{asked-no_limit}
 
 -- One run.
 
-both_values : {m n : ℕ} {v w : RheapValue} → m ≡ n → v ≡ w → with_value m v ≡ with_value n w
+pub both_values : {m n : ℕ} {v w : RheapValue} → m ≡ n → v ≡ w → with_value m v ≡ with_value n w
 both_values {m} {n} {v} {w} e f =
     ap (λ status. with_value status v) e ∙ ap (λ value. with_value n value) f
 
-both_same : {m n x y : ℕ} → m ≡ n → x ≡ y → with_same m x ≡ with_same n y
+pub both_same : {m n x y : ℕ} → m ≡ n → x ≡ y → with_same m x ≡ with_same n y
 both_same {m} {n} {x} {y} e f = ap (λ status. with_same status x) e ∙ ap (λ same. with_same n same) f
 
 both_count : {m n x y : ℕ} → m ≡ n → x ≡ y → with_count m x ≡ with_count n y
@@ -214,7 +214,7 @@ told_as_plain owner command tell p a told st e (inr limited) =
     inr (ap is_limit_status st ∙ is_limit_status-status_of told ∙ limited.0, limited.1)
 
 -- a command's call tells as the plain heap does, and leaves a heap that stands for it
-transparent_call : (old new : PacedState) (owner : ℕ) (command : Command)
+pub transparent_call : (old new : PacedState) (owner : ℕ) (command : Command)
     (tell : Result Reply Refusal → Answer) (p : PlainHeap) (a : Answer) (told : Result Reply Refusal)
     → a.status ≡ status_of told → a ≡ tell told → IsTransparent old new owner command told
     → StandsFor old.heap.mutators p

@@ -48,7 +48,7 @@ module _ {X : Type 0} (read : Type 0) (before after : List X) where
       subst (λ (o : Option Refusal). AreReadUnless o read before after 0 status) (sym is)
       (same, refl, rank)
 
-rank-full : (why : Refusal) → rank_of why ≡ 9 → why ≡ LogFull
+pub rank-full : (why : Refusal) → rank_of why ≡ 9 → why ≡ LogFull
 rank-full NoRoot is = absurd (omega (arith, is))
 rank-full NotYours is = absurd (omega (arith, is))
 rank-full NotObject is = absurd (omega (arith, is))

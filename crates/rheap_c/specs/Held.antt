@@ -1,4 +1,4 @@
--- What the handle of a heap owns.
+-- What the two parts of a handle own: of a heap of fixed sizes, and of one that grows.
 use Rattle.std.specs.Prelude.{Option, Some, None}
 use base.Fml.{Fml, feq, fex}
 use denote.RattleType.{RattleType}
@@ -8,6 +8,7 @@ use Rattle.std.specs.contracts.alloc.Global.{the_row as global_row}
 use Rattle.std.specs.contracts.impls.GlobalAllocator.TheImpl.{ghosts}
 use Rattle.std_alloc.specs.Box.Ownership.{box_owns}
 use Rattle.rh_pace.specs.contracts.paced_heap.PacedHeap.{the_row as paced_row}
+use Rattle.rh_growing.specs.contracts.growing_heap.GrowingHeap.{the_row as growing_row}
 
 -- the type of a heap that collects by itself, in memory of the allocator
 abbrev pub heap_type : RattleType
@@ -22,3 +23,15 @@ boxed p s alloc = box_owns (ghosts.dealloc_token alloc) heap_type p s
 abbrev pub held : Ptr → Option heap_type.Denot → Fml
 held p None = feq Ptr p null_ptr
 held p (Some s) = fex Global (boxed p s)
+
+-- the type of a heap that grows, in the same memory
+abbrev pub growing_type : RattleType
+growing_type = growing_row global_row ghosts
+
+-- and the same of it
+abbrev pub growing_boxed : Ptr → growing_type.Denot → Global → Fml
+growing_boxed p s alloc = box_owns (ghosts.dealloc_token alloc) growing_type p s
+
+abbrev pub growing_held : Ptr → Option growing_type.Denot → Fml
+growing_held p None = feq Ptr p null_ptr
+growing_held p (Some s) = fex Global (growing_boxed p s)

@@ -4,6 +4,8 @@ pub mod Parted
 pub mod Told
 pub mod Called
 pub mod Insisted
+pub mod Init
+pub mod Making
 pub mod Opened
 pub mod Collected
 pub mod Numbers
@@ -14,3 +16,10 @@ pub mod Several
 pub mod Rows
 pub mod Watching
 pub mod RootRows
+pub mod ValueRows
+pub mod Shared
+pub mod Handle
+pub mod Grown
+pub mod GrownOpened
+pub mod GrownRuns
+pub mod GrownMaking

@@ -9,8 +9,8 @@ use Rattle.rh_pace.specs.declared.pace.Pace.{Pace}
 use Rattle.rh_pace.specs.InTime.{IsInTime}
 use Rattle.rh_pace.specs.Pace.{AsksForLog, IsLowest, IsLowestFilling, KeepsUp, words_left}
 use Rattle.rh_pace.specs.Paced.{PacedState, paced_heap}
-use Rattle.rheap_c.specs.declared.opening.OpenFault.{OpenFault}
-use Rattle.rheap_c.specs.declared.opening.OpenFault.TheVariants.{NoPace, BadSizes, NoMemory}
+use Rattle.rheap_c.specs.declared.open_fault.OpenFault.{OpenFault}
+use Rattle.rheap_c.specs.declared.open_fault.OpenFault.TheVariants.{NoPace, BadSizes, NoMemory}
 
 -- what a heap at this pace is made with
 abbrev pub config_at : Pace → ℕ → ℕ → ℕ → ℕ → Config

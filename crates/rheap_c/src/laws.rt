@@ -1,11 +1,21 @@
 //! Laws of the calls that a program makes on one handle. Each function does nothing: its contract
 //! is the law.
 
+pub mod command_rows;
+pub mod growing;
 pub mod numbers;
 pub mod readings;
 pub mod room;
 pub mod runs;
 
+pub use command_rows::{
+    a_row_is_its_commands_up_to_a_refusal, a_value_to_be_written_means_what_its_kind_says,
+    rows_are_these_commands, rows_tell_the_values_of_their_replies, tickets_have_these_statuses,
+};
+pub use growing::{
+    a_heap_that_grows_has_room_unless_it_is_short, calls_on_a_handle_are_calls_on_its_heap,
+    calls_on_no_heap_do_nothing, no_program_in_c_sees_that_the_heap_grows,
+};
 pub use numbers::{calls_that_tell_numbers_change_nothing, numbers_cross_under_their_names};
 pub use readings::{
     a_row_is_read_as_its_fields_are, a_text_is_read_as_it_was_stored,

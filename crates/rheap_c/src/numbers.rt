@@ -1,13 +1,10 @@
-//! The numbers of a heap.
+//! The numbers of a heap as they cross to C.
 
 ghost use Rattle.std.specs.Prelude.{◌≡◌};
-ghost use Rattle.rheap_c.specs.Numbers.{IsRead, bit_of, did_in, did_of, no_did, no_pace, no_room, no_stats, pace_in, pace_of, room_in, stats_of, stats_of_stat};
+ghost use Rattle.rheap_c.specs.Numbers.{bit_of, did_of, no_stats, pace_of, stats_of_stat};
 
-use crate::handle::Rheap;
-use crate::status::{DONE, NOT_OPEN};
 use rh_core::Stat;
 use rh_pace::{Did, Pace};
-use std::alloc::Global;
 
 /// The numbers of a heap as it stands.
 #[repr(C)]
@@ -81,93 +78,8 @@ pub struct RheapWords {
     pub free: u64,
 }
 
-/// The numbers of the heap, as `PacedHeap::stat`; all 0 where none is open.
-#[unsafe(no_mangle)]
-pub extern "C" fn rheap_stat(heap: &mut Rheap, alloc: Global, stats: &mut RheapStats) -> u8
-    ensures { IsRead stats_of no_stats heap.old.state heap.new.state result stats.new }
-{
-    match heap.take(alloc) {
-        None => {
-            *stats = stats_of_none();
-            NOT_OPEN
-        }
-        Some(inner) => {
-            *stats = stats_crossing(&inner.stat());
-            heap.give(inner);
-            DONE
-        }
-    }
-}
-
-/// What the last increment or collection did, as `PacedHeap::last_did`; all 0 where none is open.
-#[unsafe(no_mangle)]
-pub extern "C" fn rheap_last_did(heap: &mut Rheap, alloc: Global, did: &mut RheapDid) -> u8
-    ensures { IsRead did_in no_did heap.old.state heap.new.state result did.new }
-{
-    match heap.take(alloc) {
-        None => {
-            *did = did_crossing(&Did::NOTHING);
-            NOT_OPEN
-        }
-        Some(inner) => {
-            *did = did_crossing(&inner.last_did());
-            heap.give(inner);
-            DONE
-        }
-    }
-}
-
-/// The pace that the heap was made with, as `PacedHeap::pace`; all 0 where none is open.
-#[unsafe(no_mangle)]
-pub extern "C" fn rheap_pace(heap: &mut Rheap, alloc: Global, pacing: &mut RheapPacing) -> u8
-    ensures { IsRead pace_in no_pace heap.old.state heap.new.state result pacing.new }
-{
-    match heap.take(alloc) {
-        None => {
-            *pacing = RheapPacing {
-                mark: 0,
-                store_units: 0,
-                log_limit: 0,
-            };
-            NOT_OPEN
-        }
-        Some(inner) => {
-            *pacing = pace_crossing(inner.pace());
-            heap.give(inner);
-            DONE
-        }
-    }
-}
-
-/// The room for an object of so many fields, as the heap stands; all 0 where none is open. After a
-/// call that found no room for such an object these are the numbers of its refusal.
-#[unsafe(no_mangle)]
-pub extern "C" fn rheap_room(
-    heap: &mut Rheap,
-    alloc: Global,
-    fields: u32,
-    room: &mut RheapWords,
-) -> u8
-    ensures { IsRead (room_in fields) no_room heap.old.state heap.new.state result room.new }
-{
-    match heap.take(alloc) {
-        None => {
-            *room = RheapWords { need: 0, free: 0 };
-            NOT_OPEN
-        }
-        Some(inner) => {
-            *room = RheapWords {
-                need: u64::from(fields) + 2,
-                free: u64::from(inner.heap().free_words()),
-            };
-            heap.give(inner);
-            DONE
-        }
-    }
-}
-
 /// The numbers of a heap that isn't there.
-fn stats_of_none() -> RheapStats
+pub(crate) fn stats_of_none() -> RheapStats
     ensures { result ≡ no_stats }
 {
     RheapStats {
@@ -188,7 +100,7 @@ fn stats_of_none() -> RheapStats
 }
 
 /// The numbers of a heap as they cross.
-fn stats_crossing(stat: &Stat) -> RheapStats
+pub(crate) fn stats_crossing(stat: &Stat) -> RheapStats
     ensures { result ≡ stats_of_stat stat.now }
 {
     RheapStats {
@@ -209,7 +121,7 @@ fn stats_crossing(stat: &Stat) -> RheapStats
 }
 
 /// What was done, as it crosses.
-fn did_crossing(did: &Did) -> RheapDid
+pub(crate) fn did_crossing(did: &Did) -> RheapDid
     ensures { result ≡ did_of did.now }
 {
     let unflipped = RheapDid {
@@ -232,7 +144,7 @@ fn did_crossing(did: &Did) -> RheapDid
 }
 
 /// A pace as it crosses.
-fn pace_crossing(pace: Pace) -> RheapPacing
+pub(crate) fn pace_crossing(pace: Pace) -> RheapPacing
     ensures { result ≡ pace_of pace }
 {
     RheapPacing {
@@ -243,7 +155,7 @@ fn pace_crossing(pace: Pace) -> RheapPacing
 }
 
 /// 1 for yes, 0 for no.
-fn bit(yes: bool) -> u8
+pub(crate) fn bit(yes: bool) -> u8
     ensures { result ≡ bit_of yes }
 {
     if yes { 1 } else { 0 }

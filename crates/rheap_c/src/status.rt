@@ -36,6 +36,15 @@ pub const NOT_WATCHED: u8 = 18;
 /// A heap may not have so many tickets.
 pub const TICKETS_RANGE: u8 = 19;
 
+/// A value is of a kind that there isn't.
+pub const BAD_KIND: u8 = 20;
+
+/// The factor of a growth is out of its range, or a limit of its words is.
+pub const BAD_GROWTH: u8 = 21;
+
+/// The number of the refusal `FieldsRange`.
+pub(crate) const FIELDS_RANGE: u8 = 7;
+
 /// The status of what a heap answered: 0, or the number of the refusal.
 #[inline(always)]
 pub fn answer_status(told: &Result<Reply, Refusal>) -> u8

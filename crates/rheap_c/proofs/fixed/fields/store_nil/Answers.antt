@@ -1,0 +1,17 @@
+use Rattle.std.proofs.Common.{refl}
+use Rattle.rh_layout.specs.declared.command.Command.TheVariants.{Store}
+use Rattle.rh_layout.specs.declared.command.Operand.TheVariants.{Nil}
+use Rattle.rheap_c.proofs.Lent.{again-done, closed-done, lent-done, open-held}
+use Rattle.rheap_c.proofs.fixed.fields.store_nil.Goals as goal
+
+pub returns-then-is_empty : goal.returns-then-is_empty
+returns-then-is_empty c = closed-done _ _ _ c.is_empty.ensures.empty c.if-is_empty.true c.is_empty.ensures.kept _ _
+
+pub here-requires : goal.here-requires
+here-requires c = open-held _ _ _ c.is_empty.ensures.empty c.if-is_empty.false c.is_empty.ensures.kept
+
+pub returns-in-Some : goal.returns-in-Some
+returns-in-Some c = lent-done _ _ _ c.is_empty.ensures.kept c.here.ensures.value _ _ _ _ c.in-Some.ensures.done _ refl _ (λ k. Store (c.id.ensures k) c.args.field Nil)
+
+pub returns-in-None : goal.returns-in-None
+returns-in-None c = again-done _ _ _ c.is_empty.ensures.kept c.here.ensures.value _ c.in-None.ensures.nothing _ _ _ _ c.store_nil_at_length.ensures

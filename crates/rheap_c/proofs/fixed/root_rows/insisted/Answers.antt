@@ -1,0 +1,41 @@
+use Rattle.std.proofs.Common.{ℕ, ◌+◌, ◌-◌, ◌<◌, [], ◌∷◌, ◌++◌, Some, refl, ap, ◌∙◌, arith, length-append}
+use Rattle.rh_layout.specs.declared.command.Command.TheVariants.{Store}
+use Rattle.rh_layout.specs.declared.command.Operand.TheVariants as operands
+use Rattle.rh_layout.specs.declared.command.RootId.{RootId}
+use Rattle.rh_pace.specs.Collecting.{insist_step}
+use Rattle.rheap_c.specs.RootRows.{after_replies, done_until, next_index, next_root, row_stores}
+use Rattle.rheap_c.proofs.RootRows.{IsRowEnd-of, next-done, row-first, row-left, then-refused}
+use Rattle.rheap_c.proofs.fixed.root_rows.insisted.Goals as goal
+
+pub loop-at-init : goal.loop-at-init
+loop-at-init c = record {
+  told = [];
+  many = refl;
+  few = omega arith;
+  leads = row-first insist_step c.args.heap.now (row_stores c.args.owner c.args.object c.args.from c.args.first) (c.args.length);
+}
+
+pub returns-in-Err : goal.returns-in-Err
+returns-in-Err c =
+    let inv = c.loop-at.invariant in
+    let within : c.loop-at.at < c.args.length = omega (arith, c.loop-at-test.true) in
+    IsRowEnd-of _ _ inv.told (Some c.in-Err.why) _ _
+    (then-refused insist_step inv.told c.loop-at.heap c.insist_store.new.heap _ c.args.owner (Store c.args.object c.loop-at.field (operands.Root c.loop-at.src)) (row_stores c.args.owner c.args.object (next_index c.loop-at.field) (next_root c.loop-at.src) (c.args.length - (c.loop-at.at + 1))) c.in-Err.why c.insist_store.result c.in-Err.is c.insist_store.ensures.state c.insist_store.ensures.answer
+    (row-left insist_step inv.told c.loop-at.heap _ (row_stores c.args.owner c.args.object c.loop-at.field c.loop-at.src) (c.args.length) c.loop-at.at within inv.leads))
+    inv.many c.number.ensures
+
+pub loop-at-preserved : goal.loop-at-preserved
+loop-at-preserved c =
+    let inv = c.loop-at.invariant in
+    let within : c.loop-at.at < c.args.length = omega (arith, c.loop-at-test.true) in
+    let leads = next-done insist_step inv.told c.loop-at.heap c.insist_store.new.heap _ c.args.owner (Store c.args.object c.loop-at.field (operands.Root c.loop-at.src)) (row_stores c.args.owner c.args.object (next_index c.loop-at.field) (next_root c.loop-at.src) (c.args.length - (c.loop-at.at + 1))) c.in-Ok.field-0 c.insist_store.result c.in-Ok.is c.insist_store.ensures.state c.insist_store.ensures.answer
+    (row-left insist_step inv.told c.loop-at.heap _ (row_stores c.args.owner c.args.object c.loop-at.field c.loop-at.src) (c.args.length) c.loop-at.at within inv.leads) in
+    record {
+      told = inv.told ++ c.in-Ok.field-0 ∷ [];
+      many = omega (arith, length-append inv.told (c.in-Ok.field-0 ∷ []), inv.many);
+      few = omega (arith, within);
+      leads =
+          ap (λ (r : RootId). after_replies (inv.told ++ c.in-Ok.field-0 ∷ []) (done_until insist_step c.insist_store.new.heap (row_stores c.args.owner c.args.object c.next_index-field.result r (c.args.length - (c.loop-at.at + 1))))) c.next_root-src.ensures ∙
+          ap (λ (f : ℕ). after_replies (inv.told ++ c.in-Ok.field-0 ∷ []) (done_until insist_step c.insist_store.new.heap (row_stores c.args.owner c.args.object f (next_root c.loop-at.src) (c.args.length - (c.loop-at.at + 1))))) c.next_index-field.ensures ∙
+          leads;
+    }

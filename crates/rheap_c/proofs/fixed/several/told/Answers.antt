@@ -1,0 +1,14 @@
+use Rattle.rheap_c.proofs.Unless.{AreReadUnless-err, AreReadUnless-ok, none-refused}
+use Rattle.rheap_c.proofs.fixed.several.told.Goals as goal
+
+pub returns-in-Ok : goal.returns-in-Ok
+returns-in-Ok c =
+    AreReadUnless-ok _ _ _ _ _ (none-refused _ _ _ c.in-Ok.is c.load_all.ensures.refused) (record {
+      loaded = c.in-Ok.ensures.loaded;
+      plain = λ p stands. c.in-Ok.ensures.plain p stands;
+    })
+
+pub returns-in-Err : goal.returns-in-Err
+returns-in-Err c =
+    AreReadUnless-err _ _ _ _ _ _ ((c.load_all.ensures.refused c.in-Err.refusal).0 c.in-Err.is)
+    c.in-Err.ensures.unchanged c.number.ensures

@@ -1,0 +1,18 @@
+use Rattle.std.proofs.Common.{refl}
+use Rattle.rh_layout.specs.declared.command.Command.TheVariants.{Store}
+use Rattle.rh_layout.specs.declared.command.Operand.TheVariants.{Nil}
+use Rattle.rheap_c.proofs.Lent.{closed-done, lent-done, open-held}
+use Rattle.rheap_c.proofs.SharedSlots.{again-done-as}
+use Rattle.rheap_c.proofs.fixed.shared.store_nil.Goals as goal
+
+pub returns-then-is_empty : goal.returns-then-is_empty
+returns-then-is_empty c = closed-done _ _ _ c.is_empty.ensures.empty c.if-is_empty.true c.is_empty.ensures.kept _ _
+
+pub here-requires : goal.here-requires
+here-requires c = open-held _ _ _ c.is_empty.ensures.empty c.if-is_empty.false c.is_empty.ensures.kept
+
+pub returns-in-Some : goal.returns-in-Some
+returns-in-Some c = lent-done _ _ _ c.is_empty.ensures.kept c.here.ensures.value _ _ _ _ c.in-Some.ensures.done _ refl _ (λ k. Store (c.shared.ensures k) c.args.field Nil)
+
+pub returns-in-None : goal.returns-in-None
+returns-in-None c = again-done-as _ _ _ c.is_empty.ensures.kept c.here.ensures.value _ c.in-None.ensures.nothing _ 0 _ _ (λ k. Store (c.crossing.ensures k) c.args.field Nil) _ c.store_nil_at_length.ensures

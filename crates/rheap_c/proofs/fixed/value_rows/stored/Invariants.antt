@@ -1,0 +1,15 @@
+use Rattle.std.proofs.Common.{◌≡◌, ◌≤◌, List, length, drop}
+use Rattle.rh_layout.specs.declared.command.Reply.{Reply}
+use Rattle.rh_pace.specs.Paced.{paced_step}
+use Rattle.rheap_c.specs.RootRows.{after_replies, done_until}
+use Rattle.rheap_c.specs.ValueRows.{value_stores}
+use Rattle.rheap_c.proofs.fixed.value_rows.stored.Given as goal
+
+-- what was replied so far, and what comes of the stores that are left, is what comes of all
+abbrev pub invariant-loop-at : goal.invariant-loop-at
+invariant-loop-at l = record {
+  told : List Reply;
+  many : length told ≡ l.at;
+  few : l.at ≤ length l.fn.values;
+  leads : after_replies told (done_until paced_step l.heap (value_stores l.owner l.object l.field (drop l.at l.values))) ≡ done_until paced_step l.fn.heap (value_stores l.fn.owner l.fn.object l.fn.from l.fn.values);
+}

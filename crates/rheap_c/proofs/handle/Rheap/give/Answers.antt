@@ -1,5 +1,0 @@
-use Rattle.std.proofs.Common.{rules}
-use Rattle.rheap_c.proofs.handle.Rheap.give.Goals as goal
-
-pub returns : goal.returns
-returns c = search rules
