@@ -4,7 +4,10 @@
    line by line, are one call of rheap_store_ints; where that is refused, they are calls of their own.
    So loads into one slot after the other, stores of one after the other, and drops are one call of
    rheap_load_roots, rheap_store_roots or rheap_drop_roots; where one of them is refused, those behind
-   it are calls of their own. Some of the new objects get tickets. No ticket may be told while the root
+   it are calls of their own. An object that is made in the first slot, stores to its first fields, a copy
+   of it and the drop of that slot are one call of rheap_make; where it is refused, they are calls of their
+   own, and so they are where it doesn't insist and a cycle is on or would begin, since the collector then
+   works at other times. Some of the new objects get tickets. No ticket may be told while the root
    holds its object by which it was taken, and each is told once: at the end all roots are dropped.
 
    Usage: differ pace WORDS LIVE BIGGEST RATIO OWNERS SLOTS
@@ -14,6 +17,9 @@
           differ insist WORDS LIVE BIGGEST RATIO OWNERS SLOTS PLAYED
             plays it by the calls that insist, and where LIVE is 0 collects between them. The file
             PLAYED gets the commands but for those that found no room, which aren't answered
+          differ grow WORDS MOST BIGGEST RATIO OWNERS SLOTS
+            plays standard input by the calls that don't insist, on a heap that grows from WORDS to MOST
+            words. It grows after a row of stores, and not within one, so each store is a call of its own
    LIVE 0 opens a heap of which no bound is known of what lives. */
 #include "rheap.h"
 #include <inttypes.h>
@@ -26,6 +32,8 @@
 
 static rheap heap = RHEAP_INIT;
 static int insisting = 0;
+/* Whether the heap grows. */
+static int growing = 0;
 /* Whether it collects between commands. */
 static int collecting = 0;
 static int wrong = 0;
@@ -40,6 +48,14 @@ static uint64_t limited_rows = 0;
 /* The calls on roots in a row: all, and the commands that were done by them. */
 static uint64_t root_rows = 0;
 static uint64_t root_commands = 0;
+
+/* The calls of rheap_make and its kin: all, those that were done, and those of them in a cycle. */
+static uint64_t makes = 0;
+static uint64_t done_makes = 0;
+static uint64_t makes_in_cycles = 0;
+
+/* The first refusal that was told since this was DONE. */
+static uint8_t first_refusal = RHEAP_DONE;
 
 /* So many tickets there are. */
 #define TICKETS 40
@@ -182,6 +198,9 @@ static const char *refusal(uint8_t status) {
 /* Prints a refusal; `fields` are those that were asked for. */
 static void tell_refusal(uint8_t status, uint32_t fields) {
     refused++;
+    if (first_refusal == RHEAP_DONE) {
+        first_refusal = status;
+    }
     if (status == RHEAP_SPACE_FULL) {
         rheap_words words;
         must(rheap_room(&heap, fields, &words));
@@ -432,7 +451,7 @@ static int goes_on(row *stores, const char *line) {
     char object[24];
     char operand[24];
     uint32_t field;
-    if (stores->length == ROW ||
+    if (growing || stores->length == ROW ||
         sscanf(line, "%11s store %23s %" SCNu32 " %23s", owner, object, &field, operand) != 4 ||
         strcmp(operand, "nil") == 0 || strchr(operand, '.') != NULL) {
         return 0;
@@ -648,15 +667,174 @@ static int play(const char *line) {
     return 1;
 }
 
+/* An object that is made in a spare slot, stores to its fields from the first on, a copy of it and the
+   drop of that slot. */
+#define SPARE 0
+typedef struct {
+    char line[ROW + 3][128];
+    rheap_init values[ROW];
+    unsigned owner;
+    int raw;
+    uint32_t fields;
+    uint32_t count;
+    rheap_root_id dst;
+    uint32_t length;
+    int ended;
+} making;
+
+static int is_spare(const char *root, unsigned owner) {
+    return is_same_root(root_of(root), rheap_slot(owner, SPARE));
+}
+
+/* Whether the line is one more command of the object, which it is put into then. */
+static int goes_on_making(making *made, const char *line) {
+    char word[8];
+    char part[3][24];
+    unsigned owner;
+    memset(part, 0, sizeof part);
+    if (made->ended ||
+        sscanf(line, "%u %7s %23s %23s %23s", &owner, word, part[0], part[1], part[2]) < 3 ||
+        (made->length > 0 && owner != made->owner)) {
+        return 0;
+    }
+    if (made->length == 0) {
+        made->raw = strcmp(word, "raw") == 0;
+        if ((!made->raw && strcmp(word, "alloc") != 0) || !is_spare(part[0], owner)) {
+            return 0;
+        }
+        made->owner = owner;
+        made->fields = number_of(part[1]);
+    } else if (strcmp(word, "store") == 0 && is_spare(part[0], owner) &&
+               number_of(part[1]) == made->count && made->count < ROW) {
+        made->values[made->count++] =
+            strcmp(part[2], "nil") == 0        ? rheap_of_nil()
+            : strchr(part[2], '.') != NULL     ? rheap_of_root(root_of(part[2]))
+                                               : rheap_of_int((int64_t)strtoll(part[2], NULL, 10));
+    } else if (strcmp(word, "copy") == 0 && is_spare(part[1], owner)) {
+        made->dst = root_of(part[0]);
+    } else if (strcmp(word, "drop") == 0 && is_spare(part[0], owner)) {
+        made->ended = 1;
+    } else {
+        return 0;
+    }
+    strcpy(made->line[made->length++], line);
+    return 1;
+}
+
+static uint8_t make(const making *made) {
+    if (insisting) {
+        return made->raw ? rheap_insist_make_raw(&heap, made->owner, made->dst, made->fields,
+                                                 made->values, made->count)
+                         : rheap_insist_make(&heap, made->owner, made->dst, made->fields,
+                                             made->values, made->count);
+    }
+    return made->raw ? rheap_make_raw(&heap, made->owner, made->dst, made->fields, made->values,
+                                      made->count)
+                     : rheap_make(&heap, made->owner, made->dst, made->fields, made->values,
+                                  made->count);
+}
+
+/* Prints what the commands are answered that the call stands for. */
+static void tell_made(const making *made, const rheap_value *taken) {
+    rheap_value object = held(made->dst);
+    uint32_t at;
+    agree(object.kind == (made->raw ? RHEAP_RAW : RHEAP_OBJECT) && object.fields == made->fields,
+          "the object that was made");
+    tell(RHEAP_DONE, object);
+    for (at = 0; at < made->count; at++) {
+        agree(are_equal(taken[at], stored(made->owner, made->dst, at)), "a value of rheap_make");
+        tell_done(RHEAP_DONE);
+    }
+    for (; at < made->fields; at++) {
+        agree(stored(made->owner, made->dst, at).kind == RHEAP_NIL, "a field without a value");
+    }
+    tell(RHEAP_DONE, object);
+    tell_done(RHEAP_DONE);
+    commands += made->length;
+    written(made->dst);
+    watch(made->owner, made->dst);
+}
+
+/* Plays the object by one call. Where it is refused, it changed nothing, and its commands are played one
+   by one: its refusal is that of the root that it was to be in, or the first of theirs. */
+static void play_made(const making *made, FILE *played) {
+    rheap_value taken[ROW];
+    rheap_pacing pacing;
+    rheap_stats before;
+    rheap_stats after;
+    rheap_words room;
+    uint8_t status = RHEAP_DONE;
+    uint32_t at;
+    int is_tried;
+    int is_left_out = 0;
+    must(rheap_pace(&heap, &pacing));
+    must(rheap_stat(&heap, &before));
+    must(rheap_room(&heap, made->fields, &room));
+    is_tried = made->ended &&
+               (insisting || (before.cycle == 0 && room.free >= room.need + pacing.mark));
+    for (at = 0; at < made->count && is_tried; at++) {
+        rheap_init value = made->values[at];
+        memset(&taken[at], 0, sizeof taken[at]);
+        if (value.kind == RHEAP_NUMBER) {
+            taken[at].kind = RHEAP_NUMBER;
+            taken[at].number = value.number;
+        } else if (value.kind != RHEAP_NIL) {
+            (void)rheap_root(&heap, value.root, &taken[at]);
+        }
+    }
+    if (is_tried) {
+        status = make(made);
+        makes++;
+        done_makes += status == RHEAP_DONE;
+        makes_in_cycles += status == RHEAP_DONE && before.cycle == 1;
+    }
+    if (is_tried && insisting && status == RHEAP_SPACE_FULL) {
+        must(rheap_room(&heap, made->fields, &room));
+        is_full(room);
+        return;
+    }
+    if (is_tried && status == RHEAP_DONE) {
+        tell_made(made, taken);
+    }
+    if (is_tried && status != RHEAP_DONE) {
+        must(rheap_stat(&heap, &after));
+        agree(memcmp(&before, &after, offsetof(rheap_stats, cycle)) == 0 &&
+                  before.cycle == after.cycle && status <= RHEAP_FIELDS_RANGE,
+              "a refused rheap_make");
+    }
+    first_refusal = rheap_copy(&heap, made->owner, made->dst, made->dst);
+    for (at = 0; at < made->length; at++) {
+        int is_answered = (is_tried && status == RHEAP_DONE) || play(made->line[at]);
+        if (is_answered && played != NULL) {
+            fputs(made->line[at], played);
+        }
+        is_left_out = is_left_out || !is_answered;
+    }
+    agree(!is_tried || first_refusal == status || is_left_out,
+          "the refusal of rheap_make");
+    between_commands();
+}
+
 /* Plays standard input. `played` gets what is answered, where it isn't NULL. */
 static void play_all(FILE *played) {
     static row stores;
     static root_row roots;
+    static making made;
     char line[128];
     rheap_stats stats;
     int is_there = fgets(line, sizeof line, stdin) != NULL;
     while (is_there) {
         uint32_t at;
+        made.length = made.count = 0;
+        made.ended = 0;
+        while (is_there && goes_on_making(&made, line)) {
+            is_there = fgets(line, sizeof line, stdin) != NULL;
+        }
+        if (made.length > 0) {
+            play_made(&made, played);
+            take_gone();
+            continue;
+        }
         stores.length = 0;
         while (is_there && goes_on(&stores, line)) {
             is_there = fgets(line, sizeof line, stdin) != NULL;
@@ -697,22 +875,35 @@ static void play_all(FILE *played) {
     }
     fprintf(stderr, "roots %" PRIu64 " done %" PRIu64 " tickets %" PRIu64 " told %" PRIu64 "\n",
             root_rows, root_commands, taken_tickets, told_tickets);
+    fprintf(stderr, "makes %" PRIu64 " done %" PRIu64 " in cycles %" PRIu64 "\n", makes, done_makes,
+            makes_in_cycles);
     fprintf(stderr, "rows %" PRIu64 " done %" PRIu64 " in cycles %" PRIu64 " limited %" PRIu64 "\n",
             rows, done_rows, rows_in_cycles, limited_rows);
+}
+
+/* Opens a heap of fixed sizes. */
+static void open_fixed(const uint32_t *size) {
+    must(size[1] == 0 ? rheap_open_sized(&heap, size[0], size[2], size[3], size[4], size[5])
+                      : rheap_open(&heap, size[0], size[1], size[2], size[3], size[4], size[5]));
 }
 
 int main(int argc, char **argv) {
     uint32_t size[6];
     int n;
     if (argc < 8) {
-        fprintf(stderr, "differ: it takes pace, run or insist, six numbers, and of insist a file\n");
+        fprintf(stderr, "differ: it takes pace, run, grow or insist, six numbers, and of insist a file\n");
         return 2;
     }
     for (n = 0; n < 6; n++) {
         size[n] = number_of(argv[n + 2]);
     }
-    must(size[1] == 0 ? rheap_open_sized(&heap, size[0], size[2], size[3], size[4], size[5])
-                      : rheap_open(&heap, size[0], size[1], size[2], size[3], size[4], size[5]));
+    growing = strcmp(argv[1], "grow") == 0;
+    if (growing) {
+        const rheap_growth growth = {size[0], size[1], 200, size[2], size[3], size[4], size[5]};
+        must(rheap_open_growth(&heap, &growth));
+    } else {
+        open_fixed(size);
+    }
     must(rheap_watch_room(&heap, TICKETS));
     insisting = strcmp(argv[1], "insist") == 0;
     collecting = insisting && size[1] == 0;

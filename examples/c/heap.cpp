@@ -172,6 +172,52 @@ void refusals() {
     IS(std::strcmp(make_error_code(rh::status::log_full).category().name(), "rheap") == 0);
 }
 
+// Objects with their values.
+void objects_with_values() {
+    rh::heap heap(small);
+    rh::slots slots(heap, 1, 0, 4);
+    rh::scoped_root list(slots), other(slots);
+    for (int n = 1; n <= 3; n++) heap.make(list, {n, list});
+    IS(heap.peek(list, 0) == rh::value(std::int64_t{3}));
+    IS(heap.load_path(other, list, {1, 1, 0}) == rh::value(std::int64_t{1}));
+    IS(heap.get(other) == rh::value(std::int64_t{1}));
+    heap.insist_make(list, 4, {rh::nil, 7u, other});
+    IS(heap.fields(list) == 4 && heap.peek(list, 0) == rh::value(rh::nil));
+    IS(heap.peek(list, 1) == rh::value(std::int64_t{7}));
+    IS(heap.peek(list, 2) == rh::value(std::int64_t{1}));
+    IS(heap.peek(list, 3) == rh::value(rh::nil));
+    heap.make_raw(list, {1, other, true});
+    IS(heap.get(list) == rh::value(rh::raw_object{3}));
+    heap.insist_make_raw(list, 2, {});
+    IS(heap.get(list) == rh::value(rh::raw_object{2}));
+    std::vector<rh::init> values(70, rh::nil);
+    values[69] = other;
+    heap.make(list, values);
+    IS(heap.fields(list) == 70 && heap.peek(list, 69) == rh::value(std::int64_t{1}));
+    const std::array<rh::init, 2> pair{list, 2};
+    heap.make(list, 3, pair);
+    IS(heap.peek(list, 0) == rh::value(rh::object{70}));
+    heap.make(list, std::vector<rh::init>());
+    IS(heap.fields(list) == 0);
+    // The owner is that of the first root that has one of its own.
+    const rh::root shared{0, 0}, theirs{2, 0};
+    heap.make(shared, {other, shared});
+    IS(heap.peek(shared, 0) == rh::value(std::int64_t{1}));
+    IS(heap.try_make(shared, {other, theirs}).status() == rh::status::not_yours);
+    IS(heap.try_make(list, {theirs}).status() == rh::status::not_yours);
+    IS(heap.try_make(list, 1, {1, 2}).status() == rh::status::no_field);
+    IS(heap.try_make_raw(list, {shared}).status() == rh::status::raw_field);
+    IS(heap.try_insist_make(list, {INT64_MAX}).status() == rh::status::int_range);
+    IS(heap.try_insist_make(list, {UINT64_MAX}).status() == rh::status::int_range);
+    IS(heap.try_insist_make_raw(list, 4095, {}).status() == rh::status::space_full);
+    values.resize(4096, rh::nil);
+    IS(heap.try_make(list, values).status() == rh::status::fields_range);
+    IS(heap.try_make(list, 4096, {}).status() == rh::status::fields_range);
+    IS(throws(rh::status::no_root, [&] { heap.make({1, 9}, {1}); }));
+    IS(throws(rh::status::no_root, [&] { heap.insist_make_raw(list, {rh::root{1, 9}}); }));
+    IS(heap.fields(list) == 0);
+}
+
 // Roots in a row, paths, and loads that tell no value.
 void rows_of_roots() {
     rh::heap heap(small);
@@ -214,6 +260,71 @@ void rows_of_roots() {
     IS(heap.try_load_untold(again, frame, 4).status() == rh::status::no_field);
     IS(heap.try_load_untold(again, theirs, 0).status() == rh::status::not_yours);
     IS(throws(rh::status::no_root, [&] { heap.load_untold({1, 8}, frame, 0); }));
+}
+
+void values_in_rows() {
+    rh::heap heap(small);
+    const rh::root frame{1, 0}, first{1, 1}, theirs{2, 0};
+    heap.alloc(frame, 4);
+    heap.alloc(first, 2);
+    heap.store_row(frame, 0, {7, rh::nil, first});
+    IS(heap.peek(frame, 0) == rh::value(std::int64_t{7}));
+    IS(heap.peek(frame, 1) == rh::value(rh::nil));
+    IS(heap.peek(frame, 2) == rh::value(rh::object{2}));
+    heap.insist_store_row(frame, 2, {-1, 8});
+    heap.load_roots_untold({1, 4}, frame, 0, 4);
+    IS(heap.get({1, 6}) == rh::value(std::int64_t{-1}));
+    IS(heap.get({1, 7}) == rh::value(std::int64_t{8}));
+    auto stored = heap.try_store_row(frame, 2, {1, 2, 3});
+    IS(stored.status() == rh::status::no_field && stored.count() == 2);
+    IS(heap.try_insist_store_row(frame, 0, {1, theirs}).status() == rh::status::not_yours);
+    IS(heap.try_insist_store_row(frame, 3, {1, first}).count() == 1);
+    IS(heap.try_load_roots_untold({1, 6}, frame, 0, 3).count() == 2);
+    IS(throws(rh::status::no_field, [&] { heap.store_row(frame, 4, {rh::nil}); }));
+    IS(throws(rh::status::no_field, [&] { heap.insist_store_row(frame, 4, {rh::nil}); }));
+    IS(throws(rh::status::no_root, [&] { heap.load_roots_untold({1, 7}, frame, 0, 2); }));
+    heap.store_row(frame, 9, {});
+}
+
+void shared_slots() {
+    rh::heap heap(small);
+    const rh::shared list{0}, cell{1}, found{2}, none{8};
+    heap.alloc(cell, 2);
+    heap.store(cell, 0, 7);
+    heap.store(cell, 1, rh::nil);
+    heap.copy(list, cell);
+    heap.insist_alloc(cell, 2);
+    heap.insist_store(cell, 0, 8);
+    heap.insist_store(cell, 1, rh::nil);
+    heap.insist_store(cell, 1, list);
+    heap.store(cell, 1, list);
+    IS(heap.load(found, cell, 1) == rh::value(rh::object{2}));
+    IS(heap.peek(found, 0) == rh::value(std::int64_t{7}) && heap.same(found, list));
+    heap.load_untold(found, cell, 0);
+    IS(heap.get(found) == rh::value(std::int64_t{8}));
+    heap.drop(found);
+    heap.alloc_raw(found, 1);
+    heap.insist_alloc_raw(found, 1);
+    IS(heap.get(rh::root{0, 2}) == rh::value(rh::raw_object{1}));
+    // With a root of another owner it is the call for that owner.
+    heap.copy(rh::root{1, 0}, cell);
+    heap.store(rh::root{1, 0}, 0, list);
+    IS(heap.peek(cell, 0) == rh::value(rh::object{2}));
+    IS(heap.try_alloc(none, 1).status() == rh::status::no_root);
+    IS(heap.try_alloc_raw(none, 1).status() == rh::status::no_root);
+    IS(heap.try_insist_alloc(none, 1).status() == rh::status::no_root);
+    IS(heap.try_insist_alloc_raw(none, 1).status() == rh::status::no_root);
+    IS(heap.try_store(found, 0, list).status() == rh::status::raw_field);
+    IS(heap.try_store(found, 1, rh::nil).status() == rh::status::no_field);
+    IS(heap.try_store(found, 0, UINT64_MAX).status() == rh::status::int_range);
+    IS(heap.try_insist_store(found, 0, list).status() == rh::status::raw_field);
+    IS(heap.try_insist_store(found, 1, rh::nil).status() == rh::status::no_field);
+    IS(heap.try_insist_store(found, 0, UINT64_MAX).status() == rh::status::int_range);
+    IS(heap.try_load(list, cell, 2).status() == rh::status::no_field);
+    IS(heap.try_load_untold(list, none, 2).status() == rh::status::no_root);
+    IS(heap.try_peek(none, 0).status() == rh::status::no_root);
+    IS(heap.try_copy(list, none).status() == rh::status::no_root);
+    IS(heap.try_drop(none).status() == rh::status::no_root);
 }
 
 void paths() {
@@ -429,6 +540,38 @@ void many_slots() {
     IS(none.left() == 0 && heap.fields(second) == 1);
 }
 
+// A list that outgrows the words with which its heap began, and what opens no such heap.
+void growing() {
+    const rh::growth growth{50000, 4, 32, 2, 8, 16, 200};
+    rh::heap heap = rh::heap::growing(growth);
+    rh::slots slots(heap, 1, 0, 4);
+    rh::scoped_root list(slots), cell(slots);
+    IS(heap.is_open() && heap.shortage() == rh::shortage::none);
+    for (int n = 0; n < 5000; n++) {
+        heap.alloc(cell, 2);
+        heap.store(cell, 0, n);
+        heap.store(cell, 1, list);
+        swap(list, cell);
+    }
+    IS(heap.stat().used >= 20000 && heap.shortage() == rh::shortage::none);
+    std::int64_t due = 5000;
+    for (rh::value at = heap.get(list); std::holds_alternative<rh::object>(at);) {
+        IS(std::get<std::int64_t>(heap.peek(list, 0)) == --due);
+        at = heap.load(list, list, 1);
+    }
+    IS(due == 0);
+    IS(heap.try_open_growing(growth).status() == rh::status::is_open);
+    IS(heap.try_open(small).status() == rh::status::is_open);
+    rh::heap other;
+    IS(other.try_shortage().status() == rh::status::not_open);
+    rh::growth wrong_growth = growth;
+    wrong_growth.factor = 99;
+    IS(other.try_open_growing(wrong_growth).status() == rh::status::bad_growth);
+    IS(throws(rh::status::bad_growth, [&] { (void)rh::heap::growing(wrong_growth); }));
+    // Where the most is less, it begins with that.
+    IS(bool(other.try_open_growing({4096, 4})) && other.stat().free == 4096);
+}
+
 // A list of a thousand cells while many more are let go, and an array of rheap_array.h beside it.
 void collecting() {
     rh::heap heap(rh::sizes{8192, 40});
@@ -460,7 +603,10 @@ int main() {
     values();
     rows();
     refusals();
+    objects_with_values();
     rows_of_roots();
+    values_in_rows();
+    shared_slots();
     paths();
     tickets();
     full_log();
@@ -469,6 +615,7 @@ int main() {
     life();
     scoped();
     many_slots();
+    growing();
     collecting();
     return wrong;
 }

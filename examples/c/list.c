@@ -15,6 +15,7 @@ int main(void) {
     rheap heap = RHEAP_INIT;
     rheap_root_id list = rheap_slot(1, 0);
     rheap_root_id cell = rheap_slot(1, 1);
+    rheap_init pair[2];
     rheap_value value;
     rheap_stats stats;
     int64_t n;
@@ -27,12 +28,10 @@ int main(void) {
         if (n % 500 == 490) {
             must(rheap_drop(&heap, 1, list));
         }
-        must(rheap_alloc(&heap, 1, cell, 2));
-        must(rheap_store_int(&heap, 1, cell, 0, n));
-        must(rheap_store_root(&heap, 1, cell, 1, list));
-        must(rheap_copy(&heap, 1, list, cell));
+        pair[0] = rheap_of_int(n);
+        pair[1] = rheap_of_root(list);
+        must(rheap_make(&heap, 1, list, 2, pair, 2));
     }
-    must(rheap_drop(&heap, 1, cell));
 
     /* Walks the list by a second root. */
     must(rheap_copy(&heap, 1, cell, list));

@@ -241,6 +241,7 @@ static fault go_back(machine *m, int *ended) {
 static fault step(machine *m, instruction next, int *ended) {
     char bytes[LONGEST];
     size_t length = 0;
+    rheap_init cell[CELL];
     rheap_value value;
     int64_t a;
     int64_t b;
@@ -272,12 +273,12 @@ static fault step(machine *m, instruction next, int *ended) {
         TRY(pop_int(m, &a));
         return push_int(m, a < b);
     case CONS:
-        HEAP(rheap_insist_alloc(&m->heap, MACHINE, reg(NEW), CELL));
         TRY(pop(m, B));
         TRY(pop(m, A));
-        HEAP(rheap_insist_store_root(&m->heap, MACHINE, reg(NEW), HEAD, reg(A)));
-        HEAP(rheap_insist_store_root(&m->heap, MACHINE, reg(NEW), TAIL, reg(B)));
-        return push(m, NEW);
+        cell[HEAD] = rheap_of_root(reg(A));
+        cell[TAIL] = rheap_of_root(reg(B));
+        HEAP(rheap_insist_make(&m->heap, MACHINE, reg(A), CELL, cell, CELL));
+        return push(m, A);
     case FIRST:
     case REST:
         /* What is no list is told by the heap: NOT_OBJECT. */

@@ -1,7 +1,7 @@
-/* Memory that is refused, each piece in turn, at both calls that open a heap, and at both that run a
+/* Memory that is refused, each piece in turn, at the calls that open a heap, and at both that run a
    whole trace: the status tells it, and nothing is left taken. So it is of rheap_watch_room, which
    leaves the tickets that there are. Each other call is made while all memory is refused, and asks for
-   none. Then the functions by which the library takes memory give,
+   none. A heap that grows goes on with the words that it has, and says so. Then the functions by which the library takes memory give,
    resize and refuse blocks that are small and large. It is linked with --wrap for malloc, realloc,
    posix_memalign and free. Prints nothing where all is as it should be.
 
@@ -120,9 +120,11 @@ static uint8_t asks_nothing(int line, uint8_t status) {
 /* The words of the heap that is opened. */
 static uint32_t words = 4096;
 
+/* Opens one by each call: of a heap that grows, one that has its most words from the beginning. */
 static uint8_t opening(rheap *heap, int sized) {
-    return sized ? rheap_open_sized(heap, words, 4, 32, 1, 5)
-                 : rheap_open(heap, words, 2000, 4, 32, 1, 5);
+    return sized == 2 ? rheap_open_growing(heap, words, 4, 32, 1, 5)
+           : sized    ? rheap_open_sized(heap, words, 4, 32, 1, 5)
+                      : rheap_open(heap, words, 2000, 4, 32, 1, 5);
 }
 
 /* Opens the heap where each piece of memory is refused once. Whether it is open. */
@@ -132,7 +134,7 @@ static int opened(rheap *heap, int sized) {
     for (refused_at = 1; refused_at < 100 && status == RHEAP_NO_MEMORY; refused_at++) {
         asked = 0;
         status = opening(heap, sized);
-        if (status == RHEAP_NO_MEMORY && (heap->at != NULL || taken != 0)) {
+        if (status == RHEAP_NO_MEMORY && (heap->at != NULL || heap->grows_at != NULL || taken != 0)) {
             printf("refused at %ld: %ld pieces are left\n", refused_at, taken);
             wrong++;
         }
@@ -143,7 +145,7 @@ static int opened(rheap *heap, int sized) {
         wrong++;
     }
     asked = 0;
-    return heap->at != NULL;
+    return heap->at != NULL || heap->grows_at != NULL;
 }
 
 /* Each call on an open heap, as often as collects by itself. */
@@ -159,6 +161,7 @@ static void each_call(rheap *heap) {
     rheap_pacing pacing;
     rheap_words room;
     int64_t numbers[2] = {1, 2};
+    rheap_init values[70];
     char text[14] = "thirteen here";
     uint32_t fields;
     uint32_t count;
@@ -168,7 +171,14 @@ static void each_call(rheap *heap) {
     uint8_t same;
     int n;
 
+    for (n = 0; n < 70; n++) {
+        values[n] = rheap_of_int(n);
+    }
     for (n = 0; n < 5000; n++) {
+        IS(rheap_make(heap, 0, a, 3, values, 2), DONE);
+        IS(rheap_insist_make(heap, 0, a, 9, values, 9), DONE);
+        IS(rheap_insist_make_raw(heap, 0, a, 70, values, 70), DONE);
+        IS(rheap_make_raw(heap, 0, a, 1, values, 2), NO_FIELD);
         IS(rheap_alloc(heap, 0, a, 2), DONE);
         IS(rheap_alloc_raw(heap, 0, b, 2), DONE);
         IS(rheap_store_nil(heap, 0, a, 0), DONE);
@@ -212,7 +222,8 @@ static void each_call(rheap *heap) {
         IS(rheap_drop_roots(heap, 0, c, 1, &done), DONE);
         IS(rheap_drop(heap, 0, rheap_push(&scope)), DONE);
         IS(rheap_pop_to(&scope, 3), DONE);
-        IS(opening(heap, n % 2), IS_OPEN);
+        IS(opening(heap, n % 3), IS_OPEN);
+        IS(rheap_short(heap, &same), DONE);
     }
     if (stats.flips < 2) {
         printf("the heap didn't collect\n");
@@ -258,6 +269,70 @@ static void tickets(rheap *heap) {
     asked = 0;
     IS(rheap_watch_room(heap, RHEAP_MAX_TICKETS), TICKETS_RANGE);
     IS(rheap_unwatch(heap, ticket), DONE);
+}
+
+/* One more cell before a list. */
+static uint8_t push(rheap *heap) {
+    rheap_root_id cell = rheap_slot(0, 0);
+    rheap_root_id list = rheap_slot(0, 2);
+    uint8_t status = rheap_insist_alloc(heap, 0, cell, 2);
+    if (status == RHEAP_DONE) {
+        is(__LINE__, rheap_insist_store_root(heap, 0, cell, 1, list), RHEAP_DONE);
+        is(__LINE__, rheap_copy(heap, 0, list, cell), RHEAP_DONE);
+    }
+    return status;
+}
+
+/* What a heap that grows says of its words. */
+static void is_short(int line, rheap *heap, uint8_t due) {
+    uint8_t got = 7;
+    is(line, rheap_short(heap, &got), RHEAP_DONE);
+    if (got != due && is_told()) {
+        printf("line %d: short %d, not %d\n", line, got, due);
+    }
+}
+
+/* A heap that grows goes on where all memory for more words is refused, or one piece of it, and says
+   so; it grows once memory is given. */
+static void growing(long first, int others) {
+    rheap heap = RHEAP_INIT;
+    rheap_growth growth = {64, 100000, 200, 4, 32, 1, 5};
+    rheap_value value;
+    uint8_t status = RHEAP_DONE;
+    int cells = 0;
+    all = 0;
+    refused_at = 0;
+    is(__LINE__, rheap_open_growth(&heap, &growth), RHEAP_DONE);
+    asked = 0;
+    refused_at = first;
+    all = others;
+    while (status == RHEAP_DONE && cells < 1000) {
+        status = push(&heap);
+        cells += status == RHEAP_DONE;
+    }
+    if (others) {
+        is(__LINE__, status, RHEAP_SPACE_FULL);
+        is_short(__LINE__, &heap, RHEAP_REFUSED);
+    } else {
+        is(__LINE__, status, RHEAP_DONE);
+        is_short(__LINE__, &heap, RHEAP_AMPLE);
+    }
+    all = 0;
+    refused_at = 0;
+    is(__LINE__, rheap_collect(&heap), RHEAP_DONE);
+    is_short(__LINE__, &heap, RHEAP_AMPLE);
+    is(__LINE__, push(&heap), RHEAP_DONE);
+    for (cells++; cells > 0; cells--) {
+        is(__LINE__, rheap_load(&heap, 0, rheap_slot(0, 2), rheap_slot(0, 2), 1, &value), RHEAP_DONE);
+    }
+    if (value.kind != RHEAP_NIL && is_told()) {
+        printf("the list isn't as long as it was made\n");
+    }
+    is(__LINE__, rheap_close(&heap), RHEAP_DONE);
+    asked = 0;
+    if (taken != 0 && is_told()) {
+        printf("%ld pieces of a heap that grows are left after the close\n", taken);
+    }
 }
 
 /* Opens and closes the heap where its spaces are large blocks, each refused once. */
@@ -387,6 +462,7 @@ static void where_the_system_refuses(void) {
 
 int main(int argc, char **argv) {
     rheap heap = RHEAP_INIT;
+    long piece;
     int sized;
 
     (void)argv;
@@ -396,7 +472,7 @@ int main(int argc, char **argv) {
         counting = 0;
         return wrong != 0;
     }
-    for (sized = 0; sized < 2; sized++) {
+    for (sized = 0; sized < 3; sized++) {
         if (!opened(&heap, sized)) {
             return 1;
         }
@@ -409,6 +485,10 @@ int main(int argc, char **argv) {
             wrong++;
         }
         large_spaces(&heap, sized);
+    }
+    growing(1, 1);
+    for (piece = 1; piece < 12; piece++) {
+        growing(piece, 0);
     }
     blocks();
     IS(rheap_open(&heap, 1000, 100, 4, 3, 2, 8), NO_PACE);

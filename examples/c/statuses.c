@@ -57,6 +57,7 @@ static rheap_value junk_value(void) {
 /* Each call on a handle that holds no heap. */
 static void without_a_heap(rheap *heap) {
     rheap_root_id root = rheap_slot(0, 0);
+    rheap_init init = rheap_of_nil();
     rheap_value value = junk_value();
     rheap_stats stats;
     rheap_did did;
@@ -99,6 +100,10 @@ static void without_a_heap(rheap *heap) {
     EQUALS(same, 0);
     IS(rheap_insist_alloc(heap, 0, root, 1), NOT_OPEN);
     IS(rheap_insist_alloc_raw(heap, 0, root, 1), NOT_OPEN);
+    IS(rheap_make(heap, 0, root, 1, &init, 1), NOT_OPEN);
+    IS(rheap_make_raw(heap, 0, root, 1, &init, 1), NOT_OPEN);
+    IS(rheap_insist_make(heap, 0, root, 1, &init, 0), NOT_OPEN);
+    IS(rheap_insist_make_raw(heap, 0, root, 1, &init, RHEAP_MAX_FIELDS + 1), NOT_OPEN);
     IS(rheap_insist_store_nil(heap, 0, root, 0), NOT_OPEN);
     IS(rheap_insist_store_int(heap, 0, root, 0, 1), NOT_OPEN);
     IS(rheap_insist_store_root(heap, 0, root, 0, root), NOT_OPEN);
@@ -805,12 +810,13 @@ static void names(void) {
         "DONE",          "NO_ROOT",      "NOT_YOURS",  "NOT_OBJECT", "NO_FIELD", "RAW_FIELD",
         "INT_RANGE",     "FIELDS_RANGE", "SPACE_FULL", "LOG_FULL",   "NUMBERS_SPENT",
         "EPOCHS_SPENT",  "NOT_OPEN",     "IS_OPEN",    "NO_PACE",    "BAD_SIZES",
-        "NO_MEMORY",     "WATCHES_FULL", "NOT_WATCHED", "TICKETS_RANGE"};
+        "NO_MEMORY",     "WATCHES_FULL", "NOT_WATCHED", "TICKETS_RANGE", "BAD_KIND",
+        "BAD_GROWTH"};
     int status;
 
     for (status = 0; status < 256; status++) {
         const char *name = rheap_name((uint8_t)status);
-        if (strcmp(name, status < 20 ? due[status] : "UNKNOWN") != 0) {
+        if (strcmp(name, status < 22 ? due[status] : "UNKNOWN") != 0) {
             printf("status %d is named %s\n", status, name);
             wrong = 1;
         }

@@ -60,13 +60,14 @@ static size_t read_key(uint32_t number, char *bytes) {
 /* --- The table --- */
 
 static void make_table(void) {
-    must(rheap_insist_alloc(&heap, OWNER, at(TABLE), TABLE_FIELDS));
+    rheap_init arrays[TABLE_FIELDS];
     must(rheap_array_make(&scope, at(KEYS), 0, CHUNK));
     must(rheap_array_make_raw(&scope, at(COUNTS), 0, CHUNK));
     must(rheap_array_make_raw(&scope, at(PLACES), FIRST_PLACES, CHUNK));
-    must(rheap_insist_store_root(&heap, OWNER, at(TABLE), KEYS_FIELD, at(KEYS)));
-    must(rheap_insist_store_root(&heap, OWNER, at(TABLE), COUNTS_FIELD, at(COUNTS)));
-    must(rheap_insist_store_root(&heap, OWNER, at(TABLE), PLACES_FIELD, at(PLACES)));
+    arrays[KEYS_FIELD] = rheap_of_root(at(KEYS));
+    arrays[COUNTS_FIELD] = rheap_of_root(at(COUNTS));
+    arrays[PLACES_FIELD] = rheap_of_root(at(PLACES));
+    must(rheap_insist_make(&heap, OWNER, at(TABLE), TABLE_FIELDS, arrays, TABLE_FIELDS));
 }
 
 /* Puts the arrays of the table into their slots. */

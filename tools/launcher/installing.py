@@ -2,6 +2,7 @@
 import contextlib
 import os
 import pathlib
+import re
 import shutil
 import subprocess
 import tempfile
@@ -13,18 +14,34 @@ from progress import Progress, minutes
 from tree import TOP, folder_of
 from workshop import OUT, Trouble, Workshop, end_by_signals, ignore_signals, processors, say
 
-# Where each file of an installation comes from: `include/rheap.h` of the prefix is that of the repository, and so on.
+# Where the files of an installation come from: `include/rheap.h` of the prefix is that of the repository, and so on.
 FILES = {
     "include/rheap.h": "include/rheap.h",
     "include/rheap.hpp": "include/rheap.hpp",
     "include/rheap_array.h": "include/rheap_array.h",
+    "include/rheap_on_refusal.h": "include/rheap_on_refusal.h",
+    "share/doc/rheap/rheap_memory.c": "include/rheap_memory.c",
     "share/licenses/rheap/LICENSE-MIT": "LICENSE-MIT",
     "share/licenses/rheap/LICENSE-APACHE": "LICENSE-APACHE",
+}
+# Those that go with the program.
+OF_PROGRAM = {
     "share/man/man1/rheap.1": "share/man/rheap.1",
     "share/bash-completion/completions/rheap": "share/completions/rheap.bash",
     "share/zsh/site-functions/_rheap": "share/completions/_rheap",
     "share/fish/vendor_completions.d/rheap.fish": "share/completions/rheap.fish",
 }
+# Folders of an installation, each with the folder of the repository that its files are from, and which of them.
+DOC, CRATE = "share/doc/rheap", "share/rheap/rust"
+FOLDERS = (
+    (f"{DOC}/examples", "examples", ("lisp.c", "whole_cycle.trace", "whole_cycle.answers", "paced.trace", "paced.options", "paced.answers")),
+    (f"{DOC}/examples/lisp", "examples/lisp", ("queens.*",)),
+    (f"{DOC}/examples/c", "examples/c", ("*.c", "*.cpp", "*.out", "CMakeLists.txt", "try")),
+    (CRATE, "bindings/rust/rheap", ("Cargo.toml", "README.md", "LICENSE-*", "build.rs", "src/*.rs", "tests/*.rs", "examples/*.rs")),
+)
+# Pages, whose links lead to files of the installation.
+PAGES = {f"{DOC}/c.md": "docs/c.md", f"{DOC}/porting.md": "docs/porting.md"}
+LINK = re.compile(r"\[([^\]]*)\]\(([^)#\s]+)(#[^)\s]*)?\)")
 PKG_CONFIG = """# The library needs these of the C library, which a compiler links by itself: malloc, realloc,
 # posix_memalign, free, madvise, memcpy, memmove and memset. It starts no thread, and needs no other library.
 prefix=${{pcfiledir}}/../..
@@ -83,26 +100,49 @@ def need_tools():
             raise Trouble(f"{tool} isn't on the PATH, and install needs it")
 
 
+def library_files():
+    """Where the files come from that go with the library: the headers, the licences, the examples and the crate for plain Rust."""
+    found = dict(FILES)
+    for to, of, patterns in FOLDERS:
+        for pattern in patterns:
+            found.update({f"{to}/{it.relative_to(TOP / of)}": str(it.relative_to(TOP)) for it in sorted((TOP / of).glob(pattern))})
+    return found
+
+
+def installed_page(name, files):
+    """The text of a page for an installation: a link to what is installed leads there, and of any other the words are left."""
+    places = {of: to for to, of in {**files, **PAGES}.items()}
+    folder = os.path.dirname(PAGES[name])
+
+    def link(found):
+        words, target, anchor = found[1], found[2], found[3] or ""
+        to = places.get(os.path.normpath(os.path.join(folder, target)))
+        return f"[{words}]({os.path.relpath(to, os.path.dirname(name))}{anchor})" if to else words
+
+    return LINK.sub(link, (TOP / PAGES[name]).read_text(encoding="utf-8"))
+
+
 def put_parts(stage, label, program, archive):
     """Fills a folder with all that is installed."""
-    for to, of in FILES.items():
-        if program or not to.startswith("share/") or "licenses" in to:
-            put(TOP / of, stage / to)
+    files = library_files()
+    for to, of in {**files, **(OF_PROGRAM if program else {})}.items():
+        put(TOP / of, stage / to)
     if program:
         put(program, stage / "bin/rheap")
         (stage / "bin/rheap").chmod(0o755)
     put(archive, stage / "lib/librheap.a")
     number = quick.version()
-    for to, text in MADE.items():
+    made = {to: text.format(label=label, version=number, series=number.rpartition(".")[0]) for to, text in MADE.items()}
+    for to, text in {**made, **{it: installed_page(it, files) for it in PAGES}}.items():
         (stage / to).parent.mkdir(parents=True, exist_ok=True)
-        (stage / to).write_text(text.format(label=label, version=number, series=number.rpartition(".")[0]))
+        (stage / to).write_text(text, encoding="utf-8")
 
 
 def put(of, to):
-    """Copies a file, for all to read."""
+    """Copies a file, for all to read, and to run if it is a script."""
     to.parent.mkdir(parents=True, exist_ok=True)
     shutil.copyfile(of, to)
-    to.chmod(0o644)
+    to.chmod(0o755 if os.access(of, os.X_OK) else 0o644)
 
 
 def try_parts(stage, room, program):
@@ -236,7 +276,7 @@ def install(name, with_program=True, is_proved=False):
 
 def staged(left, prefix, with_program, is_proved):
     """Makes all that is to be installed in a folder below the prefix, and returns that. It is removed when `left` is closed."""
-    names = [*FILES, *MADE, "bin/rheap", "lib/librheap.a"]
+    names = [*library_files(), *OF_PROGRAM, *PAGES, *MADE, "bin/rheap", "lib/librheap.a"]
     need_room(prefix, names)
     program, archive, label = build_parts(with_program, is_proved)
     os.umask(0o022)
@@ -285,10 +325,15 @@ def package(folder, is_proved=False):
         raise Trouble(f"{to} is a folder; nothing was packed")
     with tempfile.TemporaryDirectory(prefix=".rheap.", dir=folder) as aside:
         install(f"{aside}/{name}", is_proved=is_proved)
-        words = ["tar", "-C", aside, "--sort=name", "--owner=0", "--group=0", "--numeric-owner", "--mtime=@0", "-cf", f"{aside}/packed.tar", name]
-        for it in (words, ["gzip", "-9n", f"{aside}/packed.tar"]):
-            if subprocess.run(it, check=False).returncode:
-                raise Trouble("the file could not be made; nothing was packed")
-        os.chmod(f"{aside}/packed.tar.gz", 0o644)
-        os.replace(f"{aside}/packed.tar.gz", to)
+        pack(aside, name, to)
     return to
+
+
+def pack(aside, name, to):
+    """Packs the folder of that name, which is aside, into one file. Two of the same files are equal, byte for byte."""
+    words = ["tar", "-C", aside, "--sort=name", "--owner=0", "--group=0", "--numeric-owner", "--mtime=@0", "-cf", f"{aside}/packed.tar", name]
+    for it in (words, ["gzip", "-9n", f"{aside}/packed.tar"]):
+        if subprocess.run(it, check=False).returncode:
+            raise Trouble("the file could not be made; nothing was packed")
+    os.chmod(f"{aside}/packed.tar.gz", 0o644)
+    os.replace(f"{aside}/packed.tar.gz", to)

@@ -1,23 +1,35 @@
-//! Finds the static library of the heap, and has it linked. `RHEAP_LIB_DIR` names its folder, or
-//! `pkg-config rheap` does.
+//! Finds the static library of the heap, and has it linked. It looks in the folder that
+//! `RHEAP_LIB_DIR` names, then for a library that came with the crate, then asks `pkg-config rheap`.
+//!
+//! Where none is found, the pages of the crate can be made all the same. Anything else ends with a
+//! message that says what to do: this script writes it, and `src/lib.rs` shows it.
 
 use std::env;
 use std::fs;
 use std::path::{Path, PathBuf};
-use std::process::{exit, Command};
+use std::process::Command;
 
-/// The archives of which the library is made: the installed one, or else both parts. Each with a
-/// call that it has.
-const SETS: [&[(&str, &[&str])]; 2] = [
-    &[("rheap", &["rheap_open", "rheap_run"])],
-    &[
-        ("rheap_c", &["rheap_open"]),
-        ("rheap_c_traces", &["rheap_run"]),
-    ],
-];
+/// The archives of which the library is made: the installed one, or else both parts.
+const SETS: [&[&str]; 2] = [&["rheap"], &["rheap_c", "rheap_c_traces"]];
+
+/// The declarations of the library's calls.
+const RAW: &str = include_str!("src/raw.rs");
+
+/// What to do where there is no library.
+const HELP: &str = "
+  The crate needs the static library librheap.a. It comes with each package of rheap, which
+  also has a copy of this crate that finds it. Or make it, in a clone of rheap:
+      ./rheap install --library PREFIX
+  Then do one of these:
+    - let pkg-config find it: put the folder PREFIX/lib/pkgconfig into PKG_CONFIG_PATH;
+    - set RHEAP_LIB_DIR to the absolute path of PREFIX/lib;
+    - copy it to native/librheap.a in the folder of this crate.
+  To make pages of a crate that uses this one, no library is needed: set DOCS_RS=1.";
 
 fn main() {
-    println!("cargo:rerun-if-changed=build.rs");
+    for name in ["build.rs", "src/raw.rs"] {
+        println!("cargo:rerun-if-changed={name}");
+    }
     for name in [
         "RHEAP_LIB_DIR",
         "PKG_CONFIG",
@@ -28,21 +40,18 @@ fn main() {
         println!("cargo:rerun-if-env-changed={name}");
     }
     println!("cargo:rustc-check-cfg=cfg(rheap_memory_inside)");
+    println!("cargo:rustc-check-cfg=cfg(rheap_not_found)");
     // Pages are made where no library is, and nothing is linked there.
     if env::var_os("DOCS_RS").is_some() {
         return;
     }
     if let Err(why) = link() {
-        eprintln!("error: rheap: {why}");
-        eprintln!();
-        eprintln!("  The crate needs the static library librheap.a, or its two parts,");
-        eprintln!("  librheap_c.a and librheap_c_traces.a, in one folder. Either");
-        eprintln!("    set RHEAP_LIB_DIR to the absolute path of its folder, or");
-        eprintln!("    have `pkg-config --variable=libdir rheap` print that folder: set");
-        eprintln!("    PKG_CONFIG_PATH to the folder of rheap.pc.");
-        eprintln!("  To make it: `./rheap install --library PREFIX`, in a clone of rheap, leaves");
-        eprintln!("  librheap.a and pkgconfig/rheap.pc below PREFIX/lib.");
-        exit(1);
+        let out = env::var_os("OUT_DIR").expect("cargo names a folder");
+        let file = Path::new(&out).join("not_found.txt");
+        fs::write(file, format!("{why}\n{HELP}")).expect("the folder can be written to");
+        println!("cargo:rustc-cfg=rheap_not_found");
+        // Cargo calls this again each time, since no such file is there.
+        println!("cargo:rerun-if-changed=not_found");
     }
 }
 
@@ -56,34 +65,51 @@ fn link() -> Result<(), String> {
         ));
     }
     let folder = folder()?;
-    let is_there = |(name, _): &(&str, &[&str])| archive(&folder, name).is_file();
-    let Some(set) = SETS.into_iter().find(|set| set.iter().all(is_there)) else {
+    let Some(set) = set_in(&folder) else {
         return Err(format!(
             "neither librheap.a nor both librheap_c.a and librheap_c_traces.a are in {}",
             folder.display()
         ));
     };
-    for (name, calls) in set {
-        link_archive(&archive(&folder, name), calls)?;
+    let mut symbols = Vec::new();
+    for name in set {
+        let path = archive(&folder, name);
+        let bytes = fs::read(&path).map_err(|e| format!("{}: {e}", path.display()))?;
+        symbols.extend(symbols_of(&bytes));
+        println!("cargo:rerun-if-changed={}", path.display());
+    }
+    let has = |symbol: &str| symbols.iter().any(|it| it == symbol);
+    if let Some(call) = calls().find(|call| !has(call)) {
+        return Err(format!(
+            "the library in {} has no {call}: it isn't of the version of this crate, which is {}",
+            folder.display(),
+            env!("CARGO_PKG_VERSION")
+        ));
+    }
+    // An archive may have the three functions by which it takes memory. The crate brings its own
+    // only where it hasn't, since two of a name don't link.
+    if has("rattle_alloc") {
+        println!("cargo:rustc-cfg=rheap_memory_inside");
+    }
+    for name in set {
         println!("cargo:rustc-link-lib=static={name}");
     }
     println!("cargo:rustc-link-search=native={}", folder.display());
     Ok(())
 }
 
-/// Looks at an archive that is linked, or says which of the calls it hasn't.
-fn link_archive(archive: &Path, calls: &[&str]) -> Result<(), String> {
-    let bytes = fs::read(archive).map_err(|e| format!("{}: {e}", archive.display()))?;
-    if let Some(call) = calls.iter().find(|call| !exports(&bytes, call)) {
-        return Err(format!("{} has no {call}", archive.display()));
-    }
-    // An archive may have the three functions by which it takes memory. The crate brings its own
-    // only where it hasn't, since two of a name don't link.
-    if exports(&bytes, "rattle_alloc") {
-        println!("cargo:rustc-cfg=rheap_memory_inside");
-    }
-    println!("cargo:rerun-if-changed={}", archive.display());
-    Ok(())
+/// The calls that the crate declares.
+fn calls() -> impl Iterator<Item = &'static str> {
+    let lines = RAW.lines().map(str::trim_start);
+    lines
+        .filter_map(|line| line.strip_prefix("pub fn ")?.split('(').next())
+        .filter(|name| name.starts_with("rheap_"))
+}
+
+/// The archives in a folder that make a library, if they are there.
+fn set_in(folder: &Path) -> Option<&'static [&'static str]> {
+    let is_there = |name: &&str| archive(folder, name).is_file();
+    SETS.into_iter().find(|set| set.iter().all(is_there))
 }
 
 fn archive(folder: &Path, name: &str) -> PathBuf {
@@ -103,16 +129,37 @@ fn folder() -> Result<PathBuf, String> {
         }
         return Ok(folder);
     }
+    match with_the_crate() {
+        Some(folder) => Ok(folder),
+        None => folder_by_pkg_config(),
+    }
+}
+
+/// The folder of a library that came with the crate: `native`, or that of the installation that the
+/// crate is in.
+fn with_the_crate() -> Option<PathBuf> {
+    let here = PathBuf::from(env::var_os("CARGO_MANIFEST_DIR")?);
+    let native = here.join("native");
+    if set_in(&native).is_some() {
+        return Some(native);
+    }
+    let prefix = here.join("../../..");
+    let is_installed = prefix.join("include/rheap.h").is_file();
+    let lib = prefix.join("lib");
+    (is_installed && set_in(&lib).is_some()).then_some(lib)
+}
+
+fn folder_by_pkg_config() -> Result<PathBuf, String> {
     let command = env::var_os("PKG_CONFIG").unwrap_or_else(|| "pkg-config".into());
     let command = command.to_string_lossy().into_owned();
     let said = Command::new(&command)
         .args(["--print-errors", "--variable=libdir", "rheap"])
         .output()
-        .map_err(|e| format!("RHEAP_LIB_DIR isn't set, and {command} didn't run: {e}"))?;
+        .map_err(|e| format!("no library was found: {command} didn't run: {e}"))?;
     let folder = String::from_utf8_lossy(&said.stdout).trim().to_string();
     if !said.status.success() || folder.is_empty() {
         return Err(format!(
-            "RHEAP_LIB_DIR isn't set, and {command} doesn't know rheap: {}",
+            "no library was found: {command} doesn't know rheap: {}",
             String::from_utf8_lossy(&said.stderr)
                 .lines()
                 .next()
@@ -136,33 +183,23 @@ fn unescaped(printed: &str) -> String {
     folder
 }
 
-/// Whether the index of the archive lists the symbol. The index of an `ar` archive is its first
-/// member, named `/`: a count and as many offsets of 4 bytes, big end first, then the names of what
-/// the members define, each ended by a 0.
-fn exports(archive: &[u8], symbol: &str) -> bool {
+/// The symbols that the index of the archive lists; none where it has no index. That of an `ar`
+/// archive is its first member, named `/`: a count and as many offsets of 4 bytes, big end first,
+/// then the names of what the members define, each ended by a 0.
+fn symbols_of(archive: &[u8]) -> Vec<String> {
     const MAGIC: usize = 8;
     const HEADER: usize = 60;
-    let Some(index) = archive.get(MAGIC..).filter(|rest| rest.starts_with(b"/ ")) else {
-        return false;
+    let names = || {
+        let index = archive.get(MAGIC..)?;
+        let size = std::str::from_utf8(index.get(48..58)?).ok()?.trim();
+        let index = index
+            .strip_prefix(b"/ ")
+            .and_then(|_| index.get(HEADER..HEADER + size.parse::<usize>().ok()?))?;
+        let count = u32::from_be_bytes(index.get(..4)?.try_into().ok()?) as usize;
+        index.get(4 + 4 * count..)
     };
-    let Some(size) = index
-        .get(48..58)
-        .and_then(|digits| std::str::from_utf8(digits).ok())
-        .and_then(|digits| digits.trim().parse::<usize>().ok())
-    else {
-        return false;
-    };
-    let Some(index) = index.get(HEADER..HEADER + size) else {
-        return false;
-    };
-    let Some(count) = index.get(..4) else {
-        return false;
-    };
-    let count = u32::from_be_bytes([count[0], count[1], count[2], count[3]]) as usize;
-    let Some(names) = index.get(4 + 4 * count..) else {
-        return false;
-    };
+    let names = names().unwrap_or_default().split(|byte| *byte == 0);
     names
-        .split(|byte| *byte == 0)
-        .any(|name| name == symbol.as_bytes())
+        .map(|name| String::from_utf8_lossy(name).into_owned())
+        .collect()
 }

@@ -1,6 +1,6 @@
 //! A list of numbers on a managed heap: a cell has a number and the rest of the list.
 
-use rheap::{Error, Heap, Sizes, Value};
+use rheap::{values, Error, Heap, Sizes, Value};
 
 fn main() -> Result<(), Error> {
     // 4,096 words, cells of 4 words, ratio 32; owner 1 has two slots.
@@ -19,12 +19,8 @@ fn main() -> Result<(), Error> {
         if number % 500 == 490 {
             heap.drop_root(list)?;
         }
-        heap.alloc(cell, 2)?;
-        heap.store(cell, 0, number)?;
-        heap.store(cell, 1, list)?;
-        heap.copy(list, cell)?;
+        heap.make(list, &values![number, list])?;
     }
-    heap.drop_root(cell)?;
 
     // Walks the list by a second root.
     heap.copy(cell, list)?;

@@ -1,3 +1,4 @@
+use crate::growth::Growth;
 use crate::numbers::Sizes;
 use crate::raw;
 use crate::root::Root;
@@ -5,7 +6,7 @@ use crate::value::Value;
 use std::fmt;
 
 /// What a call returns that may be refused.
-pub type Result<T> = std::result::Result<T, Error>;
+pub type Result<T, E = Error> = std::result::Result<T, E>;
 
 /// Why a call was refused, with the numbers that explain it. A refused call changed nothing. But the
 /// `insist_` calls may have collected before, and [`Heap::load_roots`](crate::Heap::load_roots) and its
@@ -113,6 +114,11 @@ pub enum Error {
         sizes: Sizes,
         /// The words that were to live, if that was said.
         live: Option<u32>,
+    },
+    /// The factor of a growth isn't 100 to 1,000 percent, or a limit of its words is out of its range.
+    BadGrowth {
+        /// The growth.
+        growth: Growth,
     },
     /// A size is out of its range.
     BadSizes {
@@ -226,6 +232,23 @@ impl fmt::Display for Error {
                     None => Ok(()),
                 }
             }
+            Error::BadGrowth { growth } => {
+                let Growth {
+                    at_least,
+                    at_most,
+                    factor,
+                    ..
+                } = growth;
+                write!(
+                    f,
+                    "a growth is out of its range: the factor is {factor}, of 100 to 1000"
+                )?;
+                write!(
+                    f,
+                    ", and the words are {at_least} to {at_most}, of at most "
+                )?;
+                write!(f, "{}", raw::MAX_WORDS)
+            }
             Error::BadSizes { sizes } => {
                 let ranges = [
                     ("words", sizes.words, 8, raw::MAX_WORDS),
@@ -253,3 +276,63 @@ impl fmt::Display for Error {
 }
 
 impl std::error::Error for Error {}
+
+/// Why a call on roots in a row, or on a path, was refused: it is a list of commands, of which some
+/// were done before that. These stay done.
+///
+/// Its [`Display`](fmt::Display) says how many; its [`source`](std::error::Error::source) is the
+/// refusal. In a function that returns an [`Error`], `?` makes one of it.
+///
+/// ```
+/// # fn main() -> Result<(), rheap::Error> {
+/// # use rheap::{Error, Heap, Sizes, Value};
+/// use std::error::Error as _;
+///
+/// # let mut heap = Heap::sized(Sizes { words: 100, biggest: 8, ratio: 32, owners: 1, slots: 8 })?;
+/// # let owner = heap.owner(0)?;
+/// let (pair, first) = (owner.slot(0)?, owner.slot(1)?);
+/// heap.alloc(pair, 2)?;
+/// let refused = heap.store_roots(pair, 0, first, 3).unwrap_err();
+/// assert_eq!(refused.done, 2);
+/// assert_eq!(refused.to_string(), "the call was refused after 2 of its commands");
+/// let source = refused.source().expect("each has one").to_string();
+/// assert_eq!(source, "the object of root 0.0 has no field 2: it has 2, counted from 0");
+/// # Ok(())
+/// # }
+/// ```
+#[derive(Clone, Copy, Debug, PartialEq, Eq, Hash)]
+#[non_exhaustive]
+pub struct RowError {
+    /// How many of its commands were done.
+    pub done: usize,
+    /// The refusal of the one after them.
+    pub error: Error,
+}
+
+impl RowError {
+    pub(crate) fn after(done: usize, error: Error) -> RowError {
+        RowError { done, error }
+    }
+}
+
+impl fmt::Display for RowError {
+    fn fmt(&self, f: &mut fmt::Formatter<'_>) -> fmt::Result {
+        write!(
+            f,
+            "the call was refused after {} of its commands",
+            self.done
+        )
+    }
+}
+
+impl std::error::Error for RowError {
+    fn source(&self) -> Option<&(dyn std::error::Error + 'static)> {
+        Some(&self.error)
+    }
+}
+
+impl From<RowError> for Error {
+    fn from(refused: RowError) -> Error {
+        refused.error
+    }
+}

@@ -9,7 +9,8 @@ use std::iter::FusedIterator;
 use std::ptr::null_mut;
 
 /// A heap that collects by itself. It is open from when it is made until it is dropped, which frees
-/// its memory. Only making one and [`Heap::watch_room`] take memory.
+/// its memory. Only making one and [`Heap::watch_room`] take memory; of a heap that [`Heap::growing`]
+/// made, also the calls that end a cycle.
 ///
 /// It may go to another thread, and isn't [`Sync`].
 // What each call below relies on, and this type keeps:
@@ -33,11 +34,11 @@ unsafe impl Send for Heap {}
 
 /// What a refused call asked for.
 pub(crate) struct Asked {
-    first: Root,
-    second: Root,
-    field: u32,
-    number: i64,
-    fields: u32,
+    pub(crate) first: Root,
+    pub(crate) second: Root,
+    pub(crate) field: u32,
+    pub(crate) number: i64,
+    pub(crate) fields: u32,
 }
 
 impl Asked {
@@ -109,7 +110,7 @@ impl Heap {
             owners,
             slots,
         } = sizes;
-        let mut handle = raw::Rheap { at: null_mut() };
+        let mut handle = Heap::unopened();
         // SAFETY: the handle is null, as before the first call, and is written by this call alone.
         let status =
             unsafe { raw::rheap_open_sized(&mut handle, words, biggest, ratio, owners, slots) };
@@ -139,14 +140,27 @@ impl Heap {
             owners,
             slots,
         } = sizes;
-        let mut handle = raw::Rheap { at: null_mut() };
+        let mut handle = Heap::unopened();
         // SAFETY: the handle is null, as before the first call, and is written by this call alone.
         let status =
             unsafe { raw::rheap_open(&mut handle, words, live, biggest, ratio, owners, slots) };
         Heap::opened(status, handle, sizes, Some(live))
     }
 
-    fn opened(status: u8, handle: raw::Rheap, sizes: Sizes, live: Option<u32>) -> Result<Heap> {
+    /// A handle before the first call.
+    pub(crate) fn unopened() -> raw::Rheap {
+        raw::Rheap {
+            at: null_mut(),
+            grows_at: null_mut(),
+        }
+    }
+
+    pub(crate) fn opened(
+        status: u8,
+        handle: raw::Rheap,
+        sizes: Sizes,
+        live: Option<u32>,
+    ) -> Result<Heap> {
         match status {
             raw::DONE => Ok(Heap {
                 raw: UnsafeCell::new(handle),
@@ -953,7 +967,7 @@ impl Heap {
     }
 
     #[inline]
-    fn stored(&self, status: u8, object: Root, field: u32, operand: Operand) -> Result<()> {
+    pub(crate) fn stored(&self, status: u8, object: Root, field: u32, operand: Operand) -> Result<()> {
         if status == raw::DONE {
             return Ok(());
         }

@@ -9,7 +9,7 @@
 //! collector moves an object.
 //!
 //! ```
-//! use rheap::{Heap, Operand, Sizes, Value};
+//! use rheap::{values, Heap, Sizes, Value};
 //!
 //! # fn main() -> Result<(), rheap::Error> {
 //! let mut heap = Heap::sized(Sizes { words: 4096, biggest: 4, ratio: 32, owners: 2, slots: 2 })?;
@@ -18,10 +18,7 @@
 //!
 //! // Each cell has a number and the rest of the list.
 //! for number in 1..=3 {
-//!     heap.alloc(cell, 2)?;
-//!     heap.store(cell, 0, number)?;
-//!     heap.store(cell, 1, list)?;
-//!     heap.copy(list, cell)?;
+//!     heap.make(list, &values![number, list])?;
 //! }
 //! assert_eq!(heap.peek(list, 0)?, Value::Int(3));
 //!
@@ -46,6 +43,11 @@
 //! A root is a pair of numbers, and doesn't know its heap. In another heap it names the slot of the
 //! same numbers. If that heap has no such slot, the call returns [`Error::NoRoot`].
 //!
+//! # Objects with their values
+//!
+//! [`Heap::alloc`] makes an object whose fields are nil, and [`Heap::make`] one with the values of its
+//! fields, in one call: all of them, or nothing is done.
+//!
 //! # Arrays and texts
 //!
 //! [`Heap::store_ints`] stores whole numbers to fields in a row, all of them or none, and
@@ -62,6 +64,11 @@
 //! [`Heap::watch`] returns a ticket for an object, beside which the program keeps what it has, such as an
 //! open file. [`Heap::gone`] yields the tickets whose objects the heap has lost, each once.
 //!
+//! # Growing
+//!
+//! [`Heap::growing`] makes a heap whose space grows, and shrinks, with what lives in it, up to a limit.
+//! All calls work on it.
+//!
 //! # Whole traces
 //!
 //! [`run`] and [`run_paced`] take a text of commands, run it on a heap of its own, and return what the
@@ -70,8 +77,8 @@
 //! # Refusals
 //!
 //! A refused call returns an [`Error`] with the numbers that explain it. It changes nothing, with two
-//! exceptions: the `insist_` calls may have collected before, and a call on roots in a row or on a path
-//! leaves done what it did before the refusal.
+//! exceptions: the `insist_` calls may have collected before, and a call on roots or values in a row
+//! or on a path leaves done what it did before the refusal: its [`RowError`] says how much.
 //!
 //! # Work
 //!
@@ -104,8 +111,14 @@
 #![deny(unsafe_op_in_unsafe_fn)]
 #![warn(missing_docs)]
 
+// What the build script found to be wrong. Pages are made without a library.
+#[cfg(all(rheap_not_found, not(doc)))]
+compile_error!(include_str!(concat!(env!("OUT_DIR"), "/not_found.txt")));
+
 mod error;
+mod growth;
 mod heap;
+mod making;
 #[cfg(not(rheap_memory_inside))]
 mod memory;
 mod numbers;
@@ -117,7 +130,8 @@ mod trace;
 mod value;
 mod watching;
 
-pub use error::{Error, Result};
+pub use error::{Error, Result, RowError};
+pub use growth::{Growth, Short};
 pub use heap::{Fields, Heap};
 pub use numbers::{Did, Pacing, Room, Sizes, Stats};
 pub use root::{Owner, Root};

@@ -25,6 +25,12 @@ pub const NO_MEMORY: u8 = 16;
 pub const WATCHES_FULL: u8 = 17;
 pub const NOT_WATCHED: u8 = 18;
 pub const TICKETS_RANGE: u8 = 19;
+pub const BAD_KIND: u8 = 20;
+pub const BAD_GROWTH: u8 = 21;
+
+pub const AMPLE: u8 = 0;
+pub const AT_MOST: u8 = 1;
+pub const REFUSED: u8 = 2;
 
 pub const RUN_DONE: u8 = 0;
 pub const RUN_FAULT: u8 = 1;
@@ -47,6 +53,7 @@ pub const MIN_INT: i64 = -MAX_INT - 1;
 #[repr(C)]
 pub struct Rheap {
     pub at: *mut c_void,
+    pub grows_at: *mut c_void,
 }
 
 #[repr(C)]
@@ -61,6 +68,14 @@ pub struct RheapRootId {
 pub struct RheapValue {
     pub kind: u32,
     pub fields: u32,
+    pub number: i64,
+}
+
+#[repr(C)]
+#[derive(Clone, Copy)]
+pub struct RheapInit {
+    pub kind: u32,
+    pub root: RheapRootId,
     pub number: i64,
 }
 
@@ -108,6 +123,18 @@ pub struct RheapWords {
     pub free: u64,
 }
 
+#[repr(C)]
+#[derive(Clone, Copy)]
+pub struct RheapGrowth {
+    pub at_least: u32,
+    pub at_most: u32,
+    pub factor: u32,
+    pub biggest: u32,
+    pub ratio: u32,
+    pub owners: u32,
+    pub slots: u32,
+}
+
 extern "C" {
     pub fn rheap_open(
         heap: *mut Rheap,
@@ -126,10 +153,35 @@ extern "C" {
         owners: u32,
         slots: u32,
     ) -> u8;
+    pub fn rheap_open_growing(
+        heap: *mut Rheap,
+        at_most: u32,
+        biggest: u32,
+        ratio: u32,
+        owners: u32,
+        slots: u32,
+    ) -> u8;
+    pub fn rheap_open_growth(heap: *mut Rheap, growth: *const RheapGrowth) -> u8;
     pub fn rheap_close(heap: *mut Rheap) -> u8;
 
     pub fn rheap_alloc(heap: *mut Rheap, owner: u32, dst: RheapRootId, fields: u32) -> u8;
     pub fn rheap_alloc_raw(heap: *mut Rheap, owner: u32, dst: RheapRootId, fields: u32) -> u8;
+    pub fn rheap_make(
+        heap: *mut Rheap,
+        owner: u32,
+        dst: RheapRootId,
+        fields: u32,
+        values: *const RheapInit,
+        length: usize,
+    ) -> u8;
+    pub fn rheap_make_raw(
+        heap: *mut Rheap,
+        owner: u32,
+        dst: RheapRootId,
+        fields: u32,
+        values: *const RheapInit,
+        length: usize,
+    ) -> u8;
 
     pub fn rheap_load(
         heap: *mut Rheap,
@@ -241,6 +293,33 @@ extern "C" {
         length: usize,
         count: *mut usize,
     ) -> u8;
+    pub fn rheap_load_roots_untold(
+        heap: *mut Rheap,
+        owner: u32,
+        first: RheapRootId,
+        src: RheapRootId,
+        from: u32,
+        length: usize,
+        count: *mut usize,
+    ) -> u8;
+    pub fn rheap_store_row(
+        heap: *mut Rheap,
+        owner: u32,
+        object: RheapRootId,
+        from: u32,
+        values: *const RheapInit,
+        length: usize,
+        count: *mut usize,
+    ) -> u8;
+    pub fn rheap_insist_store_row(
+        heap: *mut Rheap,
+        owner: u32,
+        object: RheapRootId,
+        from: u32,
+        values: *const RheapInit,
+        length: usize,
+        count: *mut usize,
+    ) -> u8;
     pub fn rheap_drop_roots(
         heap: *mut Rheap,
         owner: u32,
@@ -276,6 +355,22 @@ extern "C" {
         dst: RheapRootId,
         fields: u32,
     ) -> u8;
+    pub fn rheap_insist_make(
+        heap: *mut Rheap,
+        owner: u32,
+        dst: RheapRootId,
+        fields: u32,
+        values: *const RheapInit,
+        length: usize,
+    ) -> u8;
+    pub fn rheap_insist_make_raw(
+        heap: *mut Rheap,
+        owner: u32,
+        dst: RheapRootId,
+        fields: u32,
+        values: *const RheapInit,
+        length: usize,
+    ) -> u8;
     pub fn rheap_insist_store_nil(
         heap: *mut Rheap,
         owner: u32,
@@ -297,6 +392,43 @@ extern "C" {
         src: RheapRootId,
     ) -> u8;
 
+    pub fn rheap_shared_alloc(heap: *mut Rheap, dst: u32, fields: u32) -> u8;
+    pub fn rheap_shared_alloc_raw(heap: *mut Rheap, dst: u32, fields: u32) -> u8;
+    pub fn rheap_shared_load(
+        heap: *mut Rheap,
+        dst: u32,
+        src: u32,
+        field: u32,
+        value: *mut RheapValue,
+    ) -> u8;
+    pub fn rheap_shared_load_untold(heap: *mut Rheap, dst: u32, src: u32, field: u32) -> u8;
+    pub fn rheap_shared_peek(
+        heap: *mut Rheap,
+        src: u32,
+        field: u32,
+        value: *mut RheapValue,
+    ) -> u8;
+    pub fn rheap_shared_store_nil(heap: *mut Rheap, object: u32, field: u32) -> u8;
+    pub fn rheap_shared_store_int(heap: *mut Rheap, object: u32, field: u32, number: i64) -> u8;
+    pub fn rheap_shared_store_root(heap: *mut Rheap, object: u32, field: u32, src: u32) -> u8;
+    pub fn rheap_shared_copy(heap: *mut Rheap, dst: u32, src: u32) -> u8;
+    pub fn rheap_shared_drop(heap: *mut Rheap, root: u32) -> u8;
+    pub fn rheap_shared_insist_alloc(heap: *mut Rheap, dst: u32, fields: u32) -> u8;
+    pub fn rheap_shared_insist_alloc_raw(heap: *mut Rheap, dst: u32, fields: u32) -> u8;
+    pub fn rheap_shared_insist_store_nil(heap: *mut Rheap, object: u32, field: u32) -> u8;
+    pub fn rheap_shared_insist_store_int(
+        heap: *mut Rheap,
+        object: u32,
+        field: u32,
+        number: i64,
+    ) -> u8;
+    pub fn rheap_shared_insist_store_root(
+        heap: *mut Rheap,
+        object: u32,
+        field: u32,
+        src: u32,
+    ) -> u8;
+
     pub fn rheap_root(heap: *mut Rheap, root: RheapRootId, value: *mut RheapValue) -> u8;
     pub fn rheap_fields(heap: *mut Rheap, root: RheapRootId, fields: *mut u32) -> u8;
     pub fn rheap_field(
@@ -314,6 +446,7 @@ extern "C" {
     ) -> u8;
 
     pub fn rheap_room(heap: *mut Rheap, fields: u32, room: *mut RheapWords) -> u8;
+    pub fn rheap_short(heap: *mut Rheap, is: *mut u8) -> u8;
 
     pub fn rheap_watch_room(heap: *mut Rheap, additional: u32) -> u8;
     pub fn rheap_watch(heap: *mut Rheap, owner: u32, root: RheapRootId, ticket: *mut u64) -> u8;

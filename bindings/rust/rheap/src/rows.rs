@@ -1,24 +1,39 @@
-use crate::error::Result;
+use crate::error::{Result, RowError};
 use crate::heap::{owner_of, Asked, Heap};
+use crate::making::{given, owner_of as owner_of_all, NIL};
 use crate::raw;
 use crate::root::Root;
-use crate::value::Value;
+use crate::value::{Operand, Value};
 
-/// The root that stands so many slots behind this one, whether its owner has that or not.
+/// So many values are handed to the library at once.
+const AT_ONCE: usize = 16;
+
+/// The calls by which the library stores values in a row.
+type StoreRow = unsafe extern "C" fn(
+    *mut raw::Rheap,
+    u32,
+    raw::RheapRootId,
+    u32,
+    *const raw::RheapInit,
+    usize,
+    *mut usize,
+) -> u8;
+
+/// The root that stands so many slots after this one, whether its owner has that or not.
 fn behind(first: Root, slots: usize) -> Root {
     let slots = u32::try_from(slots).unwrap_or(u32::MAX);
     Root::new(first.owner(), first.slot().saturating_add(slots))
 }
 
-/// # Roots in a row, and paths
+/// # Roots and values in a row, and paths
 ///
 /// Each of these calls is a list of commands, done one after the other up to the first that is
-/// refused. Those before it stay done, and the error is that of the one that was refused.
+/// refused. Those before it stay done: the [`RowError`] has how many, and the refusal.
 impl Heap {
     /// The roots from `first` on take the fields from `from` on of the object that `src` names, as many
     /// as `values` has places. Their values are written there.
     ///
-    /// If `src` is one of these roots, let it be the last: the fields behind its own would be those of
+    /// If `src` is one of these roots, let it be the last: the fields after its own would be those of
     /// the object that it then names.
     ///
     /// ```
@@ -43,7 +58,7 @@ impl Heap {
     /// # Errors
     ///
     /// [`Error::NotYours`], [`Error::NotObject`], [`Error::NoField`]; [`Error::NoRoot`] if there is no
-    /// slot behind the last one that was loaded.
+    /// slot after the last one that was loaded.
     ///
     /// [`Error::NotYours`]: crate::Error::NotYours
     /// [`Error::NotObject`]: crate::Error::NotObject
@@ -55,7 +70,7 @@ impl Heap {
         src: Root,
         from: u32,
         values: &mut [Value],
-    ) -> Result<()> {
+    ) -> Result<(), RowError> {
         // More than an owner has slots are never loaded.
         let mut told = [raw::RheapValue::default(); raw::MAX_SLOTS as usize + 1];
         let length = values.len().min(told.len());
@@ -81,9 +96,121 @@ impl Heap {
             status => {
                 let field = from.saturating_add(count as u32);
                 let asked = Asked::of_field(behind(first, count), src, field);
-                Err(self.refused(status, src, asked))
+                Err(RowError::after(count, self.refused(status, src, asked)))
             }
         }
+    }
+
+    /// As [`Heap::load_roots`] of `length` fields, where nobody looks at their values.
+    ///
+    /// # Errors
+    ///
+    /// As [`Heap::load_roots`].
+    pub fn load_roots_untold(
+        &mut self,
+        first: Root,
+        src: Root,
+        from: u32,
+        length: usize,
+    ) -> Result<(), RowError> {
+        let mut count = 0;
+        // SAFETY: open, alone and apart, as at `Heap`.
+        let status = unsafe {
+            raw::rheap_load_roots_untold(
+                self.at(),
+                owner_of(first, src),
+                first.id(),
+                src.id(),
+                from,
+                length,
+                &mut count,
+            )
+        };
+        match status {
+            raw::DONE => Ok(()),
+            status => {
+                let field = from.saturating_add(count as u32);
+                let asked = Asked::of_field(behind(first, count), src, field);
+                Err(RowError::after(count, self.refused(status, src, asked)))
+            }
+        }
+    }
+
+    /// The fields from `from` on of the object that `object` names take these values: nil, numbers and
+    /// what roots hold. In a cycle at most `ratio + 5` units follow each store; none follow outside.
+    ///
+    /// ```
+    /// # fn main() -> Result<(), rheap::Error> {
+    /// # use rheap::{values, Heap, Operand, Sizes, Value};
+    /// # let mut heap = Heap::sized(Sizes { words: 100, biggest: 8, ratio: 32, owners: 1, slots: 8 })?;
+    /// # let owner = heap.owner(0)?;
+    /// let (frame, list) = (owner.slot(0)?, owner.slot(1)?);
+    /// heap.alloc(list, 2)?;
+    /// heap.alloc(frame, 4)?;
+    /// heap.store_row(frame, 1, &values![7, Operand::Nil, list])?;
+    /// assert_eq!(heap.peek(frame, 1)?, Value::Int(7));
+    /// assert_eq!(heap.peek(frame, 3)?, Value::Object { fields: 2 });
+    /// # Ok(())
+    /// # }
+    /// ```
+    ///
+    /// # Errors
+    ///
+    /// That of the first store that is refused, as [`Heap::store`] has it. The values before it are
+    /// stored.
+    pub fn store_row(
+        &mut self,
+        object: Root,
+        from: u32,
+        values: &[Operand],
+    ) -> Result<(), RowError> {
+        self.stored_row(raw::rheap_store_row, object, from, values)
+    }
+
+    /// As [`Heap::store_row`], where each store is as [`Heap::insist_store`].
+    ///
+    /// # Errors
+    ///
+    /// As [`Heap::store_row`], but never [`Error::LogFull`](crate::Error::LogFull).
+    pub fn insist_store_row(
+        &mut self,
+        object: Root,
+        from: u32,
+        values: &[Operand],
+    ) -> Result<(), RowError> {
+        self.stored_row(raw::rheap_insist_store_row, object, from, values)
+    }
+
+    /// Stores some values at once, and then those after them: it is one list of stores.
+    fn stored_row(
+        &mut self,
+        call: StoreRow,
+        object: Root,
+        from: u32,
+        values: &[Operand],
+    ) -> Result<(), RowError> {
+        let owner = owner_of_all(object, values);
+        let (mut field, mut done) = (from, 0);
+        for some in values.chunks(AT_ONCE) {
+            let mut array = [NIL; AT_ONCE];
+            for (place, value) in array.iter_mut().zip(some) {
+                *place = given(*value);
+            }
+            let (length, mut count) = (some.len(), 0);
+            // SAFETY: open, alone and apart, as at `Heap`; the array has as many values or more.
+            let status = unsafe {
+                let at = array.as_ptr();
+                call(self.at(), owner, object.id(), field, at, length, &mut count)
+            };
+            if status != raw::DONE {
+                let field = field.saturating_add(count as u32);
+                let stored = self.stored(status, object, field, some[count]);
+                return stored.map_err(|error| RowError::after(done + count, error));
+            }
+            field = field.saturating_add(length as u32);
+            done += length;
+        }
+        Ok(())
     }
 
     /// The fields from `from` on of the object that `object` names take what the roots from `first` on
@@ -103,7 +230,7 @@ impl Heap {
         from: u32,
         first: Root,
         length: usize,
-    ) -> Result<()> {
+    ) -> Result<(), RowError> {
         let mut count = 0;
         // SAFETY: open, alone and apart, as at `Heap`.
         let status = unsafe {
@@ -118,6 +245,7 @@ impl Heap {
             )
         };
         self.stored_in_a_row(status, object, from, first, count)
+            .map_err(|error| RowError::after(count, error))
     }
 
     /// As [`Heap::store_roots`], where each store is as [`Heap::insist_store`].
@@ -131,7 +259,7 @@ impl Heap {
         from: u32,
         first: Root,
         length: usize,
-    ) -> Result<()> {
+    ) -> Result<(), RowError> {
         let mut count = 0;
         // SAFETY: open, alone and apart, as at `Heap`.
         let status = unsafe {
@@ -146,6 +274,7 @@ impl Heap {
             )
         };
         self.stored_in_a_row(status, object, from, first, count)
+            .map_err(|error| RowError::after(count, error))
     }
 
     fn stored_in_a_row(
@@ -170,8 +299,8 @@ impl Heap {
     ///
     /// # Errors
     ///
-    /// [`Error::NoRoot`](crate::Error::NoRoot) if there is no slot behind the last one that became nil.
-    pub fn drop_roots(&mut self, first: Root, length: usize) -> Result<()> {
+    /// [`Error::NoRoot`](crate::Error::NoRoot) if there is no slot after the last one that became nil.
+    pub fn drop_roots(&mut self, first: Root, length: usize) -> Result<(), RowError> {
         let mut count = 0;
         // SAFETY: open, alone and apart, as at `Heap`.
         let status = unsafe {
@@ -181,7 +310,8 @@ impl Heap {
             raw::DONE => Ok(()),
             status => {
                 let root = behind(first, count);
-                Err(self.refused(status, root, Asked::of(root, root)))
+                let error = self.refused(status, root, Asked::of(root, root));
+                Err(RowError::after(count, error))
             }
         }
     }
@@ -211,7 +341,7 @@ impl Heap {
     /// # Errors
     ///
     /// As a [`Heap::load`] of each field. `dst` then has what it took last.
-    pub fn load_path(&mut self, dst: Root, src: Root, fields: &[u32]) -> Result<Value> {
+    pub fn load_path(&mut self, dst: Root, src: Root, fields: &[u32]) -> Result<Value, RowError> {
         let (mut count, mut value) = (0, raw::RheapValue::default());
         // SAFETY: open, alone and apart, as at `Heap`.
         let status = unsafe {
@@ -231,7 +361,8 @@ impl Heap {
             status => {
                 let object = if count == 0 { src } else { dst };
                 let field = fields.get(count).copied().unwrap_or_default();
-                Err(self.refused(status, object, Asked::of_field(dst, object, field)))
+                let error = self.refused(status, object, Asked::of_field(dst, object, field));
+                Err(RowError::after(count, error))
             }
         }
     }

@@ -1,7 +1,7 @@
 //! Each refusal by each call that has it, with its numbers and its line. What comes after 2^62 calls
 //! is tested beside the code.
 
-use rheap::{Error, Heap, Operand, Root, Sizes, Value, MAX_INT, MIN_INT};
+use rheap::{values, Error, Heap, Operand, Root, Sizes, Value, MAX_INT, MIN_INT};
 
 const SIZES: Sizes = Sizes {
     words: 1000,
@@ -327,6 +327,60 @@ fn numbers_and_fields_out_of_their_ranges() {
 
 /// More calls of one kind than any of these heaps has words or entries of its log.
 const MANY: i64 = 100_000;
+
+/// The refusal of an object with its values is that of the first value that is wrong.
+#[test]
+fn an_object_with_its_values() -> Result<(), Error> {
+    let mut heap = heap();
+    let (shared, mine, theirs) = (root(&heap, 0, 0), root(&heap, 1, 0), root(&heap, 2, 0));
+    let mut refused =
+        |dst, fields, values: &[Operand]| heap.make_of(dst, fields, values).unwrap_err();
+    let two = Error::NotYours {
+        first: mine,
+        second: theirs,
+    };
+    assert_eq!(refused(mine, 2, &values![1, theirs]), two);
+    assert_eq!(refused(shared, 3, &values![shared, mine, theirs]), two);
+    let none = Error::NoField {
+        root: mine,
+        field: 1,
+        fields: 1,
+    };
+    assert_eq!(refused(mine, 1, &values![1, mine]), none);
+    let number = MAX_INT + 1;
+    assert_eq!(
+        refused(mine, 2, &values![1, number]),
+        Error::IntRange { number }
+    );
+    let many = vec![Operand::Nil; 4096];
+    let fields = 4096;
+    assert_eq!(refused(mine, 1, &many), Error::FieldsRange { fields });
+    assert_eq!(refused(mine, fields, &[]), Error::FieldsRange { fields });
+    let (need, free) = (1001, 1000);
+    assert_eq!(refused(mine, 999, &[]), Error::SpaceFull { need, free });
+    assert_eq!(heap.stat().used, 0);
+
+    heap.make(mine, &[])?;
+    let reference = Error::RawField {
+        root: shared,
+        field: 2,
+        value: Value::Object { fields: 0 },
+    };
+    let row = values![7, Operand::Nil, mine];
+    assert_eq!(heap.make_raw(shared, &row), Err(reference));
+    assert_eq!(heap.insist_make_raw(shared, &row), Err(reference));
+    heap.make(shared, &row)?;
+    let fields: Vec<Value> = heap.fields(shared)?.collect();
+    assert_eq!(
+        fields,
+        [Value::Int(7), Value::Nil, Value::Object { fields: 0 }]
+    );
+    heap.insist_make_of(mine, 4, &values![mine, 1])?;
+    let fields: Vec<Value> = heap.fields(mine)?.collect();
+    assert_eq!(fields[..2], [Value::Object { fields: 0 }, Value::Int(1)]);
+    assert_eq!(fields[2..], [Value::Nil, Value::Nil]);
+    Ok(())
+}
 
 #[test]
 fn fields_in_a_row() {

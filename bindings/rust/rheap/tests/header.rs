@@ -7,7 +7,8 @@ use std::path::Path;
 
 const RUST: &str = include_str!("../src/raw.rs");
 
-/// The header: that of the repository, or the one that `RHEAP_HEADER` names.
+/// The header: the one that `RHEAP_HEADER` names, or that of the repository or the installation that
+/// the crate is in.
 fn header() -> String {
     let path = match std::env::var_os("RHEAP_HEADER") {
         Some(path) => path.into(),

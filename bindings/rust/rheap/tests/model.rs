@@ -121,6 +121,48 @@ impl Plain {
         Ok(())
     }
 
+    /// An object with its values, which are all looked at before it is made.
+    fn make(&mut self, dst: Root, fields: u32, values: &[Operand], raw: bool) -> Result<(), Error> {
+        if fields > 4095 {
+            return Err(Error::FieldsRange { fields });
+        }
+        let mut taken = vec![Held::Nil; fields as usize];
+        // The call is made for the first owner that isn't owner 0.
+        let mut first = dst;
+        for (field, operand) in (0..).zip(values) {
+            if let Operand::Root(src) = *operand {
+                if first.is_shared() && !src.is_shared() {
+                    first = src;
+                }
+                Plain::mine(first, src)?;
+            }
+            if field >= fields {
+                return Err(Error::NoField {
+                    root: dst,
+                    field,
+                    fields,
+                });
+            }
+            taken[field as usize] = match *operand {
+                Operand::Nil => Held::Nil,
+                Operand::Int(number) if (MIN_INT..=MAX_INT).contains(&number) => Held::Int(number),
+                Operand::Int(number) => return Err(Error::IntRange { number }),
+                Operand::Root(src) => self.held(src),
+            };
+            if let (true, Held::Object(_)) = (raw, taken[field as usize]) {
+                let value = self.value(taken[field as usize]);
+                return Err(Error::RawField {
+                    root: dst,
+                    field,
+                    value,
+                });
+            }
+        }
+        self.roots[Plain::at(dst)] = Held::Object(self.objects.len());
+        self.objects.push(Object { raw, fields: taken });
+        Ok(())
+    }
+
     fn store_ints(&mut self, root: Root, from: u32, numbers: &[i64]) -> Result<(), Error> {
         for (field, number) in (from..).zip(numbers) {
             self.object(root, field)?;
@@ -219,7 +261,7 @@ fn random_calls_are_answered_as_by_a_plain_heap() {
             let (a, b) = (random.root(&heap), random.root(&heap));
             let field = random.below(7) as u32;
             let insists = random.below(4) == 0;
-            let kind = random.below(19);
+            let kind = random.below(22);
             macro_rules! compare {
                 ($told:expr, $due:expr) => {{
                     let told = $told;
@@ -288,6 +330,28 @@ fn random_calls_are_answered_as_by_a_plain_heap() {
                         numbers[..read].to_vec()
                     });
                     compare!(told, plain.load_ints(a, field % 3, length));
+                }
+                19..=21 => {
+                    let most = [70, 7][usize::from(random.below(20) != 0)];
+                    let count = random.below(most);
+                    let values: Vec<Operand> = (0..count).map(|_| random.operand(&heap)).collect();
+                    let raw = random.below(4) == 0;
+                    let fields = match random.below(20) {
+                        0 => random.below(4099) as u32,
+                        1 => 4096,
+                        more => count as u32 + more as u32 % 3,
+                    };
+                    let told = match (raw, insists, fields as usize == values.len()) {
+                        (false, false, true) => heap.make(a, &values),
+                        (true, false, true) => heap.make_raw(a, &values),
+                        (false, true, true) => heap.insist_make(a, &values),
+                        (true, true, true) => heap.insist_make_raw(a, &values),
+                        (false, false, false) => heap.make_of(a, fields, &values),
+                        (true, false, false) => heap.make_raw_of(a, fields, &values),
+                        (false, true, false) => heap.insist_make_of(a, fields, &values),
+                        (true, true, false) => heap.insist_make_raw_of(a, fields, &values),
+                    };
+                    compare!(told, plain.make(a, fields, &values, raw));
                 }
                 _ => match random.below(20) {
                     0 => heap.collect().expect("epochs are left"),
