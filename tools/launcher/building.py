@@ -49,6 +49,9 @@ class Built:
         self.notes.unlink(missing_ok=True)
         quick.put(made, self.file)
         self.notes.write_text(f"{state}\n{with_version}\n{self.by}")
+        # A clock that was set back meanwhile doesn't make the file the newer one.
+        made = self.file.stat()
+        os.utime(self.notes, ns=(made.st_atime_ns, made.st_mtime_ns))
 
     def toolchain(self):
         """The toolchain that it was built with."""

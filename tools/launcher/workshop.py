@@ -18,8 +18,9 @@ from tree import TOP
 OUT = TOP / "out"
 ENDING = (signal.SIGINT, signal.SIGTERM, signal.SIGHUP)
 DISK_IS_FULL = "the disk is full: building needs {} MB below {}"
-# How long a command that is ended may take to end what it started, and to remove what it made for a while.
-SECONDS_TO_END = 2
+# How long a command that is ended may take to end what it started, and to remove what it made for a while: a busy machine gives it
+# little time.
+SECONDS_TO_END = 10
 # How nice those commands are for which nobody waits longest.
 NICE = 4
 
@@ -99,12 +100,14 @@ def send(number, running):
             os.killpg(ran.pid, number)
 
 
-def give_way(ran):
-    """Has a command, and what it starts, give way to others where there are too few processors. The system may share them among
-    sessions first, each of which has a number of its own for that."""
-    with contextlib.suppress(OSError):
-        os.setpriority(os.PRIO_PROCESS, ran.pid, NICE)
-        pathlib.Path(f"/proc/{ran.pid}/autogroup").write_text(str(NICE))
+def give_way(ran, rank):
+    """Has a command, and what it starts, give way to others where there are too few processors, as much as the launcher does itself;
+    and more, but for rank 0. The system may share them among sessions first, each of which has a number of its own for that."""
+    nice = min(os.nice(0) + (NICE if rank else 0), 19)
+    if nice > 0:
+        with contextlib.suppress(OSError):
+            os.setpriority(os.PRIO_PROCESS, ran.pid, nice)
+            pathlib.Path(f"/proc/{ran.pid}/autogroup").write_text(str(nice))
 
 
 class Workshop:
@@ -190,8 +193,7 @@ class Workshop:
                     [str(it) for it in words], stdin=subprocess.DEVNULL, stdout=said, stderr=subprocess.STDOUT,
                     start_new_session=True, **how)
                 self.running.add(ran)
-            if rank:
-                give_way(ran)
+            give_way(ran, rank)
             status = ran.wait()
             with self.guard:
                 self.running.discard(ran)
