@@ -166,7 +166,8 @@ def exported(name, path, params):
         else:
             outer += [f"{it} %p{at}" for it in TYPES[kind]]
             inner += [f"{it} %p{at}" for it in TYPES[kind]]
-    head = f"define noundef zeroext i8 @{name}({', '.join(outer)}) nounwind {{\n"
+    # With the attributes of its function, so that one function is made of both: code for other processor features is never inlined.
+    head = f"define noundef zeroext i8 @{name}({', '.join(outer)}) {module.PLAIN} {{\n"
     return [head, *code.splitlines(True), f'  %r = call i8 @"{path}"({", ".join(inner)})\n', "  ret i8 %r\n", "}\n"]
 
 
