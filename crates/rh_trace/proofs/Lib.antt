@@ -12,7 +12,6 @@ pub mod TraceParts
 pub mod ResizedHeaps
 pub mod WatchedHeaps
 pub mod TraysInOrder
-pub mod HeapDump
 pub mod OneTotal
 pub mod LinesInTurn
 pub mod EitherText

@@ -30,7 +30,7 @@ use Rattle.rh_text.specs.Output.{AppendsPrefix, AppendsLess}
 use Rattle.rh_syntax.specs.Spelling.{Script}
 use Rattle.rh_syntax.specs.Reading.{trace_of}
 use Rattle.rh_dump.specs.PlainDump.{plain_dump_of}
-use Rattle.rh_trace.specs.HeapDump.{dump_of}
+use Rattle.rh_heap_dump.specs.HeapDump.{dump_of}
 use Rattle.rh_syntax.specs.declared.request.Request.{Request}
 use Rattle.rh_syntax.specs.declared.request.Request.TheVariants as requests
 use Rattle.rh_trace.specs.Answers as answers

@@ -6,7 +6,7 @@ use Rattle.rh_trace.specs.declared.answer.Answer.{Answer}
 use Rattle.rh_trace.specs.declared.answer.Answer.TheVariants as forms
 use Rattle.rh_trace.specs.Answers as answers
 use Rattle.rh_trace.specs.Answers.{Answered}
-use Rattle.rh_trace.specs.HeapDump.{dump_of}
+use Rattle.rh_heap_dump.specs.HeapDump.{dump_of}
 
 -- what was answered by a heap and trays that are so afterwards
 abbrev pub answered_of : {A : Type 0} → HeapState → Trays → Answer A → Answered

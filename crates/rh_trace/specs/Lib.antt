@@ -9,7 +9,7 @@ pub use Rattle.rh_engine.specs.Trays
 pub use Rattle.rh_engine.specs.Engine
 pub use Rattle.rh_engine.specs.CycleAnswers
 pub mod Either
-pub mod HeapDump
+pub use Rattle.rh_heap_dump.specs.HeapDump
 pub mod Events
 pub mod Answers
 pub mod Answering

@@ -21,7 +21,7 @@ use Rattle.rh_core.specs.Commands.{is_limit_answer, AnswersAs, plain_unless}
 use Rattle.rh_core.specs.Stat.{stat_of}
 use Rattle.rh_model.specs.Plain.{PlainHeap, empty_plain, step}
 use Rattle.rh_dump.specs.PlainDump.{plain_dump_of}
-use Rattle.rh_trace.specs.HeapDump.{dump_of}
+use Rattle.rh_heap_dump.specs.HeapDump.{dump_of}
 use Rattle.rh_engine.specs.declared.engine.TrayDeal.{TrayDeal}
 use Rattle.rh_engine.specs.declared.engine.DealRefusal.{DealRefusal}
 use Rattle.rh_engine.specs.declared.engine.GiveRefusal.{GiveRefusal}

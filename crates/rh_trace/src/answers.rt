@@ -8,11 +8,10 @@ ghost use Rattle.rh_engine.specs.CycleAnswers.{stat_text};
 ghost use Rattle.rh_engine.specs.WatchAnswers.{gone_text};
 ghost use Rattle.rh_trace.specs.Answering.{answered_of};
 ghost use Rattle.rh_trace.specs.Answers.{answer_line, answered_text, is_answer, total_line, trays_text, with_line_end};
-ghost use Rattle.rh_trace.specs.HeapDump.{dump_of};
+ghost use Rattle.rh_heap_dump.specs.HeapDump.{dump_of};
 ghost use Rattle.rh_trace.specs.Run.{Writes};
 
 use crate::answer::Answer;
-use crate::heap_dump::graph;
 use crate::listener::Listener;
 use crate::player::Player;
 use crate::stop::Stop;
@@ -23,6 +22,7 @@ use rh_engine::{
     Trays, gone_line, put_abandon, put_begin, put_deal, put_flip, put_give, put_idle, put_join,
     put_recall, put_resize, put_shade, put_stat, put_tickets, put_tray, put_unwatch, put_watch,
 };
+use rh_heap_dump::graph;
 use rh_layout::limits::MAX_CALLS;
 use rh_layout::{Refusal, Reply};
 use rh_syntax::{Header, Request, send_answer};

@@ -8,7 +8,6 @@ mod answers;
 mod both;
 mod by_way;
 mod fixed;
-mod heap_dump;
 pub mod laws;
 mod lines;
 mod listener;
@@ -28,7 +27,6 @@ pub use answers::{Answers, put_total};
 pub use both::{Both, Pair};
 pub use by_way::{run, run_bytes};
 pub use fixed::{Fixed, fixed_fault};
-pub use heap_dump::graph;
 pub use lines::run_lines;
 pub use listener::Listener;
 pub use player::Player;
@@ -38,6 +36,7 @@ pub use reading::read_trace;
 pub use rh_engine::{
     DealRefusal, Engine, GiveRefusal, JoinRefusal, ResizeRefusal, TicketsRefusal, TrayDeal, Trays,
 };
+pub use rh_heap_dump::graph;
 pub use rh_syntax::{
     Header, Kind, Line, ParseError, Request, Trace, TraceFault, TrayName, command_of,
     header_or_fault, parse, print, print_logged, request_or_fault, tray_name_of, write_answer,

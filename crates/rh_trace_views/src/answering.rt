@@ -9,7 +9,7 @@ ghost use Rattle.rh_engine.specs.WatchAnswers.{gone_text};
 ghost use Rattle.rh_trace.specs.Answering.{answered_of};
 ghost use Rattle.rh_trace.specs.Answers as answers;
 ghost use Rattle.rh_trace.specs.Answers.{answer_line, trays_text, with_line_end};
-ghost use Rattle.rh_trace.specs.HeapDump.{dump_of};
+ghost use Rattle.rh_heap_dump.specs.HeapDump.{dump_of};
 ghost use Rattle.rh_trace_views.specs.Cycles.{entries_of};
 ghost use Rattle.rh_trace_views.specs.Views.{told_text};
 

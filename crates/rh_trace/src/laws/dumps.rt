@@ -10,7 +10,7 @@ ghost use Rattle.rh_core.specs.Heap.{HeapState, IsHeap};
 ghost use Rattle.rh_dump.specs.Dump.{IsGraph};
 ghost use Rattle.rh_dump.specs.texts.Line.{dump_text};
 ghost use Rattle.rh_dump.specs.PlainDump.{plain_dump_of};
-ghost use Rattle.rh_trace.specs.HeapDump.{dump_of};
+ghost use Rattle.rh_heap_dump.specs.HeapDump.{dump_of};
 
 use rh_dump::laws::{
     dumps_are_graphs, equal_dump_texts_are_same_graphs, equal_dumps_are_same_graphs,

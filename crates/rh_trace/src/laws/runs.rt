@@ -17,7 +17,7 @@ ghost use Rattle.rh_watches.specs.Watches.{WatchTable};
 ghost use Rattle.rh_trace.specs.Answers as answers;
 ghost use Rattle.rh_engine.specs.Engine.{EngineState, deal_line_step, gone_line_step, give_line_step, join_line_step, resize_line_step, tickets_line_step, unwatch_line_step, watch_line_step};
 ghost use Rattle.rh_trace.specs.Events.{events_of, request_events, ChangesByEvents, IsOfWatches, MayChangeTrays, TellsAnswer};
-ghost use Rattle.rh_trace.specs.HeapDump.{dump_of};
+ghost use Rattle.rh_heap_dump.specs.HeapDump.{dump_of};
 ghost use Rattle.rh_trace.specs.Run.{config_of, answers_to, engine_after, new_run, request_step};
 ghost use Rattle.rh_syntax.specs.Spelling.{Script};
 ghost use Rattle.rh_engine.specs.Trays.{Tray, tray_named, AreFewInOrder};

@@ -2,7 +2,7 @@ use Rattle.std.proofs.Common.{subst}
 use Rattle.std.specs.Io.KnownBytes.{Appends}
 use Rattle.std.proofs.lemmas.Result.{err_from_is_err_and}
 use Rattle.rh_text.specs.Output.{AppendsLess}
-use Rattle.rh_trace.specs.HeapDump.{dump_of}
+use Rattle.rh_heap_dump.specs.HeapDump.{dump_of}
 use Rattle.rh_dump.specs.texts.Line.{dump_text}
 use Rattle.rh_trace.proofs.WrittenInTurn.{nothing_of_dump}
 use Rattle.rh_trace.proofs.answers.write_heap_dump.Goals as goal

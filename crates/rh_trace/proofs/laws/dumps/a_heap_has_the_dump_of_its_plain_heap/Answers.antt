@@ -1,4 +1,4 @@
-use Rattle.rh_trace.proofs.HeapDump.{dump_of-plain}
+use Rattle.rh_heap_dump.proofs.HeapDump.{dump_of-plain}
 use Rattle.rh_trace.proofs.laws.dumps.a_heap_has_the_dump_of_its_plain_heap.Goals as goal
 
 pub returns : goal.returns

@@ -2,7 +2,7 @@ use Rattle.std.proofs.Common.{length}
 use Rattle.rh_space.specs.Space.{used_words}
 use Rattle.rh_model.specs.Plain as plain
 use Rattle.rh_core.specs.Mutator.{graph_of}
-use Rattle.rh_trace.proofs.HeapDump.{IsDumpable-heap}
+use Rattle.rh_heap_dump.proofs.HeapDump.{IsDumpable-heap}
 use Rattle.rh_trace.proofs.laws.dumps.equal_dump_texts_of_heaps_are_same_graphs.Goals as goal
 
 pub returns-clause-heaps : goal.returns-clause-heaps

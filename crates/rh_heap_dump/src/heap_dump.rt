@@ -3,7 +3,7 @@
 ghost use Rattle.std.specs.Prelude.{◌≡◌, IfOk};
 ghost use Rattle.rh_space.specs.Space.{used_words};
 ghost use Rattle.rh_core.specs.Mutator.{graph_of};
-ghost use Rattle.rh_trace.specs.HeapDump.{dump_of};
+ghost use Rattle.rh_heap_dump.specs.HeapDump.{dump_of};
 
 use rh_core::Heap;
 use rh_dump::{Graph, ObjectGraph, numbered_graph};

@@ -26,7 +26,7 @@ use Rattle.rh_core.specs.Heap.{HeapState}
 use Rattle.rh_dump.specs.Numbering.{dump_below, ReachesObjectsBelow}
 use Rattle.rh_dump.specs.Dumpable.{IsTellable, IsDumpable}
 use Rattle.rh_dump.specs.PlainDump.{plain_dump_of}
-use Rattle.rh_trace.specs.HeapDump.{dump_of}
+use Rattle.rh_heap_dump.specs.HeapDump.{dump_of}
 use Rattle.rh_dump.specs.lemmas.Reaching.{reaches_objects}
 
 -- a configuration without fault has its third test passed
