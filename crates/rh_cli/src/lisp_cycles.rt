@@ -12,7 +12,7 @@ use crate::program::{gathering, is_standard_input, kept_if, opened};
 use rh_choices::Limits;
 use rh_command_line::Ask;
 use rh_commands::{LineFault, tell};
-use rh_cycle_events::CycleEvents;
+use rh_cycle_events::lines_or_events;
 use rh_lisp_run::run_lisp_with_cycles;
 use std::alloc::Allocator;
 use std::io::{Read, Write};
@@ -108,7 +108,7 @@ where
         limits,
         &mut reader,
         &mut out,
-        CycleEvents::new(cycles, ask.views.events),
+        lines_or_events(cycles, ask.views.events),
         err,
     );
     Ok(status)

@@ -23,7 +23,7 @@ use crate::viewed_driving::{drive_viewed, reads_for};
 use rh_choices::{Limits, Telling};
 use rh_command_line::{Ask, Subcommand, Views};
 use rh_commands::{LineFault, ViewLog, converse, show, tell, tell_as, tell_ending};
-use rh_cycle_events::CycleEvents;
+use rh_cycle_events::lines_or_events;
 use rh_trace_views::writers;
 use std::alloc::Global;
 use std::env::{self, Args};
@@ -426,7 +426,7 @@ where
 {
     let (out, history, cycles) = outputs_of(rt, ask.file, &ask.views)?;
     let (out, history) = gathering_both(rt.alloc(), out, history)?;
-    let mut out = writers(out, history, CycleEvents::new(cycles, ask.views.events));
+    let mut out = writers(out, history, lines_or_events(cycles, ask.views.events));
     let mut log = ViewLog::new(reads_for(ask.subcommand));
     Ok(drive_viewed(
         threads,

@@ -2,7 +2,9 @@
 #![tactic(auto)]
 
 mod events;
+mod heard;
+pub mod laws;
 mod line;
 mod spelling;
 
-pub use events::CycleEvents;
+pub use events::{CycleEvents, lines_or_events};

@@ -1,5 +1,8 @@
 //! The line of a cycle, as its bytes come.
 
+ghost use Rattle.std.specs.Prelude.{◌≡◌, ◌<◌};
+ghost use Rattle.rh_cycle_events.specs.Line.{no_line, number_at, place_of, with_byte, with_digit};
+
 /// How many columns the line of a cycle has.
 const COLUMNS: usize = 19;
 
@@ -21,7 +24,10 @@ pub(crate) enum Column {
 
 impl Column {
     /// Its place among the columns, from 0.
-    fn place(self) -> usize {
+    fn place(self) -> usize
+        ensures place { result ≡ place_of self }
+        ensures within { result < COLUMNS }
+    {
         match self {
             Column::Number => 0,
             Column::Began => 3,
@@ -51,7 +57,9 @@ pub(crate) struct CycleLine {
 
 impl CycleLine {
     /// Nothing came yet.
-    pub(crate) fn new() -> CycleLine {
+    pub(crate) fn new() -> CycleLine
+        ensures { result ≡ no_line }
+    {
         CycleLine {
             numbers: [0; COLUMNS],
             column: 0,
@@ -61,32 +69,44 @@ impl CycleLine {
 
     /// Takes a byte of the line: a tab begins the next column, and a digit is one of the column's
     /// number. Of the words for an end only one has an `a`.
-    pub(crate) fn take(&mut self, byte: u8) {
-        match byte {
-            b'\t' => self.column = self.column.saturating_add(1),
-            b'0'..=b'9' => self.take_digit(byte - b'0'),
-            b'a' if self.column == END => self.is_abandoned = true,
-            _ => {}
+    pub(crate) fn take(&mut self, byte: u8)
+        ensures { self.new ≡ with_byte self.old byte }
+    {
+        if byte == b'\t' {
+            self.column = self.column.saturating_add(1);
+            return;
+        }
+        if byte >= b'0' && byte <= b'9' {
+            self.take_digit(byte - b'0');
+            return;
+        }
+        if byte == b'a' && self.column == END {
+            self.is_abandoned = true;
         }
     }
 
     /// Takes a digit. A number of 2^64 or more stays at 2^64 - 1.
-    fn take_digit(&mut self, digit: u8) {
-        if let Some(number) = self.numbers.get_mut(self.column) {
-            *number = number.saturating_mul(10).saturating_add(digit as u64);
+    fn take_digit(&mut self, digit: u8)
+        ensures { self.new ≡ with_digit self.old digit }
+    {
+        if self.column >= COLUMNS {
+            return;
         }
+        let number = self.numbers[self.column];
+        self.numbers[self.column] = number.saturating_mul(10).saturating_add(digit as u64);
     }
 
     /// The number in a column; 0 where it has none.
-    pub(crate) fn number(&self, column: Column) -> u64 {
-        match self.numbers.get(column.place()) {
-            Some(number) => *number,
-            None => 0,
-        }
+    pub(crate) fn number(&self, column: Column) -> u64
+        ensures { result ≡ number_at self.now (place_of column) }
+    {
+        self.numbers[column.place()]
     }
 
     /// Whether the cycle was abandoned.
-    pub(crate) fn is_abandoned(&self) -> bool {
+    pub(crate) fn is_abandoned(&self) -> bool
+        ensures { result ≡ self.now.is_abandoned }
+    {
         self.is_abandoned
     }
 }

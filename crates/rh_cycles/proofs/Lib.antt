@@ -4,3 +4,4 @@ pub mod Events
 pub mod Parts
 pub mod Begins
 pub mod Flips
+mod Asked

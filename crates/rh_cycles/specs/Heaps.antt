@@ -5,12 +5,28 @@ use Rattle.rh_core.specs.declared.stat.Stat.{Stat}
 use Rattle.rh_core.specs.Stat.{stat_of}
 use Rattle.rh_pace.specs.Paced.{PacedState}
 use Rattle.rh_cycles.specs.declared.cycle.Cycle.{Cycle}
+use Rattle.rh_cycles.specs.declared.kept.CyclesKept.{CyclesKept}
 use Rattle.rh_cycles.specs.Cycles.{Reading, ReaderState, capped, new_reader, no_counts, read_step, skip_step}
 
 -- how many calls were made, and the reader of the heap's numbers
 pub record CyclesState : Type 0 where
   pub calls : ℕ
   pub reader : ReaderState
+
+-- what it keeps, as plain numbers, and the same of these numbers
+abbrev pub kept_in : CyclesState → CyclesKept
+kept_in c = record {
+  calls = c.calls;
+  ended = c.reader.ended;
+  last = c.reader.last;
+  running = c.reader.running;
+}
+
+abbrev pub cycles_kept : CyclesKept → CyclesState
+cycles_kept k = record {
+  calls = k.calls;
+  reader = record { ended = k.ended; last = k.last; running = k.running };
+}
 
 -- before the first call
 abbrev pub new_cycles : PacedState → CyclesState

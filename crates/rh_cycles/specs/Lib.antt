@@ -2,3 +2,4 @@ pub mod Cycles
 pub mod Line
 pub mod Heaps
 pub mod Runs
+pub mod Asked

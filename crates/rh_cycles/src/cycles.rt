@@ -1,9 +1,10 @@
 //! The cycles of a heap that collects by itself.
 
 ghost use Rattle.std.specs.Prelude.{◌≡◌};
-ghost use Rattle.rh_cycles.specs.Heaps.{after_step, before_flip as before_flip_of, ends_with_flip as ends_with_flip_of, new_cycles, read_call, used_at_flip as used_at_flip_of};
+ghost use Rattle.rh_cycles.specs.Heaps.{after_step, before_flip as before_flip_of, cycles_kept, ends_with_flip as ends_with_flip_of, kept_in, new_cycles, read_call, used_at_flip as used_at_flip_of};
 
 use crate::cycle::{Cycle, EntryCounts, sum};
+use crate::kept::CyclesKept;
 use crate::reader::CycleReader;
 use rh_core::Stat;
 use rh_pace::PacedHeap;
@@ -46,6 +47,28 @@ impl Cycles {
         Cycles {
             calls: 0,
             reader: CycleReader::new(&heap.stat()),
+        }
+    }
+
+    /// The same as it was when it kept these numbers.
+    pub fn of_kept(kept: CyclesKept) -> Cycles
+        ensures { result ≡ cycles_kept kept }
+    {
+        Cycles {
+            calls: kept.calls,
+            reader: CycleReader::of(kept.ended, kept.last, kept.running),
+        }
+    }
+
+    /// What it keeps from one call to the next.
+    pub fn kept(&self) -> CyclesKept
+        ensures { result ≡ kept_in self.now }
+    {
+        CyclesKept {
+            calls: self.calls,
+            ended: self.reader.ended(),
+            last: self.reader.last(),
+            running: self.reader.running(),
         }
     }
 

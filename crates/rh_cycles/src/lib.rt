@@ -7,6 +7,7 @@
 
 mod cycle;
 mod cycles;
+mod kept;
 pub mod laws;
 mod line;
 mod reader;
@@ -14,5 +15,7 @@ mod running;
 
 pub use cycle::{Cycle, CycleEnd, EntryCounts};
 pub use cycles::Cycles;
+pub use kept::CyclesKept;
 pub use line::{HEADER, put_cycle};
 pub use reader::CycleReader;
+pub use running::Running;

@@ -42,6 +42,17 @@ impl CycleReader {
         }
     }
 
+    /// A reader that read so many cycles end, these numbers last, and this of the cycle that is on.
+    pub(crate) fn of(ended: u64, last: Stat, running: Option<Running>) -> CycleReader
+        ensures { result ≡ record { ended = ended; last = last; running = running } }
+    {
+        CycleReader {
+            ended,
+            last,
+            running,
+        }
+    }
+
     /// Reads the heap's numbers after a line, or a call, and the entries of its deal or give:
     /// `EntryCounts::NONE` of any other. Answers the cycle that ended at it, if one did whose begin
     /// was read.
@@ -139,6 +150,20 @@ impl CycleReader {
         ensures { result ≡ self.now.last }
     {
         self.last
+    }
+
+    /// How many cycles ended.
+    pub(crate) fn ended(&self) -> u64
+        ensures { result ≡ self.now.ended }
+    {
+        self.ended
+    }
+
+    /// What it keeps of the cycle that is on.
+    pub(crate) fn running(&self) -> Option<Running>
+        ensures { result ≡ self.now.running }
+    {
+        self.running
     }
 
     /// Goes on at these numbers. The cycles that flips ended since the last reading are counted, and

@@ -31,6 +31,8 @@ pub fn write_path<W: io::Write>(
     ensures err { OnErr result (AppendsLess (W.contents writer.old) (W.contents writer.new)
         (path_text object path.now)) }
     ensures failed { OnErr result (AreSpent writes.new) }
+    // Where the whole text was written, no write failed.
+    ensures none_failed { OnOk result (writes.new.failed ≡ false) }
 {
     let mut text = LineText::new();
     if path.is_empty() {

@@ -1,0 +1,3 @@
+pub mod PartsHeard
+pub mod Spelled
+pub mod LinesRead

@@ -1,0 +1,5 @@
+use Rattle.rh_cycle_events.proofs.LinesRead.{cycles-events}
+use Rattle.rh_cycle_events.proofs.laws.events_are_those_of_the_cycles.Goals as goal
+
+pub returns : goal.returns
+returns c = cycles-events

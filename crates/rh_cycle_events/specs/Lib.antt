@@ -1,0 +1,4 @@
+pub mod Line
+pub mod Texts
+pub mod Events
+pub mod Cycles
