@@ -34,14 +34,14 @@
  *
  * What a call costs, in instructions of x86-64, with the loop of 10 to 12 round it. No cycle is on,
  * and nothing is refused; docs/c.md says how they were counted, and what of:
- *   alloc, 4 fields     113     load           88 to 100     4 roots: load_roots      331
- *   store_root          106     load_untold           83       store_roots            349
- *   store_int            68     peek, field       69, 65       insist_store_roots     440
- *   store_nil            57     root, room        62, 26       drop_roots             101
- *   copy, drop       54, 37     same                  66     load_path, 3 fields      259
- *   143 numbers: store_ints  3,004, load_ints  2,378     watch and unwatch            119
- *   1,000 bytes: store_text  2,781, load_text  3,731     next_gone, none gone          28
- *   make of 2 values, 6 values    330, 696               store_row of 4 values        446
+ *   alloc, 4 fields     108     load            78 to 90     4 roots: load_roots      318
+ *   store_root           98     load_untold           76       store_roots            332
+ *   store_int            63     peek, field       64, 60       insist_store_roots     425
+ *   store_nil            54     root, room        57, 22       drop_roots              96
+ *   copy, drop       48, 32     same                  59     load_path, 3 fields      240
+ *   143 numbers: store_ints  2,998, load_ints  2,369     watch and unwatch            111
+ *   1,000 bytes: store_text  2,775, load_text  3,723     next_gone, none gone          26
+ *   make of 2 values, 6 values    324, 705               store_row of 4 values        433
  * The other rheap_insist_ calls cost what the plain ones do. In a cycle an allocation or a store does its
  * collector work too: 400 to 1,000 instructions, mostly. Words and memory: an object takes 2 words
  * and one for each field, a word 32 bytes, a ticket 12 bytes, and an entry of the log 32.
@@ -110,7 +110,11 @@ enum {
     RHEAP_BAD_KIND = 20,
     /* The factor isn't 100 to 1,000 percent, at_least is above at_most, or at_most is above
        16,777,216. */
-    RHEAP_BAD_GROWTH = 21
+    RHEAP_BAD_GROWTH = 21,
+    /* The text has more bytes than there is room for. */
+    RHEAP_TOO_LONG = 22,
+    /* A cycle is on. */
+    RHEAP_CYCLE_ON = 23
 };
 
 /* The kinds of values. */
@@ -240,6 +244,66 @@ typedef struct rheap_words {
     uint64_t free;
 } rheap_words;
 
+/* What a program keeps of a heap's cycles: rheap_cycle reads the heap by it. Make it by
+   RHEAP_CYCLE_READER_INIT, and leave its numbers alone from then on. It is for one heap. */
+typedef struct rheap_cycle_reader {
+    /* The readings after the first, and the cycles that ended since then. */
+    uint64_t reads;
+    uint64_t ended;
+    /* The heap's numbers at the last reading. */
+    rheap_stats last;
+    /* Of the cycle that is on: the epoch, the reading, the words used and the number of the last
+       store at its begin, and the most units that it spent from one reading to the next. */
+    uint64_t epoch;
+    uint64_t began;
+    uint64_t used;
+    uint64_t number;
+    uint64_t most;
+    /* 1 where a cycle is on whose begin was read, and else 0. */
+    uint8_t running;
+    /* 1 from the first reading on. */
+    uint8_t begun;
+} rheap_cycle_reader;
+
+/* A reader before its first reading. It initialises alone, as RHEAP_INIT does. */
+#ifdef __cplusplus
+#define RHEAP_CYCLE_READER_INIT {}
+#else
+#define RHEAP_CYCLE_READER_INIT { 0 }
+#endif
+
+/* The numbers of a cycle that ended. All are 0 where none did. */
+typedef struct rheap_ended_cycle {
+    /* Which one it is of those that ended since the first reading, from 1. */
+    uint64_t number;
+    /* The epoch at its begin. */
+    uint64_t epoch;
+    /* The readings at which it began and ended: the first one after the reader's first is 1. */
+    uint64_t began;
+    uint64_t ended;
+    /* The words that were used when it began, those that are used once it ended, and those that it
+       freed: the words used just before its end, less those after it. */
+    uint64_t used;
+    uint64_t live;
+    uint64_t freed;
+    /* The objects that it kept. */
+    uint64_t objects;
+    /* The units that allocated words granted, those that stores paid or a collection added, those
+       that were spent, and the most that were spent from one reading to the next. */
+    uint64_t granted;
+    uint64_t idle;
+    uint64_t spent;
+    uint64_t most;
+    /* The stores in it. */
+    uint64_t logged;
+    /* The words of the space once it ended. */
+    uint64_t words;
+    /* 1 where it ended with a flip, as all cycles of these calls do, and else 0. */
+    uint8_t flipped;
+    /* 1 where a cycle ended, and else 0. */
+    uint8_t is;
+} rheap_ended_cycle;
+
 /* Whether a heap has too few words: what rheap_short tells. */
 enum {
     /* It has enough. A heap of fixed sizes says so always. */
@@ -280,7 +344,8 @@ typedef struct rheap_growth {
 
    In a cycle at most `ratio` units of collector work follow each allocated word and each stored
    field, and 5 more each allocation and each store. It takes memory, as the other calls that open
-   a heap and rheap_watch_room do; no other call on a heap of fixed sizes does.
+   a heap and rheap_watch_room do, and rheap_release. rheap_dump_into and rheap_draw_into take some
+   while they run. No other call on a heap of fixed sizes does.
 
    Mind the order: words, live, biggest, ratio, owners, slots. All are of one type, so no compiler
    finds two of them swapped. rheap_open_sized leaves out `live` alone.
@@ -589,8 +654,7 @@ uint8_t rheap_short(rheap *heap, uint8_t *is);
    units. So take the room that you need, and free what you need no more. */
 
 /* Makes room for so many tickets more than there are: a new heap has none. It takes 12 bytes for
-   each, and is the only call on an open heap of fixed sizes that takes memory; refused, it changes
-   nothing.
+   each; refused, it changes nothing.
    DONE, TICKETS_RANGE, NO_MEMORY, NOT_OPEN. */
 uint8_t rheap_watch_room(rheap *heap, uint32_t additional);
 
@@ -632,6 +696,51 @@ uint8_t rheap_last_did(rheap *heap, rheap_did *did);
 
 /* The pace of the heap. DONE, NOT_OPEN. */
 uint8_t rheap_pace(rheap *heap, rheap_pacing *pacing);
+
+/* Reads the heap once more: where a cycle ended since the last reading, `cycle` tells its numbers,
+   and else all 0. The first reading of a reader tells none: a cycle that is on then isn't told at its
+   end, but counts. Nothing of the heap changes, and it costs no more for being read.
+
+   Read after each call that may end a cycle: an allocation, a store, rheap_collect or
+   rheap_increment. Where two ended since the last reading, or other work was done since the end of
+   one, none is told, but they count: `number` of the next one shows it. What was done in between is
+   taken for one call: the words that were allocated and the most units that were spent.
+   DONE, NOT_OPEN: the reader is as it was then. */
+uint8_t rheap_cycle(rheap *heap, rheap_cycle_reader *reader, rheap_ended_cycle *cycle);
+
+/* Gives memory back that a heap keeps for its next cycle alone: of two spaces, the one that holds no
+   object outside a cycle. A new block is taken for it, whose pages the system makes once they are
+   written, and the old one is freed. After the next cycle it is the other one's turn. Do so where
+   the program waits, say, or after much of what lived is gone.
+
+   CYCLE_ON comes exactly where a cycle is on: rheap_collect ends it. Where the new block is refused,
+   the old one stays. Nothing that can be read changes.
+   DONE, CYCLE_ON, NO_MEMORY, NOT_OPEN. */
+uint8_t rheap_release(rheap *heap);
+
+/* --- What a heap looks like --- */
+
+/* Each of these calls tells a text whole, at the start of `text`, or not at all: it is TOO_LONG where
+   it has more bytes than `length`. `needs` tells how many it has, after both. After all others `text`
+   is as it was, and `needs` is 0. Behind the text nothing is written, no zero either.
+
+   rheap_dump and rheap_draw, below, are the same calls, and take a null pointer too. So ask for the
+   bytes first, and then for the text: as long as no other call is made, it stays the same.
+
+   They take memory while they run, for the text and for what they note of the heap. Where it is
+   refused, nothing has changed. They do no collector work. */
+
+/* What the roots reach, as `rheap run` answers the line `dump`: lines of roots and of objects, which
+   are numbered breadth first, from the roots on. The same graph has the same text, wherever its
+   objects are. `rheap dump` reads it, and makes a snapshot for a viewer of it, or a picture.
+   DONE, TOO_LONG, NO_MEMORY, NOT_OPEN. */
+uint8_t rheap_dump_into(rheap *heap, void *text, size_t length, size_t *needs);
+
+/* A picture of the heap in SVG, as it stands: roots, objects with their addresses, and in a cycle the
+   copies and the log. If more than 4,096 words are used, or there are more than 300 objects, roots or
+   entries of the log, it shows bars alone. The same heap has the same picture.
+   DONE, TOO_LONG, NO_MEMORY, NOT_OPEN. */
+uint8_t rheap_draw_into(rheap *heap, void *text, size_t length, size_t *needs);
 
 /* --- Whole traces --- */
 
@@ -701,14 +810,28 @@ static inline rheap_init rheap_of_root(rheap_root_id root) {
     return value;
 }
 
+/* rheap_dump_into and rheap_draw_into, where `buffer` may be null: then there is room for no byte, and
+   only `length` is told. */
+static inline uint8_t rheap_dump(rheap *heap, char *buffer, size_t capacity, size_t *length) {
+    char none;
+    return buffer ? rheap_dump_into(heap, buffer, capacity, length)
+                  : rheap_dump_into(heap, &none, 0, length);
+}
+static inline uint8_t rheap_draw(rheap *heap, char *buffer, size_t capacity, size_t *length) {
+    char none;
+    return buffer ? rheap_draw_into(heap, buffer, capacity, length)
+                  : rheap_draw_into(heap, &none, 0, length);
+}
+
 /* The name of a status, without its prefix. */
 static inline const char *rheap_name(uint8_t status) {
     static const char *const names[] = {
         "DONE",       "NO_ROOT",       "NOT_YOURS",    "NOT_OBJECT", "NO_FIELD",      "RAW_FIELD",
         "INT_RANGE",  "FIELDS_RANGE",  "SPACE_FULL",   "LOG_FULL",   "NUMBERS_SPENT", "EPOCHS_SPENT",
         "NOT_OPEN",   "IS_OPEN",       "NO_PACE",      "BAD_SIZES",  "NO_MEMORY",     "WATCHES_FULL",
-        "NOT_WATCHED", "TICKETS_RANGE", "BAD_KIND",     "BAD_GROWTH"};
-    return status <= RHEAP_BAD_GROWTH ? names[status] : "UNKNOWN";
+        "NOT_WATCHED", "TICKETS_RANGE", "BAD_KIND",     "BAD_GROWTH",
+        "TOO_LONG",   "CYCLE_ON"};
+    return status <= RHEAP_CYCLE_ON ? names[status] : "UNKNOWN";
 }
 
 /* Slots of one owner that are used as a stack: rheap_push takes the next one, and rheap_pop_to

@@ -83,7 +83,9 @@ enum class status : std::uint8_t {
     not_watched = RHEAP_NOT_WATCHED,
     tickets_range = RHEAP_TICKETS_RANGE,
     bad_kind = RHEAP_BAD_KIND,
-    bad_growth = RHEAP_BAD_GROWTH
+    bad_growth = RHEAP_BAD_GROWTH,
+    too_long = RHEAP_TOO_LONG,
+    cycle_on = RHEAP_CYCLE_ON
 };
 
 // The name of a status, as "SPACE_FULL".
@@ -365,6 +367,12 @@ struct growth {
 // Whether a heap that grows has too few words, as rheap_short tells it.
 enum class shortage : std::uint8_t { none = RHEAP_AMPLE, at_most = RHEAP_AT_MOST,
                                      refused = RHEAP_REFUSED };
+
+// What is kept of the cycles of one heap, for heap::cycle.
+class cycle_reader {
+    friend class heap;
+    ::rheap_cycle_reader raw_ = RHEAP_CYCLE_READER_INIT;
+};
 
 // A heap that collects by itself. It is closed, and its memory freed, where it ends. It may be
 // moved; what it was moved from holds none, and its calls are NOT_OPEN. What names a heap, as
@@ -864,8 +872,47 @@ public:
         return of_call(status, static_cast<rh::shortage>(is));
     }
     rh::shortage shortage() { return try_shortage().value(); }
+    // The cycle that ended since the reader's last reading, if one did. A reader is for one heap.
+    result<std::optional<::rheap_ended_cycle>> try_cycle(cycle_reader &by) noexcept {
+        ::rheap_ended_cycle of;
+        const auto status = ::rheap_cycle(&raw_, &by.raw_, &of);
+        if (status != RHEAP_DONE) return static_cast<rh::status>(status);
+        return of.is != 0 ? std::optional<::rheap_ended_cycle>(of) : std::nullopt;
+    }
+    std::optional<::rheap_ended_cycle> cycle(cycle_reader &by) { return try_cycle(by).value(); }
+    // Gives memory back. CYCLE_ON where a cycle is on.
+    result<void> try_release() noexcept { return of_call(::rheap_release(&raw_)); }
+    void release() { try_release().value(); }
+
+    // What the heap looks like. These aren't noexcept: a string takes memory of its own.
+    result<std::string> try_dump() {
+        return text_of([this](char *text, std::size_t length, std::size_t *needs) {
+            return ::rheap_dump_into(&raw_, text, length, needs);
+        });
+    }
+    std::string dump() { return try_dump().value(); }
+    result<std::string> try_draw() {
+        return text_of([this](char *text, std::size_t length, std::size_t *needs) {
+            return ::rheap_draw_into(&raw_, text, length, needs);
+        });
+    }
+    std::string draw() { return try_draw().value(); }
 
 private:
+    // A text that a call writes whole: it is called again with a larger string until the text fits.
+    template <class Call>
+    static result<std::string> text_of(const Call &call) {
+        std::string text(512, '\0');
+        std::size_t needs = 0;
+        std::uint8_t told;
+        while ((told = call(text.data(), text.size(), &needs)) == RHEAP_TOO_LONG) {
+            text.resize(needs);
+        }
+        if (told != RHEAP_DONE) return static_cast<rh::status>(told);
+        text.resize(needs);
+        return text;
+    }
+
     // The second is lent, and not read before the call is done.
     static result<void> of_call(std::uint8_t told) noexcept { return static_cast<status>(told); }
     template <class T>

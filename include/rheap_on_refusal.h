@@ -22,6 +22,7 @@
  * any macro is passed over in C:
  *
  *     if ((rheap_watch)(&heap, 1, root, &ticket) == RHEAP_WATCHES_FULL) ..
+ *     (void)(rheap_dump)(&heap, NULL, 0, &length);     asks for the length: TOO_LONG
  *
  * Each thread has a handler of its own, and none at first. A refused call has changed nothing, with
  * the exceptions that rheap.h names, and a handler is called after the call has ended. So it may
@@ -147,6 +148,12 @@ static inline uint8_t rheap_handled(uint8_t status, const char *call) {
 #define rheap_stat(...) RHEAP_HANDLED(rheap_stat, __VA_ARGS__)
 #define rheap_last_did(...) RHEAP_HANDLED(rheap_last_did, __VA_ARGS__)
 #define rheap_pace(...) RHEAP_HANDLED(rheap_pace, __VA_ARGS__)
+#define rheap_cycle(...) RHEAP_HANDLED(rheap_cycle, __VA_ARGS__)
+#define rheap_release(...) RHEAP_HANDLED(rheap_release, __VA_ARGS__)
+#define rheap_dump_into(...) RHEAP_HANDLED(rheap_dump_into, __VA_ARGS__)
+#define rheap_draw_into(...) RHEAP_HANDLED(rheap_draw_into, __VA_ARGS__)
+#define rheap_dump(...) RHEAP_HANDLED(rheap_dump, __VA_ARGS__)
+#define rheap_draw(...) RHEAP_HANDLED(rheap_draw, __VA_ARGS__)
 #define rheap_pop_to(...) RHEAP_HANDLED(rheap_pop_to, __VA_ARGS__)
 
 /* Those of rheap_array.h, where it was included before. */

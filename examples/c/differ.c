@@ -8,7 +8,8 @@
    of it and the drop of that slot are one call of rheap_make; where it is refused, they are calls of their
    own, and so they are where it doesn't insist and a cycle is on or would begin, since the collector then
    works at other times. Some of the new objects get tickets. No ticket may be told while the root
-   holds its object by which it was taken, and each is told once: at the end all roots are dropped.
+   holds its object by which it was taken, and each is told once: at the end all roots are dropped. Where
+   calls insist it prints the dump of the heap after the last command, by rheap_dump.
 
    Usage: differ pace WORDS LIVE BIGGEST RATIO OWNERS SLOTS
             prints the mark and the log's limit
@@ -815,6 +816,17 @@ static void play_made(const making *made, FILE *played) {
     between_commands();
 }
 
+/* Prints the dump of the heap. */
+static void print_dump(void) {
+    size_t length;
+    char *text;
+    agree(rheap_dump(&heap, NULL, 0, &length) == RHEAP_TOO_LONG, "the length of a dump");
+    text = (char *)malloc(length);
+    must(text == NULL ? RHEAP_NO_MEMORY : rheap_dump(&heap, text, length, &length));
+    agree(fwrite(text, 1, length, stdout) == length, "the dump that is written");
+    free(text);
+}
+
 /* Plays standard input. `played` gets what is answered, where it isn't NULL. */
 static void play_all(FILE *played) {
     static row stores;
@@ -866,6 +878,9 @@ static void play_all(FILE *played) {
             }
             is_there = fgets(line, sizeof line, stdin) != NULL;
         }
+    }
+    if (insisting) {
+        print_dump();
     }
     must(rheap_stat(&heap, &stats));
     if (!insisting) {

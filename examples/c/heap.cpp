@@ -572,6 +572,38 @@ void growing() {
     IS(bool(other.try_open_growing({4096, 4})) && other.stat().free == 4096);
 }
 
+// What a heap looks like, its cycles, and memory that it gives back.
+void views() {
+    rh::heap heap(rh::sizes{400, 4});
+    rh::slots slots(heap, 1, 0, 2);
+    rh::scoped_root pair(slots);
+    heap.make(pair, {7, rh::nil});
+    IS(heap.dump() == "rheap 2\nroots 1\n1.0 @0\nobjects 1\n@0 2 7 nil\nend\n");
+    const std::string before = heap.draw();
+    IS(before.find("<svg") != std::string::npos && before.substr(before.size() - 7) == "</svg>\n");
+    rh::cycle_reader reader;
+    IS(!heap.cycle(reader));
+    heap.store(pair, 0, 8);
+    IS(heap.draw() != before);
+    IS(!heap.cycle(reader));
+    heap.collect();
+    const auto cycle = heap.cycle(reader);
+    IS(cycle && cycle->number == 1 && cycle->live == 4 && cycle->objects == 1);
+    IS(!heap.cycle(reader));
+    heap.release();
+    IS(heap.dump() == "rheap 2\nroots 1\n1.0 @0\nobjects 1\n@0 2 8 nil\nend\n");
+    while (heap.stat().cycle == 0) heap.insist_alloc(rh::root{1, 1}, 2);
+    IS(heap.try_release().status() == rh::status::cycle_on);
+    // A dump that is longer than the room that is tried first.
+    for (int n = 0; n < 60; n++) heap.insist_make(pair, {n, pair});
+    IS(heap.dump().size() > 600);
+    rh::heap other;
+    IS(other.try_dump().status() == rh::status::not_open);
+    IS(other.try_draw().status() == rh::status::not_open);
+    IS(other.try_cycle(reader).status() == rh::status::not_open);
+    IS(other.try_release().status() == rh::status::not_open);
+}
+
 // A list of a thousand cells while many more are let go, and an array of rheap_array.h beside it.
 void collecting() {
     rh::heap heap(rh::sizes{8192, 40});
@@ -616,6 +648,7 @@ int main() {
     scoped();
     many_slots();
     growing();
+    views();
     collecting();
     return wrong;
 }

@@ -1,7 +1,9 @@
 /* Memory that is refused, each piece in turn, at the calls that open a heap, and at both that run a
    whole trace: the status tells it, and nothing is left taken. So it is of rheap_watch_room, which
-   leaves the tickets that there are. Each other call is made while all memory is refused, and asks for
-   none. A heap that grows goes on with the words that it has, and says so. Then the functions by which the library takes memory give,
+   leaves the tickets that there are, of the calls that tell a text, and of rheap_release. Each other
+   call is made while all memory is refused, and asks for none. A heap that grows goes on with the words
+   that it has, and says so, whichever call it is that would make it grow: where each piece is refused
+   in turn, all of them, or all from one on. Then the functions by which the library takes memory give,
    resize and refuse blocks that are small and large. It is linked with --wrap for malloc, realloc,
    posix_memalign and free. Prints nothing where all is as it should be.
 
@@ -120,11 +122,17 @@ static uint8_t asks_nothing(int line, uint8_t status) {
 /* The words of the heap that is opened. */
 static uint32_t words = 4096;
 
-/* Opens one by each call: of a heap that grows, one that has its most words from the beginning. */
+/* Opens one by each call, of which there are so many: of a heap that grows, one that has its most words
+   from the beginning. */
+enum { OPENINGS = 4 };
 static uint8_t opening(rheap *heap, int sized) {
-    return sized == 2 ? rheap_open_growing(heap, words, 4, 32, 1, 5)
-           : sized    ? rheap_open_sized(heap, words, 4, 32, 1, 5)
-                      : rheap_open(heap, words, 2000, 4, 32, 1, 5);
+    rheap_growth growth = {0, 0, 200, 4, 32, 1, 5};
+    growth.at_least = words;
+    growth.at_most = words;
+    return sized == 3   ? rheap_open_growth(heap, &growth)
+           : sized == 2 ? rheap_open_growing(heap, words, 4, 32, 1, 5)
+           : sized      ? rheap_open_sized(heap, words, 4, 32, 1, 5)
+                        : rheap_open(heap, words, 2000, 4, 32, 1, 5);
 }
 
 /* Opens the heap where each piece of memory is refused once. Whether it is open. */
@@ -146,6 +154,30 @@ static int opened(rheap *heap, int sized) {
     }
     asked = 0;
     return heap->at != NULL || heap->grows_at != NULL;
+}
+
+/* Each call on slots of owner 0 by number, of which the first three are used. */
+static void each_shared_call(rheap *heap, int64_t number) {
+    rheap_value value;
+    IS(rheap_shared_alloc_raw(heap, 1, 2), DONE);
+    IS(rheap_shared_insist_alloc_raw(heap, 1, 2), DONE);
+    IS(rheap_shared_store_int(heap, 1, 1, number), DONE);
+    IS(rheap_shared_insist_store_int(heap, 1, 0, number), DONE);
+    IS(rheap_shared_alloc(heap, 0, 2), DONE);
+    IS(rheap_shared_insist_alloc(heap, 0, 2), DONE);
+    IS(rheap_shared_store_nil(heap, 0, 0), DONE);
+    IS(rheap_shared_insist_store_nil(heap, 0, 0), DONE);
+    IS(rheap_shared_store_root(heap, 0, 1, 1), DONE);
+    IS(rheap_shared_insist_store_root(heap, 0, 0, 1), DONE);
+    IS(rheap_shared_load(heap, 2, 0, 1, &value), DONE);
+    IS(rheap_shared_load_untold(heap, 2, 0, 0), DONE);
+    IS(rheap_shared_peek(heap, 2, 1, &value), DONE);
+    if (value.number != number && is_told()) {
+        printf("a number isn't what was stored\n");
+    }
+    IS(rheap_shared_copy(heap, 0, 2), DONE);
+    IS(rheap_shared_drop(heap, 2), DONE);
+    IS(rheap_shared_drop(heap, 5), NO_ROOT);
 }
 
 /* Each call on an open heap, as often as collects by itself. */
@@ -218,12 +250,16 @@ static void each_call(rheap *heap) {
         IS(rheap_store_roots(heap, 0, a, 0, b, 2, &done), DONE);
         IS(rheap_insist_store_roots(heap, 0, a, 0, b, 2, &done), DONE);
         IS(rheap_load_roots(heap, 0, c, a, 1, &value, 1, &done), DONE);
+        IS(rheap_load_roots_untold(heap, 0, c, a, 1, 1, &done), DONE);
+        IS(rheap_store_row(heap, 0, b, 0, values, 2, &done), DONE);
+        IS(rheap_insist_store_row(heap, 0, b, 0, values, 2, &done), DONE);
         IS(rheap_load_path(heap, 0, c, a, path, 2, &done, &value), DONE);
         IS(rheap_drop_roots(heap, 0, c, 1, &done), DONE);
         IS(rheap_drop(heap, 0, rheap_push(&scope)), DONE);
         IS(rheap_pop_to(&scope, 3), DONE);
-        IS(opening(heap, n % 3), IS_OPEN);
+        IS(opening(heap, n % OPENINGS), IS_OPEN);
         IS(rheap_short(heap, &same), DONE);
+        each_shared_call(heap, n);
     }
     if (stats.flips < 2) {
         printf("the heap didn't collect\n");
@@ -271,11 +307,89 @@ static void tickets(rheap *heap) {
     IS(rheap_unwatch(heap, ticket), DONE);
 }
 
+/* Tells a text where each piece of memory is refused once: nothing is changed then, not a byte of the
+   buffer, and nothing stays taken. */
+static void text(rheap *heap, uint8_t (*tell)(rheap *, char *, size_t, size_t *)) {
+    static char buffer[100000];
+    uint8_t status = RHEAP_NO_MEMORY;
+    long before = taken;
+    size_t length = 7;
+    all = 0;
+    for (refused_at = 1; refused_at < 1000 && status == RHEAP_NO_MEMORY; refused_at++) {
+        asked = 0;
+        buffer[0] = '#';
+        length = 7;
+        status = tell(heap, buffer, sizeof buffer, &length);
+        if (status == RHEAP_NO_MEMORY && (buffer[0] != '#' || length != 0 || taken != before)) {
+            printf("refused at %ld: %ld pieces are left, of a text of %ld bytes\n", refused_at,
+                   taken - before, (long)length);
+            wrong++;
+        }
+    }
+    if (status != RHEAP_DONE || refused_at < 4 || length == 0 || taken != before) {
+        printf("a text: %s after %ld, with %ld asked for\n", rheap_name(status), refused_at, asked);
+        wrong++;
+    }
+    asked = 0;
+}
+
+/* Gives memory back where each piece of memory is refused once: the block that was there stays then. */
+static void release(rheap *heap) {
+    uint8_t status = RHEAP_NO_MEMORY;
+    long before = taken;
+    all = 0;
+    is(__LINE__, rheap_collect(heap), RHEAP_DONE);
+    for (refused_at = 1; refused_at < 100 && status == RHEAP_NO_MEMORY; refused_at++) {
+        asked = 0;
+        status = rheap_release(heap);
+        if (taken != before) {
+            printf("a release: %ld pieces more\n", taken - before);
+            wrong++;
+        }
+    }
+    if (status != RHEAP_DONE || refused_at < 3) {
+        printf("a release: %s after %ld, with %ld asked for\n", rheap_name(status), refused_at, asked);
+        wrong++;
+    }
+    asked = 0;
+}
+
+/* The ways to make one more cell of a list: each ends cycles by another call. */
+enum { INSISTING, MAKING, BY_NUMBER, COLLECTING, STEPPING, WAYS };
+
+/* A cell, where there is room for one. */
+static uint8_t new_cell(rheap *heap, int way) {
+    rheap_root_id cell = rheap_slot(0, 0);
+    int steps;
+    if (way == BY_NUMBER) {
+        return rheap_shared_insist_alloc(heap, 0, 2);
+    }
+    for (steps = 0; way == STEPPING && steps < 20; steps++) {
+        is(__LINE__, rheap_increment(heap), RHEAP_DONE);
+    }
+    if (way != INSISTING && rheap_alloc(heap, 0, cell, 2) == RHEAP_DONE) {
+        return RHEAP_DONE;
+    }
+    if (way == COLLECTING) {
+        is(__LINE__, rheap_collect(heap), RHEAP_DONE);
+        is(__LINE__, rheap_collect(heap), RHEAP_DONE);
+        return rheap_alloc(heap, 0, cell, 2);
+    }
+    return rheap_insist_alloc(heap, 0, cell, 2);
+}
+
 /* One more cell before a list. */
-static uint8_t push(rheap *heap) {
+static uint8_t push(rheap *heap, int way) {
     rheap_root_id cell = rheap_slot(0, 0);
     rheap_root_id list = rheap_slot(0, 2);
-    uint8_t status = rheap_insist_alloc(heap, 0, cell, 2);
+    rheap_init values[2];
+    uint8_t status;
+    if (way == MAKING) {
+        values[0] = rheap_of_int(1);
+        values[1] = rheap_of_root(list);
+        return rheap_insist_make(heap, 0, list, 2, values, 2);
+    }
+    status = new_cell(heap, way);
     if (status == RHEAP_DONE) {
         is(__LINE__, rheap_insist_store_root(heap, 0, cell, 1, list), RHEAP_DONE);
         is(__LINE__, rheap_copy(heap, 0, list, cell), RHEAP_DONE);
@@ -292,46 +406,79 @@ static void is_short(int line, rheap *heap, uint8_t due) {
     }
 }
 
-/* A heap that grows goes on where all memory for more words is refused, or one piece of it, and says
-   so; it grows once memory is given. */
-static void growing(long first, int others) {
-    rheap heap = RHEAP_INIT;
-    rheap_growth growth = {64, 100000, 200, 4, 32, 1, 5};
-    rheap_value value;
+/* Makes cells until there is no room, 300 at most; how many were made. */
+static int pushed(rheap *heap, int way, int others, long first) {
     uint8_t status = RHEAP_DONE;
     int cells = 0;
-    all = 0;
-    refused_at = 0;
-    is(__LINE__, rheap_open_growth(&heap, &growth), RHEAP_DONE);
     asked = 0;
     refused_at = first;
     all = others;
-    while (status == RHEAP_DONE && cells < 1000) {
-        status = push(&heap);
+    while (status == RHEAP_DONE && cells < 300) {
+        status = push(heap, way);
         cells += status == RHEAP_DONE;
     }
-    if (others) {
-        is(__LINE__, status, RHEAP_SPACE_FULL);
-        is_short(__LINE__, &heap, RHEAP_REFUSED);
-    } else {
-        is(__LINE__, status, RHEAP_DONE);
-        is_short(__LINE__, &heap, RHEAP_AMPLE);
-    }
+    is(__LINE__, status, others && asked >= first ? RHEAP_SPACE_FULL : RHEAP_DONE);
+    is_short(__LINE__, heap, others && asked >= first ? RHEAP_REFUSED : RHEAP_AMPLE);
     all = 0;
     refused_at = 0;
+    return cells;
+}
+
+/* A heap that grows goes on where all memory for more words is refused from one piece on, or that
+   piece alone, and says so; it grows once memory is given. Its object that is watched stays so.
+   Whether a piece was refused. */
+static int growing(int way, long first, int others) {
+    rheap heap = RHEAP_INIT;
+    rheap_growth growth = {64, 100000, 200, 4, 32, 1, 5};
+    rheap_value value;
+    uint64_t ticket, gone;
+    uint8_t is_gone;
+    int cells, was_refused;
+    all = 0;
+    refused_at = 0;
+    is(__LINE__, rheap_open_growth(&heap, &growth), RHEAP_DONE);
+    is(__LINE__, rheap_watch_room(&heap, 1), RHEAP_DONE);
+    is(__LINE__, rheap_alloc(&heap, 0, rheap_slot(0, 3), 1), RHEAP_DONE);
+    is(__LINE__, rheap_watch(&heap, 0, rheap_slot(0, 3), &ticket), RHEAP_DONE);
+    cells = pushed(&heap, way, others, first);
+    was_refused = asked >= first;
+    is(__LINE__, rheap_collect(&heap), RHEAP_DONE);
     is(__LINE__, rheap_collect(&heap), RHEAP_DONE);
     is_short(__LINE__, &heap, RHEAP_AMPLE);
-    is(__LINE__, push(&heap), RHEAP_DONE);
+    is(__LINE__, push(&heap, way), RHEAP_DONE);
     for (cells++; cells > 0; cells--) {
         is(__LINE__, rheap_load(&heap, 0, rheap_slot(0, 2), rheap_slot(0, 2), 1, &value), RHEAP_DONE);
     }
     if (value.kind != RHEAP_NIL && is_told()) {
         printf("the list isn't as long as it was made\n");
     }
+    is(__LINE__, rheap_next_gone(&heap, &gone, &is_gone), RHEAP_DONE);
+    if (is_gone && is_told()) {
+        printf("an object that is reached is told to be gone\n");
+    }
+    is(__LINE__, rheap_unwatch(&heap, ticket), RHEAP_DONE);
     is(__LINE__, rheap_close(&heap), RHEAP_DONE);
     asked = 0;
     if (taken != 0 && is_told()) {
         printf("%ld pieces of a heap that grows are left after the close\n", taken);
+    }
+    return was_refused;
+}
+
+/* Each piece is refused in turn, alone and with all that are asked for after it. */
+static void growing_each_way(void) {
+    int way, others;
+    long piece;
+    for (way = 0; way < WAYS; way++) {
+        for (others = 0; others < 2; others++) {
+            piece = 1;
+            while (piece < 200 && growing(way, piece, others)) {
+                piece++;
+            }
+            if ((piece < 4 || piece == 200) && is_told()) {
+                printf("a heap that grows asked for %ld pieces, way %d\n", piece - 1, way);
+            }
+        }
     }
 }
 
@@ -462,7 +609,6 @@ static void where_the_system_refuses(void) {
 
 int main(int argc, char **argv) {
     rheap heap = RHEAP_INIT;
-    long piece;
     int sized;
 
     (void)argv;
@@ -472,11 +618,14 @@ int main(int argc, char **argv) {
         counting = 0;
         return wrong != 0;
     }
-    for (sized = 0; sized < 3; sized++) {
+    for (sized = 0; sized < OPENINGS; sized++) {
         if (!opened(&heap, sized)) {
             return 1;
         }
         tickets(&heap);
+        text(&heap, rheap_dump);
+        text(&heap, rheap_draw);
+        release(&heap);
         each_call(&heap);
         IS(rheap_close(&heap), DONE);
         IS(rheap_close(&heap), NOT_OPEN);
@@ -486,10 +635,7 @@ int main(int argc, char **argv) {
         }
         large_spaces(&heap, sized);
     }
-    growing(1, 1);
-    for (piece = 1; piece < 12; piece++) {
-        growing(piece, 0);
-    }
+    growing_each_way();
     blocks();
     IS(rheap_open(&heap, 1000, 100, 4, 3, 2, 8), NO_PACE);
     IS(rheap_open_sized(&heap, 1000, 4, 65, 2, 8), BAD_SIZES);

@@ -811,12 +811,12 @@ static void names(void) {
         "INT_RANGE",     "FIELDS_RANGE", "SPACE_FULL", "LOG_FULL",   "NUMBERS_SPENT",
         "EPOCHS_SPENT",  "NOT_OPEN",     "IS_OPEN",    "NO_PACE",    "BAD_SIZES",
         "NO_MEMORY",     "WATCHES_FULL", "NOT_WATCHED", "TICKETS_RANGE", "BAD_KIND",
-        "BAD_GROWTH"};
+        "BAD_GROWTH",    "TOO_LONG",     "CYCLE_ON"};
     int status;
 
     for (status = 0; status < 256; status++) {
         const char *name = rheap_name((uint8_t)status);
-        if (strcmp(name, status < 22 ? due[status] : "UNKNOWN") != 0) {
+        if (strcmp(name, status < 24 ? due[status] : "UNKNOWN") != 0) {
             printf("status %d is named %s\n", status, name);
             wrong = 1;
         }
@@ -842,6 +842,10 @@ static void names(void) {
     IS_NAMED(WATCHES_FULL);
     IS_NAMED(NOT_WATCHED);
     IS_NAMED(TICKETS_RANGE);
+    IS_NAMED(BAD_KIND);
+    IS_NAMED(BAD_GROWTH);
+    IS_NAMED(TOO_LONG);
+    IS_NAMED(CYCLE_ON);
 }
 
 int main(void) {

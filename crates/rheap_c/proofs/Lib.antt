@@ -29,3 +29,7 @@ mod GrownMadeWith
 pub mod Inside
 pub mod Growths
 mod CrossedNumbers
+mod Untouched
+mod ValueKinds
+mod GrownLists
+mod PlainMakes

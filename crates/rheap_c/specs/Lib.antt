@@ -23,3 +23,7 @@ pub mod Grown
 pub mod GrownOpened
 pub mod GrownRuns
 pub mod GrownMaking
+pub mod Views
+pub mod Cycles
+pub mod GrownRows
+pub mod PlainMaking

@@ -13,4 +13,5 @@ pub mod several;
 pub mod shared;
 pub mod texts;
 pub mod value_rows;
+pub mod views;
 pub mod watching;

@@ -13,4 +13,5 @@ pub(crate) mod several;
 pub(crate) mod shared;
 pub(crate) mod texts;
 pub(crate) mod value_rows;
+pub(crate) mod views;
 pub(crate) mod watching;

@@ -12,4 +12,5 @@ pub(crate) mod root_rows;
 pub(crate) mod several;
 pub(crate) mod texts;
 pub(crate) mod value_rows;
+pub(crate) mod views;
 pub(crate) mod watching;

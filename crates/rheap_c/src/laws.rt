@@ -3,18 +3,24 @@
 
 pub mod command_rows;
 pub mod growing;
+pub mod making;
 pub mod numbers;
 pub mod readings;
 pub mod room;
 pub mod runs;
 
 pub use command_rows::{
-    a_row_is_its_commands_up_to_a_refusal, a_value_to_be_written_means_what_its_kind_says,
-    rows_are_these_commands, rows_tell_the_values_of_their_replies, tickets_have_these_statuses,
+    a_growing_row_is_its_commands_up_to_a_refusal, a_row_is_its_commands_up_to_a_refusal,
+    a_value_to_be_written_means_what_its_kind_says, rows_are_these_commands,
+    rows_tell_the_values_of_their_replies, tickets_have_these_statuses,
 };
 pub use growing::{
     a_heap_that_grows_has_room_unless_it_is_short, calls_on_a_handle_are_calls_on_its_heap,
     calls_on_no_heap_do_nothing, no_program_in_c_sees_that_the_heap_grows,
+};
+pub use making::{
+    an_object_is_made_as_on_the_plain_heap, values_are_refused_for_their_kinds_and_their_number,
+    values_mean_what_their_kinds_say,
 };
 pub use numbers::{calls_that_tell_numbers_change_nothing, numbers_cross_under_their_names};
 pub use readings::{

@@ -5,11 +5,13 @@
 //! for one that grows. A call looks at the first, so that a heap of fixed sizes pays nothing for the
 //! other kind. It uses the heap where it is, or takes it out of the handle and puts it back. It is
 //! the call of `PacedHeap` that its comment names, and on a heap that grows the call of
-//! `GrowingHeap` with that name. Its contract says of both which status it answers, what the handle
+//! `GrowingHeap` with that name. Those that tell what a heap looks like are calls of `rh_heap_dump`,
+//! `rh_draw` and `rh_cycles` on that heap. Its contract says of both which status it answers, what the handle
 //! holds then, and what it tells.
 #![tactic(auto)]
 
 mod calls;
+mod cycle_numbers;
 mod fixed;
 mod fixed_part;
 mod growing;
@@ -23,6 +25,7 @@ mod open_fault;
 mod parted;
 mod status;
 mod value;
+mod views;
 
 pub use calls::collecting::{rheap_collect, rheap_increment};
 pub use calls::fields::{
@@ -53,7 +56,9 @@ pub use calls::shared::{
 };
 pub use calls::texts::{rheap_insist_store_text, rheap_load_text, rheap_store_text};
 pub use calls::value_rows::{rheap_insist_store_row, rheap_load_roots_untold, rheap_store_row};
+pub use calls::views::{rheap_cycle, rheap_draw_into, rheap_dump_into, rheap_release};
 pub use calls::watching::{rheap_next_gone, rheap_unwatch, rheap_watch, rheap_watch_room};
+pub use cycle_numbers::{RheapCycleReader, RheapEndedCycle};
 pub use growth::RheapGrowth;
 pub use handle::Rheap;
 pub use init::RheapInit;

@@ -42,6 +42,12 @@ pub const BAD_KIND: u8 = 20;
 /// The factor of a growth is out of its range, or a limit of its words is.
 pub const BAD_GROWTH: u8 = 21;
 
+/// The buffer has no room for the text.
+pub const TOO_LONG: u8 = 22;
+
+/// A cycle is on.
+pub const CYCLE_ON: u8 = 23;
+
 /// The number of the refusal `FieldsRange`.
 pub(crate) const FIELDS_RANGE: u8 = 7;
 

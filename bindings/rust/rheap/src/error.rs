@@ -134,11 +134,13 @@ pub enum Error {
         /// How many more were asked for.
         additional: u32,
     },
+    /// A cycle is on, so no memory is given back: [`Heap::collect`](crate::Heap::collect) ends it.
+    CycleOn,
 }
 
 impl Error {
     /// Whether a limit refused the call: `SpaceFull`, `LogFull`, `NumbersSpent`, `EpochsSpent`,
-    /// `NoMemory` or `WatchesFull`. All others are mistakes of the program.
+    /// `NoMemory` or `WatchesFull`. All others but `CycleOn` are mistakes of the program.
     pub fn is_limit(&self) -> bool {
         matches!(
             self,
@@ -271,6 +273,7 @@ impl fmt::Display for Error {
                 "{additional} more tickets were asked for, and a heap may have {}",
                 raw::MAX_TICKETS
             ),
+            Error::CycleOn => write!(f, "a cycle is on"),
         }
     }
 }

@@ -9,8 +9,9 @@ use std::iter::FusedIterator;
 use std::ptr::null_mut;
 
 /// A heap that collects by itself. It is open from when it is made until it is dropped, which frees
-/// its memory. Only making one and [`Heap::watch_room`] take memory; of a heap that [`Heap::growing`]
-/// made, also the calls that end a cycle.
+/// its memory. Only making one, [`Heap::watch_room`] and [`Heap::release`] take memory, and
+/// [`Heap::dump`] and [`Heap::draw`] while they run; of a heap that [`Heap::growing`] made, also the
+/// calls that end a cycle.
 ///
 /// It may go to another thread, and isn't [`Sync`].
 // What each call below relies on, and this type keeps:

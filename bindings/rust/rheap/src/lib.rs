@@ -69,6 +69,11 @@
 //! [`Heap::growing`] makes a heap whose space grows, and shrinks, with what lives in it, up to a limit.
 //! All calls work on it.
 //!
+//! # Looking at a heap
+//!
+//! [`Heap::dump`] returns what the roots reach as a text, and [`Heap::draw`] a picture of the heap.
+//! [`Heap::cycle`] returns the numbers of each cycle that ended, as the words that it freed.
+//!
 //! # Whole traces
 //!
 //! [`run`] and [`run_paced`] take a text of commands, run it on a heap of its own, and return what the
@@ -128,6 +133,7 @@ mod rows;
 mod text;
 mod trace;
 mod value;
+mod views;
 mod watching;
 
 pub use error::{Error, Result, RowError};
@@ -138,6 +144,7 @@ pub use root::{Owner, Root};
 pub use text::text_fields;
 pub use trace::{run, run_paced, TraceError};
 pub use value::{Operand, Value};
+pub use views::{CycleReader, EndedCycle};
 pub use watching::{Gone, Ticket};
 
 /// The most words that a space has.

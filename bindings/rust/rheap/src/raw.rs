@@ -27,6 +27,8 @@ pub const NOT_WATCHED: u8 = 18;
 pub const TICKETS_RANGE: u8 = 19;
 pub const BAD_KIND: u8 = 20;
 pub const BAD_GROWTH: u8 = 21;
+pub const TOO_LONG: u8 = 22;
+pub const CYCLE_ON: u8 = 23;
 
 pub const AMPLE: u8 = 0;
 pub const AT_MOST: u8 = 1;
@@ -80,7 +82,7 @@ pub struct RheapInit {
 }
 
 #[repr(C)]
-#[derive(Clone, Copy, Default)]
+#[derive(Clone, Copy, Debug, Default)]
 pub struct RheapStats {
     pub used: u64,
     pub free: u64,
@@ -121,6 +123,42 @@ pub struct RheapPacing {
 pub struct RheapWords {
     pub need: u64,
     pub free: u64,
+}
+
+#[repr(C)]
+#[derive(Clone, Copy, Debug, Default)]
+pub struct RheapCycleReader {
+    pub reads: u64,
+    pub ended: u64,
+    pub last: RheapStats,
+    pub epoch: u64,
+    pub began: u64,
+    pub used: u64,
+    pub number: u64,
+    pub most: u64,
+    pub running: u8,
+    pub begun: u8,
+}
+
+#[repr(C)]
+#[derive(Clone, Copy, Default)]
+pub struct RheapEndedCycle {
+    pub number: u64,
+    pub epoch: u64,
+    pub began: u64,
+    pub ended: u64,
+    pub used: u64,
+    pub live: u64,
+    pub freed: u64,
+    pub objects: u64,
+    pub granted: u64,
+    pub idle: u64,
+    pub spent: u64,
+    pub most: u64,
+    pub logged: u64,
+    pub words: u64,
+    pub flipped: u8,
+    pub is: u8,
 }
 
 #[repr(C)]
@@ -458,6 +496,25 @@ extern "C" {
     pub fn rheap_stat(heap: *mut Rheap, stats: *mut RheapStats) -> u8;
     pub fn rheap_last_did(heap: *mut Rheap, did: *mut RheapDid) -> u8;
     pub fn rheap_pace(heap: *mut Rheap, pacing: *mut RheapPacing) -> u8;
+    pub fn rheap_cycle(
+        heap: *mut Rheap,
+        reader: *mut RheapCycleReader,
+        cycle: *mut RheapEndedCycle,
+    ) -> u8;
+    pub fn rheap_release(heap: *mut Rheap) -> u8;
+
+    pub fn rheap_dump_into(
+        heap: *mut Rheap,
+        text: *mut c_void,
+        length: usize,
+        needs: *mut usize,
+    ) -> u8;
+    pub fn rheap_draw_into(
+        heap: *mut Rheap,
+        text: *mut c_void,
+        length: usize,
+        needs: *mut usize,
+    ) -> u8;
 
     pub fn rheap_run(
         trace: *const u8,

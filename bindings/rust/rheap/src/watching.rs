@@ -43,8 +43,7 @@ impl fmt::Display for Ticket {
 impl Heap {
     /// Makes room for so many tickets more than there are. A new heap has none.
     ///
-    /// Beside the calls that make a heap it is the only one that takes memory: 12 bytes for each
-    /// ticket. After an error nothing has changed.
+    /// It takes 12 bytes for each ticket. After an error nothing has changed.
     ///
     /// # Errors
     ///

@@ -11,8 +11,11 @@ ghost use Rattle.rh_layout.specs.declared.refusal.Refusal.{Refusal};
 ghost use Rattle.rh_core.specs.declared.errors.WatchError.TheVariants as errors;
 ghost use Rattle.rh_pace.specs.InTime.{paced_after, paced_replies};
 ghost use Rattle.rh_pace.specs.Paced.{PacedState, paced_step};
+ghost use Rattle.rh_growing.specs.Growing.{GrowingState, growing_insist, growing_step};
 ghost use Rattle.rheap_c.specs.declared.init.RheapInit.{RheapInit};
 ghost use Rattle.rheap_c.specs.declared.value.RheapValue.{RheapValue};
+ghost use Rattle.rheap_c.specs.Grown.{IsGrownRowDone, IsGrownRowInsisted};
+ghost use Rattle.rheap_c.specs.GrownRows.{AreAllDone, AreDoneUntilRefused};
 ghost use Rattle.rheap_c.specs.Init.{operand_of};
 ghost use Rattle.rheap_c.specs.RootRows.{done_until, last_value, path_loads, row_drops, row_loads, row_stores, values_over};
 ghost use Rattle.rheap_c.specs.Told.{no_value, root_of, value_of_reply};
@@ -37,6 +40,36 @@ pub fn a_row_is_its_commands_up_to_a_refusal()
         (row.state ≡ paced_after s (take (suc (length row.replies)) given))
         × (paced_replies s (take (suc (length row.replies)) given)
         ≡ map (λ reply. Ok reply) row.replies ++ Err why ∷ [])) }
+{}
+
+/// On a heap that grows, too, a row is its list of commands, up to the first that is refused, whatever
+/// memory the allocator gives in each of them.
+///
+/// - `done`: where the status is 0, the heap is what the list makes of it, and each command has a
+///   reply. All of them are counted.
+/// - `refused`: else the heap is what those before the refused one and that one make of it. They were
+///   answered so, one after the other: the last by a refusal, whose number is the status, each other
+///   by a reply. Those that have one are counted.
+/// - `insisted_done`, `insisted_refused`: the same where each command is insisted on.
+pub fn a_growing_row_is_its_commands_up_to_a_refusal()
+    ensures done { (s : GrowingState) (new : Option GrowingState) (row : List (ℕ × Command))
+        (count status : ℕ) → IsGrownRowDone (Some s) new row count status → status ≡ 0
+        → (after : GrowingState) × (new ≡ Some after)
+        × AreAllDone growing_step s after row count }
+    ensures refused { (s : GrowingState) (new : Option GrowingState) (row : List (ℕ × Command))
+        (count status : ℕ) → IsGrownRowDone (Some s) new row count status → status ≢ 0
+        → (after : GrowingState) × (new ≡ Some after)
+        × AreDoneUntilRefused growing_step s after row count status }
+    ensures insisted_done { (s : GrowingState) (new : Option GrowingState)
+        (row : List (ℕ × Command)) (count status : ℕ)
+        → IsGrownRowInsisted (Some s) new row count status → status ≡ 0
+        → (after : GrowingState) × (new ≡ Some after)
+        × AreAllDone growing_insist s after row count }
+    ensures insisted_refused { (s : GrowingState) (new : Option GrowingState)
+        (row : List (ℕ × Command)) (count status : ℕ)
+        → IsGrownRowInsisted (Some s) new row count status → status ≢ 0
+        → (after : GrowingState) × (new ≡ Some after)
+        × AreDoneUntilRefused growing_insist s after row count status }
 {}
 
 /// Which commands the rows are: each takes the next slot and the next field. No row is so long that

@@ -35,8 +35,8 @@ pub fn calls_on_a_handle_are_calls_on_its_heap()
         → AreMadeOn old new calls answers → HoldsOne old → HoldsOne new }
 {}
 
-/// No program in C sees that the heap collects, nor that it grows, but by the calls that tell
-/// numbers of the heap and by the statuses of limits. Where its heap stands for a plain heap, which
+/// No program in C sees that the heap collects, nor that it grows, but by the calls that tell numbers of
+/// the heap, by its picture, by the status of `rheap_release` and by those of limits. Where its heap stands for a plain heap, which
 /// never moves its objects and has room for all, what its calls tell is what that answers, one by
 /// one, and the heap is left standing for what the plain heap is after them. It says so of a heap
 /// that grows what `no_program_in_c_sees_that_the_heap_collects` says of one of fixed sizes.

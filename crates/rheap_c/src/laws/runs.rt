@@ -51,8 +51,8 @@ pub fn calls_make_one_run()
         → (new ≡ None) × All (λ answer. answer.status ≡ 12) answers }
 {}
 
-/// Each call of C's, done as its contract says, is one that stands in such lists, with all that it
-/// told.
+/// Each call of C's of these kinds, done as its contract says, is one that stands in such lists, with
+/// all that it told.
 ///
 /// - `does`, `loads`, `compares`, `insists`: those that do a command.
 /// - `collects`, `increments`, `tells`: those that collect, and those that tell numbers.
@@ -216,8 +216,8 @@ pub fn calls_are_these_commands()
         → (command_of call ≡ None) × (question_of call ≡ None) }
 {}
 
-/// No program in C sees that the heap collects, but by the calls that tell numbers of the heap and
-/// by the statuses of limits. Where its heap stands for a plain heap, which never moves its objects,
+/// No program in C sees that the heap collects, but by the calls that tell numbers of the heap, by its
+/// picture, by the status of `rheap_release` and by those of limits. Where its heap stands for a plain heap, which never moves its objects,
 /// what its calls tell is what that answers, one by one.
 ///
 /// - `told`: what each call tells, by its kind.
