@@ -3,7 +3,7 @@
 use crate::commands::{SIZES, expect_answers, load};
 use crate::expectations::{Row, expect_equal};
 use rh_core::Heap;
-use rh_layout::{MAX_INT, Operand, Refusal, Reply, RootId};
+use rh_layout::{MAX_INT, Operand, Refusal, Reply, RootId, Shape};
 use std::alloc::Allocator;
 use std::process::Abort;
 
@@ -37,6 +37,8 @@ fn expect_refused<A: Allocator + Copy>(rt: &impl Abort, heap: &mut Heap<A>) {
         let rt = &Row { rt, row };
         let before = heap.stat();
         expect_equal(rt, heap.make(1, OTHER, fields, values), Err(refusal));
+        let shape = Shape { fields, raw: false };
+        expect_equal(rt, heap.make_given(1, OTHER, shape, values), None);
         expect_equal(rt, heap.stat(), before);
     }
 }

@@ -1,4 +1,4 @@
-//! Objects that are made with their values, straight and insisted on.
+//! Objects that are made with their values, straight, of values as they lie, and insisted on.
 
 use crate::expectations::expect_equal;
 use crate::paced::calls::{SIZES, small_heap};
@@ -32,6 +32,21 @@ fn expect_straight<M: Allocator + Copy>(rt: &impl Abort, heap: &mut PacedHeap<M>
     expect_equal(rt, heap.make_straight(1, B, PAIR, &refused), None);
 }
 
+/// So it is of values that are read where they lie.
+fn expect_given<M: Allocator + Copy>(rt: &impl Abort, heap: &mut PacedHeap<M>) {
+    let pair = [Operand::Int(7), Operand::Root(A)];
+    let made = heap.make_given(1, B, PAIR, &pair);
+    expect_equal(rt, made, Some(Reply::Object(2)));
+    expect_equal(rt, heap.peek(1, B, 0), Ok(Reply::Int(7)));
+    expect_equal(rt, heap.peek(1, B, 1), Ok(Reply::Object(2)));
+    expect_equal(rt, heap.make_given(1, B, LONG, &[Operand::Nil]), None);
+    expect_equal(
+        rt,
+        heap.make_given(1, B, PAIR, &[Operand::Int(1 << 62)]),
+        None,
+    );
+}
+
 /// Objects of 8 words, of which one is kept at a time, find room in 32 words.
 fn expect_insisted<M: Allocator + Copy>(rt: &impl Abort, heap: &mut PacedHeap<M>) {
     for _ in 0..8 {
@@ -47,5 +62,6 @@ fn expect_insisted<M: Allocator + Copy>(rt: &impl Abort, heap: &mut PacedHeap<M>
 fn an_object_with_its_values_finds_room(rt: HostRuntime) {
     let mut heap = small_heap(&rt, rt.alloc(), SIZES);
     expect_straight(&rt, &mut heap);
+    expect_given(&rt, &mut heap);
     expect_insisted(&rt, &mut heap);
 }
