@@ -1,8 +1,9 @@
 //! A writer that turns the lines of cycles into trace events as they come.
 
-ghost use Rattle.std.specs.Prelude.{◌≡◌, ◌&&◌, not, false, true, length, [], None, IfOk, OnOk, if◌then◌else◌};
+ghost use Rattle.std.specs.Prelude.{◌≡◌, ◌&&◌, ◌||◌, not, false, true, length, [], None, IfOk, OnOk, OnErr, if◌then◌else◌};
 ghost use Rattle.std.specs.Io.{WritesAtMost};
 ghost use Rattle.std.specs.Io.KnownBytes.{Appends, Keeps, WriteAppends};
+ghost use Rattle.rh_text.specs.Output.{AppendsLess};
 ghost use Rattle.either.specs.declared.Either.TheVariants as sides;
 ghost use Rattle.either.specs.Either.{MatchEither};
 ghost use Rattle.rh_cycle_events.specs.Events.{byte_events, byte_heard, events_in, events_of, heard_after, line_events, nothing_heard, told_by};
@@ -33,7 +34,8 @@ pub fn lines_or_events<W>(out: W, are_events: bool) -> Either<W, CycleEvents<W>>
 
 /// A writer of the lines of cycles, which writes the events of the trace event format in their place:
 /// a slice for each cycle, and counters of used words, the log and units. Time is counted in words
-/// that were allocated, a word a microsecond. The array of the events is ended by a flush.
+/// that were allocated, a word a microsecond. A flush ends the array of the events, once. What is
+/// written after it stands behind that end, so flush after all lines.
 #[derive(Drop)]
 pub struct CycleEvents<W> {
     out: W,
@@ -111,9 +113,11 @@ fn write_events<W: Write>(out: &mut W, heard: &Heard) -> io::Result<()>
     put_all(out, text.as_bytes())
 }
 
-/// Writes all of a text.
+/// Writes all of a text, or a prefix of it where a write fails.
 fn put_all<W: Write>(out: &mut W, text: &[u8]) -> io::Result<()>
-    ensures { OnOk result (Appends (W.contents out.old) (W.contents out.new) text.now) }
+    ensures ok { OnOk result (Appends (W.contents out.old) (W.contents out.new) text.now) }
+    ensures err { OnErr result
+        (AppendsLess (W.contents out.old) (W.contents out.new) text.now) }
 {
     match send(out, &mut IoLog::new(), text) {
         Ok(()) => Ok(()),
@@ -143,6 +147,8 @@ impl<W: Write> Write for CycleEvents<W> {
         // The array is ended once, if it was begun.
         ensures events { OnOk result (Appends (W.contents self.old.out) (W.contents self.new.out)
             (if self.old.heard.begun && not self.old.is_ended then closing_text else [])) }
+        // It counts as ended where its end couldn't be written, too.
+        ensures ended { self.new.is_ended ≡ (self.old.heard.begun || self.old.is_ended) }
         ensures heard { self.new.heard ≡ self.old.heard }
     {
         if self.heard.begun && !self.is_ended {

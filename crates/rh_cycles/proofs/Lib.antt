@@ -4,4 +4,3 @@ pub mod Events
 pub mod Parts
 pub mod Begins
 pub mod Flips
-mod Asked

@@ -2,4 +2,3 @@ pub mod Cycles
 pub mod Line
 pub mod Heaps
 pub mod Runs
-pub mod Asked

@@ -1,17 +1,14 @@
 //! Laws of the numbers of cycles: they account for all words and flips. Each function does nothing:
 //! its contract is the law.
 
-ghost use Rattle.std.specs.Prelude.{◌≡◌, ℕ, ◌+◌, ◌≤◌, All, List, Option, Some, false};
+ghost use Rattle.std.specs.Prelude.{◌≡◌, ℕ, ◌+◌, ◌≤◌, All, List, Some, false};
 ghost use Rattle.rh_core.specs.declared.event.Event.{Event};
 ghost use Rattle.rh_core.specs.declared.stat.Stat.{Stat};
 ghost use Rattle.rh_core.specs.Heap.{HeapState, IsWellFormed};
 ghost use Rattle.rh_core.specs.Stat.{stat_of};
 ghost use Rattle.rh_core.specs.runs.Run.{event_step, heap_after};
-ghost use Rattle.rh_pace.specs.Paced.{PacedState};
 ghost use Rattle.rh_cycles.specs.declared.cycle.Cycle.{Cycle};
 ghost use Rattle.rh_cycles.specs.declared.cycle.CycleEnd.TheVariants.{Flipped};
-ghost use Rattle.rh_cycles.specs.Asked.{AreAsked, after_steps, told_by_steps};
-ghost use Rattle.rh_cycles.specs.Heaps.{CyclesState};
 ghost use Rattle.rh_cycles.specs.Cycles.{Reading, ReaderState, cycles_of, new_reader, read_step, reader_after};
 ghost use Rattle.rh_cycles.specs.Runs.{AreRising, AreSteps, IsEndedBy, IsStep, IsWhole, flips_in, readings_of, step_of, steps_of, words_freed, words_in};
 
@@ -91,17 +88,4 @@ pub fn a_cycle_begins_before_it_ends()
     ensures { (stat : Stat) (line : ℕ) (readings : List Reading) → AreRising line readings
         → All (λ c. (line ≤ c.began) × (c.began ≤ c.ended))
         (cycles_of (new_reader stat) readings) }
-{}
-
-/// Whoever keeps a reader of a heap's numbers, and steps it by `after_step` after each call, is told
-/// what `Cycles` tells. `Cycles` was asked after each of some calls, each time as `Cycles::after`
-/// promises, from what it was before them: made for the heap, or asked before.
-///
-/// - `told`: it told what the steps tell of a reader that began as it was.
-/// - `kept`: it is left as that reader, so that either may go on for the other.
-pub fn a_reader_that_is_stepped_tells_what_cycles_tells()
-    ensures told { (old new : CyclesState) (heaps : List PacedState) (told : List (Option Cycle))
-        → AreAsked old new heaps told → told ≡ told_by_steps old heaps }
-    ensures kept { (old new : CyclesState) (heaps : List PacedState) (told : List (Option Cycle))
-        → AreAsked old new heaps told → new ≡ after_steps old heaps }
 {}

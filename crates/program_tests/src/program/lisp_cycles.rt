@@ -4,6 +4,7 @@ use crate::expectations::{Row, ample, expect_bytes, expect_equal, expect_prefix}
 use crate::texts::{count_of, ended_lines};
 use refusing::RefusingAllocator;
 use rh_cli::{HeapWords, KeptReader, Limits, drive_lisp_with_cycles};
+use rh_cycle_events::lines_or_events;
 use samples::devices::{Broken, SlowWriter, Unflushed};
 use samples::texts::COLUMNS;
 use std::alloc::Allocator;
@@ -120,6 +121,8 @@ fn a_line_of_a_cycle_that_is_lost_is_a_failed_write(rt: HostRuntime) {
     let small = HeapWords::Just(3_200);
     expect_run(&rt, rt.alloc(), small, MAKES, Broken, due);
     expect_run(&rt, rt.alloc(), small, MAKES, Unflushed, due);
+    let events = lines_or_events(Broken, true);
+    expect_run(&rt, rt.alloc(), small, MAKES, events, due);
     let mut full = SlowWriter::new(&rt, 1_000, 3);
     expect_run(&rt, rt.alloc(), small, MAKES, &mut full, due);
     expect_prefix(&rt, &full.text, COLUMNS);

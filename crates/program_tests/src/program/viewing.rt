@@ -6,6 +6,7 @@ use refusing::refused_in_turn;
 use rh_cli::{
     Ask, KeptReader, Subcommand, Telling, ViewLog, Views, Writers, drive_viewed, reads_for, writers,
 };
+use rh_cycle_events::lines_or_events;
 use rh_text::IoLog;
 use samples::devices::Unflushed;
 use samples::texts::{
@@ -447,6 +448,9 @@ fn a_failed_flush_of_each_writer_is_a_failed_write(rt: HostRuntime) {
     let mut out = writers(io::sink(), Unflushed, io::sink());
     expect_write_fault(&rt, run, &mut out);
     let mut out = writers(io::sink(), io::sink(), Unflushed);
+    expect_write_fault(&rt, run, &mut out);
+    let events = lines_or_events(Unflushed, true);
+    let mut out = writers(io::sink(), io::sink(), events);
     expect_write_fault(&rt, run, &mut out);
     expect_flush_faults(&rt, FLUSHED);
 }

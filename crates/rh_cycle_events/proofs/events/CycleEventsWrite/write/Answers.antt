@@ -1,4 +1,4 @@
-use Rattle.std.proofs.Common.{refl, ap, ◌∙◌}
+use Rattle.std.proofs.Common.{refl, ap, rules, ◌∙◌}
 use Rattle.rh_text.specs.lemmas.Appends.{Appends-at, Appends-none}
 use Rattle.rh_cycle_events.specs.Events.{events_in, heard_after}
 use Rattle.rh_cycle_events.proofs.Spelled.{all-taken, bytes-heard, bytes-sent}
@@ -22,6 +22,9 @@ loop-byte-preserved g c = record {
 
 pub returns-in_err-take-clause-ended : goal.returns-in_err-take-clause-ended
 returns-in_err-take-clause-ended g c = c.take.ensures.ended ∙ c.loop-byte.invariant.ended
+
+pub returns-clause-whole : goal.returns-clause-whole
+returns-clause-whole g c = search rules
 
 pub returns-clause-events : goal.returns-clause-events
 returns-clause-events g c =
