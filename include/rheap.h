@@ -34,14 +34,17 @@
  *
  * What a call costs, in instructions of x86-64, with the loop of 10 to 12 round it. No cycle is on,
  * and nothing is refused; docs/c.md says how they were counted, and what of:
- *   alloc, 4 fields     108     load            78 to 90     4 roots: load_roots      318
- *   store_root           98     load_untold           76       store_roots            332
- *   store_int            63     peek, field       64, 60       insist_store_roots     425
- *   store_nil            54     root, room        57, 22       drop_roots              96
- *   copy, drop       48, 32     same                  59     load_path, 3 fields      240
- *   143 numbers: store_ints  2,998, load_ints  2,369     watch and unwatch            111
- *   1,000 bytes: store_text  2,775, load_text  3,723     next_gone, none gone          26
- *   make of 2 values, 6 values    324, 705               store_row of 4 values        433
+ *   alloc, 4 fields      92     load            77 to 87     4 roots: load_roots      313
+ *   store_root           88     load_untold           64       store_roots            327
+ *   store_int            63     peek, field       65, 61       insist_store_roots     408
+ *   store_nil            55     root, room        61, 22       drop_roots              88
+ *   copy, drop       42, 30     same                  48     load_path, 3 fields      247
+ *   143 numbers: store_ints  2,999, load_ints  2,375     watch and unwatch            114
+ *   1,000 bytes: store_text  2,775, load_text  3,729     next_gone, none gone          26
+ *   make of 2 values, 6 values    188, 330               store_row of 4 values        425
+ *   by number, rheap_shared_*: alloc 74, load 63 to 68, load_untold 47, stores 46 to 60, copy 29,
+ *     drop 20, peek 55
+ *   resize, resize_sized          231, 242, where they ask for no memory
  * The other rheap_insist_ calls cost what the plain ones do. In a cycle an allocation or a store does its
  * collector work too: 400 to 1,000 instructions, mostly. Words and memory: an object takes 2 words
  * and one for each field, a word 32 bytes, a ticket 12 bytes, and an entry of the log 32.
@@ -61,8 +64,8 @@ extern "C" {
 #endif
 
 /* The statuses. From 1 to 7 the call asks what it may not; from 8 to 10 a limit refuses it. Where
-   several hold, the least of 1 to 10 is answered, and NOT_OPEN before them. rheap_make and the calls
-   on fields in a row say their own order. A call that opens a heap answers the first that holds of
+   several hold, the least of 1 to 10 is answered, and NOT_OPEN before them. rheap_make, the calls
+   on fields in a row and rheap_resize say their own order. A call that opens a heap answers the first that holds of
    IS_OPEN, BAD_GROWTH, NO_PACE, BAD_SIZES and NO_MEMORY. */
 enum {
     /* The call was done. */
@@ -114,7 +117,12 @@ enum {
     /* The text has more bytes than there is room for. */
     RHEAP_TOO_LONG = 22,
     /* A cycle is on. */
-    RHEAP_CYCLE_ON = 23
+    RHEAP_CYCLE_ON = 23,
+    /* Objects use more words than the heap is to have, or the log holds more stores than it may
+       then. */
+    RHEAP_IN_USE = 24,
+    /* The heap grows: it chooses its own words. */
+    RHEAP_GROWS = 25
 };
 
 /* The kinds of values. */
@@ -344,8 +352,9 @@ typedef struct rheap_growth {
 
    In a cycle at most `ratio` units of collector work follow each allocated word and each stored
    field, and 5 more each allocation and each store. It takes memory, as the other calls that open
-   a heap and rheap_watch_room do, and rheap_release. rheap_dump_into and rheap_draw_into take some
-   while they run. No other call on a heap of fixed sizes does.
+   a heap and rheap_watch_room do, rheap_release, and rheap_resize and rheap_resize_sized where the
+   heap gets larger. rheap_dump_into and rheap_draw_into take some while they run. No other call on a
+   heap of fixed sizes does.
 
    Mind the order: words, live, biggest, ratio, owners, slots. All are of one type, so no compiler
    finds two of them swapped. rheap_open_sized leaves out `live` alone.
@@ -360,6 +369,32 @@ uint8_t rheap_open(rheap *heap, uint32_t words, uint32_t live, uint32_t biggest,
 uint8_t rheap_open_sized(rheap *heap, uint32_t words, uint32_t biggest, uint32_t ratio,
                          uint32_t owners, uint32_t slots);
 
+/* Gives a heap of fixed sizes so many words, in place and at any moment, in a cycle too. Objects,
+   roots and tickets stay as they are. The pace is chosen anew, as rheap_open chooses it, at the ratio
+   that the heap has: so no more than `live` words are to be reached from then on whenever a cycle
+   begins, and no object is to have more than `biggest` words.
+
+   It collects in time, as rheap_open says, from then on where
+     - no cycle is on, and the new mark is free beside the words in use: so it is after a
+       rheap_collect that leaves no more than `live` words; or
+     - it collected in time with this `live` and `biggest` before, in a cycle too, and has no fewer
+       words beside the mark than before.
+   Else it does so from the first moment on at which no cycle is on and the mark is free. Until then
+   calls may be SPACE_FULL or LOG_FULL.
+
+   It takes memory only where the heap gets more words or a longer log than it has. Fewer words give
+   none back by themselves: rheap_release does, of one space at a call. After all statuses but DONE
+   nothing has changed. The first of these that holds is answered: NOT_OPEN, GROWS, NO_PACE,
+   BAD_SIZES, where the words aren't 8 to RHEAP_MAX_WORDS, IN_USE, NO_MEMORY. Less may be in use
+   after rheap_collect, and the log is empty then.
+   DONE, NO_PACE, BAD_SIZES, NO_MEMORY, NOT_OPEN, IN_USE, GROWS. */
+uint8_t rheap_resize(rheap *heap, uint32_t words, uint32_t live, uint32_t biggest);
+
+/* The same, where the pace is chosen as rheap_open_sized does: as much of the space may live as the
+   ratio allows, words - 2 * mark. Of the two cases the first alone is meant: no `live` is named.
+   DONE, NO_PACE, BAD_SIZES, NO_MEMORY, NOT_OPEN, IN_USE, GROWS. */
+uint8_t rheap_resize_sized(rheap *heap, uint32_t words, uint32_t biggest);
+
 /* Opens a heap that grows. It begins with 40,000 words, or with at_most where that is less. After
    each cycle it should have twice the words that are used then, at least those that it began with,
    more where fewer wouldn't be in time, and at most at_most. Where it has fewer it gets these, and
@@ -368,9 +403,9 @@ uint8_t rheap_open_sized(rheap *heap, uint32_t words, uint32_t biggest, uint32_t
    It collects in time, as rheap_open says, however many words live, as long as rheap_short tells
    RHEAP_AMPLE: if the program makes no object of more than biggest words, each finds room, but for
    the epochs. Where memory for more words is refused, nothing fails for that: the heap goes on with
-   the words that it has, and asks again after its next cycle. All calls on a handle work as on a
-   heap of fixed sizes. Those that end a cycle take memory then: rheap_alloc and the like, stores,
-   rheap_collect, rheap_increment.
+   the words that it has, and asks again after its next cycle. All calls on a handle but rheap_resize
+   and rheap_resize_sized work as on a heap of fixed sizes. Those that end a cycle take memory then:
+   rheap_alloc and the like, stores, rheap_collect, rheap_increment.
 
    DONE, IS_OPEN, BAD_GROWTH, NO_PACE, BAD_SIZES, NO_MEMORY. */
 uint8_t rheap_open_growing(rheap *heap, uint32_t at_most, uint32_t biggest, uint32_t ratio,
@@ -830,8 +865,8 @@ static inline const char *rheap_name(uint8_t status) {
         "INT_RANGE",  "FIELDS_RANGE",  "SPACE_FULL",   "LOG_FULL",   "NUMBERS_SPENT", "EPOCHS_SPENT",
         "NOT_OPEN",   "IS_OPEN",       "NO_PACE",      "BAD_SIZES",  "NO_MEMORY",     "WATCHES_FULL",
         "NOT_WATCHED", "TICKETS_RANGE", "BAD_KIND",     "BAD_GROWTH",
-        "TOO_LONG",   "CYCLE_ON"};
-    return status <= RHEAP_CYCLE_ON ? names[status] : "UNKNOWN";
+        "TOO_LONG",   "CYCLE_ON",      "IN_USE",       "GROWS"};
+    return status <= RHEAP_GROWS ? names[status] : "UNKNOWN";
 }
 
 /* Slots of one owner that are used as a stack: rheap_push takes the next one, and rheap_pop_to

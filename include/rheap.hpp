@@ -85,7 +85,9 @@ enum class status : std::uint8_t {
     bad_kind = RHEAP_BAD_KIND,
     bad_growth = RHEAP_BAD_GROWTH,
     too_long = RHEAP_TOO_LONG,
-    cycle_on = RHEAP_CYCLE_ON
+    cycle_on = RHEAP_CYCLE_ON,
+    in_use = RHEAP_IN_USE,
+    grows = RHEAP_GROWS
 };
 
 // The name of a status, as "SPACE_FULL".
@@ -880,6 +882,20 @@ public:
         return of.is != 0 ? std::optional<::rheap_ended_cycle>(of) : std::nullopt;
     }
     std::optional<::rheap_ended_cycle> cycle(cycle_reader &by) { return try_cycle(by).value(); }
+    // Gives a heap of fixed sizes so many words, at its own ratio: as rheap_resize_sized, and as
+    // rheap_resize where no more than so many are to live at once. NO_PACE, BAD_SIZES, IN_USE where
+    // what is in use doesn't fit, NO_MEMORY, GROWS: nothing has changed then.
+    result<void> try_resize(std::uint32_t words, std::uint32_t biggest) noexcept {
+        return of_call(::rheap_resize_sized(&raw_, words, biggest));
+    }
+    result<void> try_resize_for(std::uint32_t words, std::uint32_t live,
+                                std::uint32_t biggest) noexcept {
+        return of_call(::rheap_resize(&raw_, words, live, biggest));
+    }
+    void resize(std::uint32_t words, std::uint32_t biggest) { try_resize(words, biggest).value(); }
+    void resize_for(std::uint32_t words, std::uint32_t live, std::uint32_t biggest) {
+        try_resize_for(words, live, biggest).value();
+    }
     // Gives memory back. CYCLE_ON where a cycle is on.
     result<void> try_release() noexcept { return of_call(::rheap_release(&raw_)); }
     void release() { try_release().value(); }

@@ -82,6 +82,8 @@ static inline uint8_t rheap_handled(uint8_t status, const char *call) {
 /* The calls of rheap.h, in its order. Whole traces have statuses of another kind. */
 #define rheap_open(...) RHEAP_HANDLED(rheap_open, __VA_ARGS__)
 #define rheap_open_sized(...) RHEAP_HANDLED(rheap_open_sized, __VA_ARGS__)
+#define rheap_resize(...) RHEAP_HANDLED(rheap_resize, __VA_ARGS__)
+#define rheap_resize_sized(...) RHEAP_HANDLED(rheap_resize_sized, __VA_ARGS__)
 #define rheap_open_growing(...) RHEAP_HANDLED(rheap_open_growing, __VA_ARGS__)
 #define rheap_open_growth(...) RHEAP_HANDLED(rheap_open_growth, __VA_ARGS__)
 #define rheap_close(...) RHEAP_HANDLED(rheap_close, __VA_ARGS__)

@@ -604,6 +604,27 @@ void views() {
     IS(other.try_release().status() == rh::status::not_open);
 }
 
+// A heap of fixed sizes that is given other words.
+void resizing() {
+    rh::heap heap(rh::sizes{400, 4});
+    const rh::root root{1, 0};
+    heap.alloc(root, 300);
+    IS(heap.try_resize(301, 4).status() == rh::status::in_use);
+    IS(heap.try_resize(400, 400).status() == rh::status::no_pace);
+    IS(heap.try_resize_for(400, 0, 150).status() == rh::status::no_pace);
+    IS(heap.try_resize_for(RHEAP_MAX_WORDS + 1, 300, 4).status() == rh::status::bad_sizes);
+    IS(heap.room(0).free == 98);
+    heap.resize(2000, 302);
+    IS(heap.room(0).free == 1698 && heap.fields(root) == 300);
+    heap.resize_for(302, 0, 4);
+    IS(heap.room(0).free == 0);
+    rh::heap grows = rh::heap::growing({1000, 4});
+    IS(grows.try_resize(2000, 4).status() == rh::status::grows);
+    IS(grows.try_resize_for(2000, 100, 4).status() == rh::status::grows);
+    rh::heap other;
+    IS(other.try_resize(2000, 4).status() == rh::status::not_open);
+}
+
 // A list of a thousand cells while many more are let go, and an array of rheap_array.h beside it.
 void collecting() {
     rh::heap heap(rh::sizes{8192, 40});
@@ -649,6 +670,7 @@ int main() {
     many_slots();
     growing();
     views();
+    resizing();
     collecting();
     return wrong;
 }

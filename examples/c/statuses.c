@@ -1,5 +1,6 @@
 /* Each status but three, reached by each call that answers it, and what the calls tell then. The
-   epochs and the numbers of stores are spent only after 2^62, and memory is refused in memory.c. It
+   epochs and the numbers of stores are spent only after 2^62, and memory is refused in memory.c. Those
+   of dumps and of memory that is given back are in views.c, and those of resizes in resizing.c. It
    is linked with --wrap for rheap_drop. Prints nothing where all is as it should be. */
 #include "rheap.h"
 #include <stdio.h>
@@ -74,6 +75,8 @@ static void without_a_heap(rheap *heap) {
     memset(&did, 0x5a, sizeof did);
     memset(&pacing, 0x5a, sizeof pacing);
     IS(rheap_close(heap), NOT_OPEN);
+    IS(rheap_resize(heap, 1000, 100, 4), NOT_OPEN);
+    IS(rheap_resize_sized(heap, 1000, 4), NOT_OPEN);
     IS(rheap_alloc(heap, 0, root, 1), NOT_OPEN);
     IS(rheap_alloc_raw(heap, 0, root, 1), NOT_OPEN);
     IS(rheap_load(heap, 0, root, root, 0, &value), NOT_OPEN);
@@ -811,12 +814,12 @@ static void names(void) {
         "INT_RANGE",     "FIELDS_RANGE", "SPACE_FULL", "LOG_FULL",   "NUMBERS_SPENT",
         "EPOCHS_SPENT",  "NOT_OPEN",     "IS_OPEN",    "NO_PACE",    "BAD_SIZES",
         "NO_MEMORY",     "WATCHES_FULL", "NOT_WATCHED", "TICKETS_RANGE", "BAD_KIND",
-        "BAD_GROWTH",    "TOO_LONG",     "CYCLE_ON"};
+        "BAD_GROWTH",    "TOO_LONG",     "CYCLE_ON",   "IN_USE",   "GROWS"};
     int status;
 
     for (status = 0; status < 256; status++) {
         const char *name = rheap_name((uint8_t)status);
-        if (strcmp(name, status < 24 ? due[status] : "UNKNOWN") != 0) {
+        if (strcmp(name, status < 26 ? due[status] : "UNKNOWN") != 0) {
             printf("status %d is named %s\n", status, name);
             wrong = 1;
         }
@@ -846,6 +849,8 @@ static void names(void) {
     IS_NAMED(BAD_GROWTH);
     IS_NAMED(TOO_LONG);
     IS_NAMED(CYCLE_ON);
+    IS_NAMED(IN_USE);
+    IS_NAMED(GROWS);
 }
 
 int main(void) {

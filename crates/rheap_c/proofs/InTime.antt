@@ -26,7 +26,7 @@ use Rattle.rh_pace.specs.declared.errors.EpochsSpent.{EpochsSpent}
 use Rattle.rh_core.specs.declared.outcomes.Flipped.{Flipped}
 use Rattle.rh_pace.specs.Collecting.{collect_step, insist_step, wants_room}
 use Rattle.rh_pace.specs.InTime.{IsInTime, StayWithin, StaysWithin, paced_after}
-use Rattle.rh_pace.specs.KeptUp.{IsPaced}
+use Rattle.rh_pace.specs.KeptUp.{IsKept, IsPaced}
 use Rattle.rh_pace.specs.Pace.{KeepsUp, lag_of}
 use Rattle.rh_pace.specs.Paced.{PacedState, paced_step, with_increment}
 use Rattle.rh_pace.specs.Reaching.{AreEpochsSpent}
@@ -45,7 +45,7 @@ use Rattle.rheap_c.specs.Collected.{collect_status}
 use Rattle.rheap_c.specs.Opened.{IsNew, IsOpened, Opens, opened}
 use Rattle.rheap_c.specs.Read.{count_in, count_of_reply, count_status, field_answer, graph_in, peek_answer, root_answer}
 use Rattle.rheap_c.specs.Rows.{after_row, after_unless, byte_in, read_into, ready_for, row_refusal, row_status}
-use Rattle.rheap_c.specs.Room.{AlwaysFindRoom, AlwaysFindSpace, FindRoomIfFit, RowFitsAt, CallStaysWithin, CallsStayWithin, CollectsWithin, InsistsOnNothing, IsCallBounded, RowFits, RowStaysWithin}
+use Rattle.rheap_c.specs.Room.{AlwaysFindRoom, AlwaysFindSpace, FindRoomIfFit, FindsRoom, RowFitsAt, CallStaysWithin, CallsStayWithin, CollectsWithin, InsistsOnNothing, IsCallBounded, RowFits, RowStaysWithin}
 use Rattle.rheap_c.specs.Runs.{Answer, AreMade, Call, IsMade, after_call, answer_to, answers_to, command_of, doing, is_limit_status, with_numbers, with_read, with_text}
 use Rattle.rheap_c.specs.Runs.Call.{Does, Loads, Compares, InsistsOn, CollectsNow, IncrementsNow, Peeks, ReadsField, ReadsRoot, Counts, TellsNumbers, StoresInts, InsistsOnInts, LoadsInts, LoadsText}
 use Rattle.rheap_c.specs.Told.{status_of}
@@ -553,6 +553,14 @@ module _ (laws : StepLaws) (live biggest : ℕ) where
       AlwaysFindSpace-answers_to calls (after_call s call)
       (KeepsTime-after_call s keeps call within.0 (HasLogToInsist-nothing biggest s call (All-head InsistsOnNothing call calls nothing)))
       within.1 (All-tail InsistsOnNothing call calls nothing) i a is full
+
+  -- From a heap on that keeps time.
+  pub FindsRoom-in_time : (s : PacedState) → IsKept s → IsInTime live biggest s → FindsRoom live biggest s
+  FindsRoom-in_time s kept in_time new calls answers made within =
+      let keeps : KeepsTime live biggest s = record { well = kept.0; paced = kept.1; in_time = in_time } in (
+        (λ nothing. subst (AlwaysFindSpace s calls) (sym (AreMade-run s new calls answers made).1) (AlwaysFindSpace-answers_to calls s keeps within nothing)),
+        (λ log. FindRoomIfFit-made calls s new answers keeps log within made),
+      )
 
   -- From an open on.
   module _ (config : Config) (pace : Pace) (s : PacedState) (is_new : IsNew config pace s) (up : KeepsUp config.words live biggest config.ratio pace)

@@ -2,6 +2,8 @@ pub mod Boxes
 pub mod Handles
 pub mod GrowingHandles
 pub mod Openings
+mod Resizes
+mod ResizedRoom
 pub mod Readings
 pub mod Rows
 pub mod Runs
@@ -33,3 +35,4 @@ mod Untouched
 mod ValueKinds
 mod GrownLists
 mod PlainMakes
+mod KeptReaders

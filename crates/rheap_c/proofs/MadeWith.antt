@@ -2,6 +2,7 @@
 use Rattle.std.proofs.Common.{◌≡◌, ℕ, ◌<◌, ◌≤◌, Bool, true, false, List, length, Option, Some, None, Result, Ok, refl, sym, ap, subst, ◌∙◌, arith}
 use Rattle.std.specs.Prelude.{is_none, nat_lt, if◌then◌else◌}
 use Rattle.std.proofs.lemmas.Bool.{true≢false}
+use Rattle.std.proofs.lemmas.List.{length-map}
 use Rattle.rh_layout.specs.declared.command.Operand.{Operand}
 use Rattle.rh_layout.specs.declared.command.Reply.{Reply}
 use Rattle.rh_layout.specs.declared.command.RootId.{RootId}
@@ -11,7 +12,9 @@ use Rattle.rh_pace.specs.Collecting.{wants_room}
 use Rattle.rh_pace.specs.Making.{IsInsistedMake, IsPacedMake}
 use Rattle.rh_pace.specs.Paced.{PacedState}
 use Rattle.rh_pace.proofs.InsistedMakes.{makes-stop}
+use Rattle.rh_pace.proofs.Making.{values-made}
 use Rattle.rheap_c.specs.declared.init.RheapInit.{RheapInit}
+use Rattle.rheap_c.specs.Init.{operand_of}
 use Rattle.rheap_c.specs.Making.{IsMadeUnless, IsMadeWith, Makes, have_kinds, making, operands_of, values_fault}
 use Rattle.rheap_c.specs.Told.{status_of}
 
@@ -89,12 +92,6 @@ module _ (s t : PacedState) (owner : ℕ) (dst : RootId) (shape : Shape) (operan
   made-straight false reply call = (Ok reply, call, refl)
   made-straight true reply call = (Ok reply, tried reply call, refl)
 
-  pub made-again : (IsMake : Makes) (after : PacedState) → t ≡ s → (status : ℕ)
-      → IsMadeUnless IsMake None t after owner dst shape operands status
-      → IsMadeUnless IsMake None s after owner dst shape operands status
-  made-again IsMake after same status made =
-      subst (λ (x : PacedState). IsMadeUnless IsMake None x after owner dst shape operands status) same made
-
   pub made-plainly : (insists : Bool) → insists ≡ false → (told : Result Reply Refusal)
       → IsPacedMake s t owner dst shape operands told → (status : ℕ) → status ≡ status_of told
       → IsMadeUnless (making insists) None s t owner dst shape operands status
@@ -108,3 +105,19 @@ module _ (s t : PacedState) (owner : ℕ) (dst : RootId) (shape : Shape) (operan
   made-insisting insists is told call status says =
       let made : IsMadeUnless (making true) None s t owner dst shape operands status = (told, call, says) in
       subst (λ (b : Bool). IsMadeUnless (making b) None s t owner dst shape operands status) (sym is) made
+
+-- Where the values were read where they lie, each is of a kind that there is, and they are few.
+pub made-given : (values : List RheapInit) (s t : PacedState) (owner : ℕ) (dst : RootId) (shape : Shape) (insists : Bool) (reply : Reply) → have_kinds values ≡ true
+    → IsPacedMake s t owner dst shape (operands_of values) (Ok reply)
+    → IsMadeUnless (making insists) (values_fault values) s t owner dst shape (operands_of values) 0
+made-given values s t owner dst shape insists reply good call =
+    let few : length (operands_of values) ≤ 4095 = values-made s.heap owner dst shape (operands_of values) (Ok reply) call.answer in
+    let same = length-map values operand_of in
+    made-of (making insists) values s t owner dst shape (omega (arith, same, few)) good (operands_of values) refl 0
+    (made-straight s t owner dst shape (operands_of values) insists reply call)
+
+-- and where that did nothing, what the call by operands does is done
+pub made-otherwise : (IsMake : Makes) (why : Option ℕ) (s t after : PacedState) (owner : ℕ) (dst : RootId) (shape : Shape) (operands : List Operand) (status : ℕ) → t ≡ s
+    → IsMadeUnless IsMake why t after owner dst shape operands status → IsMadeUnless IsMake why s after owner dst shape operands status
+made-otherwise IsMake why s t after owner dst shape operands status same made =
+    subst (λ (x : PacedState). IsMadeUnless IsMake why x after owner dst shape operands status) same made

@@ -1,5 +1,5 @@
 -- What a call of C's reads of the cycles of a heap, by a reader in the caller's memory.
-use Rattle.std.specs.Prelude.{◌≡◌, ℕ, Bool, true, false, nat_eq, not, if◌then◌else◌, Option, Some, None, is_some}
+use Rattle.std.specs.Prelude.{◌≡◌, ℕ, Bool, true, false, nat_eq, not, if◌then◌else◌, List, [], ◌∷◌, Option, Some, None, is_some}
 use Rattle.rh_core.specs.declared.stat.Stat.{Stat}
 use Rattle.rh_pace.specs.Paced.{PacedState}
 use Rattle.rh_cycles.specs.declared.cycle.Cycle.{Cycle}
@@ -8,7 +8,7 @@ use Rattle.rh_cycles.specs.declared.cycle.CycleEnd.TheVariants.{Flipped, Abandon
 use Rattle.rh_cycles.specs.declared.kept.CyclesKept.{CyclesKept}
 use Rattle.rh_cycles.specs.declared.running.Running.{Running}
 use Rattle.rh_cycles.specs.Cycles.{no_counts}
-use Rattle.rh_cycles.specs.Heaps.{after_step, cycles_kept, kept_in, new_cycles}
+use Rattle.rh_cycles.specs.Heaps.{CyclesState, after_step, cycles_kept, kept_in, new_cycles}
 use Rattle.rheap_c.specs.declared.cycle_numbers.RheapCycleReader.{RheapCycleReader}
 use Rattle.rheap_c.specs.declared.cycle_numbers.RheapEndedCycle.{RheapEndedCycle}
 use Rattle.rheap_c.specs.declared.numbers.RheapStats.{RheapStats}
@@ -144,3 +144,36 @@ ReadsCycle None new before after told status =
 ReadsCycle (Some s) new before after told status =
     (new ≡ Some s) × (after ≡ (cycle_read before s).0) × (told ≡ (cycle_read before s).1)
     × (status ≡ 0)
+
+-- Readings one after the other, each of the heap as it is then.
+
+-- the cycles that they tell
+abbrev pub told_by_readings : RheapCycleReader → List PacedState → List RheapEndedCycle
+told_by_readings r [] = []
+told_by_readings r (s ∷ heaps) =
+    (cycle_read r s).1 ∷ told_by_readings (cycle_read r s).0 heaps
+
+-- the reader after them
+abbrev pub after_readings : RheapCycleReader → List PacedState → RheapCycleReader
+after_readings r [] = r
+after_readings r (s ∷ heaps) = after_readings (cycle_read r s).0 heaps
+
+-- what `Cycles` tells that is asked after each of some calls, by the heaps that these calls left
+abbrev pub told_after_each : CyclesState → List PacedState → List (Option Cycle)
+told_after_each c [] = []
+told_after_each c (s ∷ heaps) = (after_step c s).1 ∷ told_after_each (after_step c s).0 heaps
+
+-- and what it is then
+abbrev pub after_each : CyclesState → List PacedState → CyclesState
+after_each c [] = c
+after_each c (s ∷ heaps) = after_each (after_step c s).0 heaps
+
+-- `Cycles` was asked after each of these calls, and told so: each time as its contract says, from what
+-- the time before left of it.
+abbrev pub AreAsked : CyclesState → CyclesState → List PacedState → List (Option Cycle) → Type 0
+AreAsked old new [] [] = new ≡ old
+AreAsked old new [] (t ∷ told) = ⊥
+AreAsked old new (s ∷ heaps) [] = ⊥
+AreAsked old new (s ∷ heaps) (t ∷ told) =
+    (between : CyclesState) × (between ≡ (after_step old s).0) × (t ≡ (after_step old s).1)
+    × AreAsked between new heaps told

@@ -7,6 +7,7 @@ pub mod Insisted
 pub mod Init
 pub mod Making
 pub mod Opened
+pub mod Resized
 pub mod Collected
 pub mod Numbers
 pub mod Read

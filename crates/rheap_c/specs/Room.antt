@@ -16,7 +16,7 @@ use Rattle.rh_pace.specs.Reaching.{AreEpochsSpent}
 use Rattle.rheap_c.specs.declared.numbers.RheapWords.{RheapWords}
 use Rattle.rheap_c.specs.Read.{graph_in}
 use Rattle.rheap_c.specs.Rows.{plain_refusal, ready_for, row_refusal}
-use Rattle.rheap_c.specs.Runs.{Answer, Call, after_call, after_calls, command_of, is_limit_status, plain_unless_limited, row_of}
+use Rattle.rheap_c.specs.Runs.{Answer, AreMade, Call, after_call, after_calls, command_of, is_limit_status, plain_unless_limited, row_of}
 use Rattle.rheap_c.specs.Runs.Call.{CollectsNow, InsistsOn, InsistsOnInts, StoresInts}
 
 -- a command, where there is one, stays within the bounds of a pace
@@ -114,6 +114,14 @@ FindRoomIfFit biggest s calls answers = (i : ℕ) (a : Answer) → slice_get ans
 abbrev pub AlwaysFindSpace : PacedState → List Call → List Answer → Type 0
 AlwaysFindSpace s calls answers = (i : ℕ) (a : Answer) → slice_get answers i ≡ Some a
     → a.status ≡ 8 → AreEpochsSpent (after_calls s (take i calls)).heap
+
+-- From here on calls within these bounds find room in the space, if they insist on nothing, and also in
+-- the log, if it keeps more entries than the lag.
+abbrev pub FindsRoom : ℕ → ℕ → PacedState → Type 0
+FindsRoom live biggest s = (new : Option PacedState) (calls : List Call) (answers : List Answer)
+    → AreMade (Some s) new calls answers → CallsStayWithin live biggest s calls
+    → (All InsistsOnNothing calls → AlwaysFindSpace s calls answers)
+    × (lag_of s.pace biggest < s.heap.mutators.config.log_limit → FindRoomIfFit biggest s calls answers)
 
 -- an answer has no status of a limit
 abbrev pub IsUnlimited : Answer → Type 0

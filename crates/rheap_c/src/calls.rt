@@ -8,6 +8,7 @@ pub mod numbers;
 pub mod objects;
 pub mod opening;
 pub mod reading;
+pub mod resizing;
 pub mod root_rows;
 pub mod several;
 pub mod shared;

@@ -8,6 +8,7 @@ pub(crate) mod numbers;
 pub(crate) mod objects;
 pub(crate) mod opening;
 pub(crate) mod reading;
+pub(crate) mod resizing;
 pub(crate) mod root_rows;
 pub(crate) mod several;
 pub(crate) mod shared;

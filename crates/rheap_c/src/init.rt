@@ -2,9 +2,11 @@
 
 ghost use Rattle.std.specs.Prelude.{◌≡◌};
 ghost use Rattle.rheap_c.specs.Init.{operand_of};
+ghost use Rattle.rheap_c.specs.Making.{has_kind};
 
-use crate::value::{NIL, NUMBER, RheapRoot};
-use rh_layout::Operand;
+use crate::value::{NIL, NUMBER, RAW, RheapRoot};
+use rh_layout::{Operand, RootId};
+use rh_mutator::{GivenKind, GivenValue};
 
 /// A value to be written: nil, a whole number, or what a root holds.
 #[repr(C)]
@@ -31,5 +33,34 @@ impl RheapInit {
             return Operand::Int(self.number);
         }
         Operand::Root(self.root.id())
+    }
+}
+
+impl GivenValue for RheapInit {
+    ghost operand = { operand_of };
+
+    ghost is_known = { has_kind };
+
+    #[inline(always)]
+    fn kind(&self) -> GivenKind {
+        if self.kind == NUMBER {
+            GivenKind::Number
+        } else if self.kind == NIL {
+            GivenKind::Nil
+        } else if self.kind <= RAW {
+            GivenKind::Root
+        } else {
+            GivenKind::Unknown
+        }
+    }
+
+    #[inline(always)]
+    fn number(&self) -> i64 {
+        self.number
+    }
+
+    #[inline(always)]
+    fn root(&self) -> RootId {
+        self.root.id()
     }
 }

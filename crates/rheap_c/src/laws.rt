@@ -6,8 +6,10 @@ pub mod growing;
 pub mod making;
 pub mod numbers;
 pub mod readings;
+pub mod resizing;
 pub mod room;
 pub mod runs;
+pub mod views;
 
 pub use command_rows::{
     a_growing_row_is_its_commands_up_to_a_refusal, a_row_is_its_commands_up_to_a_refusal,
@@ -27,6 +29,7 @@ pub use readings::{
     a_row_is_read_as_its_fields_are, a_text_is_read_as_it_was_stored,
     a_text_is_read_as_its_fields_are, counts_are_those_of_the_objects, readings_answer_as_commands,
 };
+pub use resizing::a_resized_heap_finds_room;
 pub use room::{
     a_refusal_for_room_has_the_numbers_of_rheap_room, calls_bounded_on_a_plain_heap_find_room,
     calls_stay_within_as_their_commands, calls_within_bounds_find_room,
@@ -34,4 +37,7 @@ pub use room::{
 pub use runs::{
     a_refused_row_changes_nothing, calls_are_these_commands, calls_make_one_run,
     each_call_stands_in_lists, no_program_in_c_sees_that_the_heap_collects,
+};
+pub use views::{
+    a_dump_from_c_is_that_of_the_plain_heap, a_reader_kept_in_c_tells_what_cycles_tells,
 };

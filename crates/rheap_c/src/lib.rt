@@ -42,6 +42,7 @@ pub use calls::opening::{
     rheap_close, rheap_open, rheap_open_growing, rheap_open_growth, rheap_open_sized,
 };
 pub use calls::reading::{rheap_field, rheap_fields, rheap_peek, rheap_root};
+pub use calls::resizing::{rheap_resize, rheap_resize_sized};
 pub use calls::root_rows::{
     rheap_drop_roots, rheap_insist_store_roots, rheap_load_path, rheap_load_roots,
     rheap_store_roots,

@@ -48,6 +48,12 @@ pub const TOO_LONG: u8 = 22;
 /// A cycle is on.
 pub const CYCLE_ON: u8 = 23;
 
+/// What is in use doesn't fit into the words that a heap is to have, or into its log.
+pub const IN_USE: u8 = 24;
+
+/// The heap grows, and chooses its own words.
+pub const GROWS: u8 = 25;
+
 /// The number of the refusal `FieldsRange`.
 pub(crate) const FIELDS_RANGE: u8 = 7;
 

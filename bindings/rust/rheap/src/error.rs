@@ -136,11 +136,23 @@ pub enum Error {
     },
     /// A cycle is on, so no memory is given back: [`Heap::collect`](crate::Heap::collect) ends it.
     CycleOn,
+    /// Objects use more words than the heap was to have, or its log holds more stores than it might
+    /// then. Less may be in use after [`Heap::collect`](crate::Heap::collect), and the log is empty.
+    InUse {
+        /// The words that were asked for.
+        words: u32,
+        /// The words that objects use.
+        used: u64,
+        /// The stores that the log holds.
+        holds: u64,
+    },
+    /// The heap grows: it chooses its own words.
+    Grows,
 }
 
 impl Error {
     /// Whether a limit refused the call: `SpaceFull`, `LogFull`, `NumbersSpent`, `EpochsSpent`,
-    /// `NoMemory` or `WatchesFull`. All others but `CycleOn` are mistakes of the program.
+    /// `NoMemory` or `WatchesFull`. All others but `CycleOn` and `InUse` are mistakes of the program.
     pub fn is_limit(&self) -> bool {
         matches!(
             self,
@@ -274,6 +286,11 @@ impl fmt::Display for Error {
                 raw::MAX_TICKETS
             ),
             Error::CycleOn => write!(f, "a cycle is on"),
+            Error::InUse { words, used, holds } => write!(
+                f,
+                "{words} words are too few: objects use {used}, and the log holds {holds} stores"
+            ),
+            Error::Grows => write!(f, "the heap grows, and chooses its own words"),
         }
     }
 }

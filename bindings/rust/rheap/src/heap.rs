@@ -9,9 +9,9 @@ use std::iter::FusedIterator;
 use std::ptr::null_mut;
 
 /// A heap that collects by itself. It is open from when it is made until it is dropped, which frees
-/// its memory. Only making one, [`Heap::watch_room`] and [`Heap::release`] take memory, and
-/// [`Heap::dump`] and [`Heap::draw`] while they run; of a heap that [`Heap::growing`] made, also the
-/// calls that end a cycle.
+/// its memory. Only making one, [`Heap::watch_room`], [`Heap::release`], and [`Heap::resize`] and
+/// [`Heap::resize_for`] if it gets larger, take memory, and [`Heap::dump`] and [`Heap::draw`] while they
+/// run; of a heap that [`Heap::growing`] made, also the calls that end a cycle.
 ///
 /// It may go to another thread, and isn't [`Sync`].
 // What each call below relies on, and this type keeps:
@@ -26,7 +26,7 @@ use std::ptr::null_mut;
 //     since the borrow of one of the two is exclusive.
 pub struct Heap {
     raw: UnsafeCell<raw::Rheap>,
-    sizes: Sizes,
+    pub(crate) sizes: Sizes,
 }
 
 // SAFETY: the handle may go from one thread to another: what it owns is its heap alone, which is
@@ -174,7 +174,8 @@ impl Heap {
         }
     }
 
-    /// The sizes with which it was made.
+    /// Its sizes: those with which it was made, with the words and the biggest object of the last
+    /// [`Heap::resize`] or [`Heap::resize_for`] that was done.
     #[inline]
     pub fn sizes(&self) -> Sizes {
         self.sizes

@@ -67,7 +67,8 @@
 //! # Growing
 //!
 //! [`Heap::growing`] makes a heap whose space grows, and shrinks, with what lives in it, up to a limit.
-//! All calls work on it.
+//! All calls work on it but [`Heap::resize`] and [`Heap::resize_for`], which give a heap of fixed sizes
+//! other words.
 //!
 //! # Looking at a heap
 //!
@@ -128,6 +129,7 @@ mod making;
 mod memory;
 mod numbers;
 mod raw;
+mod resizing;
 mod root;
 mod rows;
 mod text;

@@ -29,6 +29,8 @@ pub const BAD_KIND: u8 = 20;
 pub const BAD_GROWTH: u8 = 21;
 pub const TOO_LONG: u8 = 22;
 pub const CYCLE_ON: u8 = 23;
+pub const IN_USE: u8 = 24;
+pub const GROWS: u8 = 25;
 
 pub const AMPLE: u8 = 0;
 pub const AT_MOST: u8 = 1;
@@ -191,6 +193,8 @@ extern "C" {
         owners: u32,
         slots: u32,
     ) -> u8;
+    pub fn rheap_resize(heap: *mut Rheap, words: u32, live: u32, biggest: u32) -> u8;
+    pub fn rheap_resize_sized(heap: *mut Rheap, words: u32, biggest: u32) -> u8;
     pub fn rheap_open_growing(
         heap: *mut Rheap,
         at_most: u32,

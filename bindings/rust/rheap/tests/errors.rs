@@ -1,7 +1,7 @@
 //! Each refusal by each call that has it, with its numbers and its line. What comes after 2^62 calls
 //! is tested beside the code.
 
-use rheap::{values, Error, Heap, Operand, Root, Sizes, Value, MAX_INT, MIN_INT};
+use rheap::{values, Error, Growth, Heap, Operand, Root, Sizes, Value, MAX_INT, MIN_INT};
 
 const SIZES: Sizes = Sizes {
     words: 1000,
@@ -116,6 +116,51 @@ fn sizes_out_of_their_ranges() {
         ..SIZES
     };
     assert!(Heap::sized(most).is_ok());
+}
+
+#[test]
+fn other_words_that_are_refused() -> Result<(), Error> {
+    let mut heap = heap();
+    let cell = root(&heap, 1, 0);
+    heap.alloc_raw(cell, 60)?;
+    let sizes = Sizes {
+        biggest: 900,
+        ..SIZES
+    };
+    let refused = heap.resize(1000, 900).unwrap_err();
+    assert_eq!(refused, Error::NoPace { sizes, live: None });
+    let refused = heap.resize_for(1000, 1000, 4).unwrap_err();
+    assert_eq!(
+        refused,
+        Error::NoPace {
+            sizes: SIZES,
+            live: Some(1000)
+        }
+    );
+    let refused = heap.resize(u32::MAX, 4).unwrap_err();
+    says(
+        refused,
+        "a size is out of its range: words is 4294967295, not 8 to 16777216",
+    );
+    let refused = heap.resize_for(61, 0, 4).unwrap_err();
+    assert!(!refused.is_limit());
+    says(
+        refused,
+        "61 words are too few: objects use 62, and the log holds 0 stores",
+    );
+    assert_eq!(heap.sizes(), SIZES);
+    assert_eq!(heap.stat().free, 938);
+    heap.resize_for(62, 0, 4)?;
+    assert_eq!(heap.sizes(), Sizes { words: 62, ..SIZES });
+
+    let mut heap = Heap::growing(Growth {
+        biggest: 4,
+        ..Growth::up_to(1000)
+    })?;
+    assert_eq!(heap.resize(2000, 4), Err(Error::Grows));
+    assert_eq!(heap.resize_for(0, 0, 0), Err(Error::Grows));
+    says(Error::Grows, "the heap grows, and chooses its own words");
+    Ok(())
 }
 
 #[test]

@@ -53,6 +53,15 @@ fn play_refused_memory() {
     }
     assert!(Heap::sized(SIZES).is_ok());
     assert_eq!(Heap::sized_for(HUGE, 1000).unwrap_err(), Error::NoMemory);
+    let mut heap = Heap::sized(SIZES).expect("there is room for two small spaces");
+    let before = (heap.stat(), heap.pace());
+    for _ in 0..20 {
+        assert_eq!(heap.resize(HUGE.words, 4), Err(Error::NoMemory));
+        assert_eq!(heap.resize_for(HUGE.words, 1000, 4), Err(Error::NoMemory));
+        assert_eq!((heap.stat(), heap.pace()), before);
+        assert_eq!(heap.sizes(), SIZES);
+    }
+    heap.resize(1 << 19, 4).expect("fewer words take no memory");
 }
 
 #[test]

@@ -239,6 +239,7 @@ fn random_calls_are_answered_as_by_a_plain_heap() {
     let mut refused = 0;
     let mut limited = 0;
     let mut flips = 0;
+    let mut resized = 0;
     for seed in 1..=200 {
         // Every second heap is too small for what lives, so that limits are met.
         let small = Sizes {
@@ -275,6 +276,15 @@ fn random_calls_are_answered_as_by_a_plain_heap() {
                     }
                     assert_eq!(told, $due, "seed {seed}, step {step}, call {kind}");
                 }};
+            }
+            // Every third heap is given other words now and then, in cycles too.
+            if seed % 3 == 0 && step % 20 == 19 {
+                let words = heap.stat().used as u32 + 100 + random.below(300) as u32;
+                match heap.resize_for(words, 5, SIZES.biggest) {
+                    Ok(()) => resized += 1,
+                    Err(Error::InUse { .. }) => {}
+                    Err(other) => panic!("seed {seed}, step {step}: {other}"),
+                }
             }
             match kind {
                 0..=3 => {
@@ -380,8 +390,8 @@ fn random_calls_are_answered_as_by_a_plain_heap() {
         "{done} done, {refused} refused"
     );
     assert!(
-        flips > 200 && limited > 0,
-        "{flips} flips, {limited} limited"
+        flips > 200 && limited > 0 && resized > 2000,
+        "{flips} flips, {limited} limited, {resized} resized"
     );
     println!("{done} done, {refused} refused, {limited} limited, {flips} flips");
 }

@@ -34,7 +34,7 @@ pub extern "C" fn rheap_make(
 {
     if heap.fixed.is_empty() {
         let shape = Shape { fields, raw: false };
-        return growing::making::make(&mut heap.growing, alloc, false, owner, dst, shape, values);
+        return growing::making::make(&mut heap.growing, alloc, owner, dst, shape, values, false);
     }
     fixed::making::make(&mut heap.fixed, owner, dst, fields, values)
 }
@@ -57,7 +57,7 @@ pub extern "C" fn rheap_make_raw(
 {
     if heap.fixed.is_empty() {
         let shape = Shape { fields, raw: true };
-        return growing::making::make(&mut heap.growing, alloc, false, owner, dst, shape, values);
+        return growing::making::make(&mut heap.growing, alloc, owner, dst, shape, values, false);
     }
     fixed::making::make_raw(&mut heap.fixed, owner, dst, fields, values)
 }
@@ -82,7 +82,7 @@ pub extern "C" fn rheap_insist_make(
 {
     if heap.fixed.is_empty() {
         let shape = Shape { fields, raw: false };
-        return growing::making::make(&mut heap.growing, alloc, true, owner, dst, shape, values);
+        return growing::making::make(&mut heap.growing, alloc, owner, dst, shape, values, true);
     }
     fixed::making::insist_make(&mut heap.fixed, owner, dst, fields, values)
 }
@@ -106,7 +106,7 @@ pub extern "C" fn rheap_insist_make_raw(
 {
     if heap.fixed.is_empty() {
         let shape = Shape { fields, raw: true };
-        return growing::making::make(&mut heap.growing, alloc, true, owner, dst, shape, values);
+        return growing::making::make(&mut heap.growing, alloc, owner, dst, shape, values, true);
     }
     fixed::making::insist_make_raw(&mut heap.fixed, owner, dst, fields, values)
 }

@@ -1,7 +1,7 @@
 //! Objects that are made with their values: `rheap_make`, `rheap_insist_make` and the like.
 //!
-//! The heap takes operands, and C gives values, so these are translated into an array of operands
-//! that lies on the stack. It is small where there are few values.
+//! Where the heap makes the object straight, it reads C's values where they lie. Else they are
+//! translated into an array of operands on the stack, which is small where there are few values.
 
 ghost use Rattle.std.specs.Prelude.{◌≡◌, ◌≤◌, None, false, length, take, true};
 ghost use Rattle.rh_layout.specs.Shape.{shape_of};
@@ -42,7 +42,7 @@ pub(crate) fn make(
         return NOT_OPEN;
     }
     let shape = Shape { fields, raw: false };
-    made(heap.here(), false, owner, dst.id(), shape, values)
+    made(heap.here(), owner, dst.id(), shape, values, false)
 }
 
 /// `rheap_make_raw`, on a heap of fixed sizes.
@@ -61,7 +61,7 @@ pub(crate) fn make_raw(
         return NOT_OPEN;
     }
     let shape = Shape { fields, raw: true };
-    made(heap.here(), false, owner, dst.id(), shape, values)
+    made(heap.here(), owner, dst.id(), shape, values, false)
 }
 
 /// `rheap_insist_make`, on a heap of fixed sizes.
@@ -80,7 +80,7 @@ pub(crate) fn insist_make(
         return NOT_OPEN;
     }
     let shape = Shape { fields, raw: false };
-    made(heap.here(), true, owner, dst.id(), shape, values)
+    made(heap.here(), owner, dst.id(), shape, values, true)
 }
 
 /// `rheap_insist_make_raw`, on a heap of fixed sizes.
@@ -99,42 +99,38 @@ pub(crate) fn insist_make_raw(
         return NOT_OPEN;
     }
     let shape = Shape { fields, raw: true };
-    made(heap.here(), true, owner, dst.id(), shape, values)
+    made(heap.here(), owner, dst.id(), shape, values, true)
 }
 
-/// Makes an object with the values, or insists on it. Where they are few, and the object is made
-/// straight, that takes few instructions.
+/// Makes an object with the values, or insists on it. Where it is made straight they are read where
+/// they lie, which takes few instructions.
 #[inline(always)]
 fn made(
     heap: &mut PacedHeap<Global>,
-    insists: bool,
     owner: u32,
     dst: RootId,
     shape: Shape,
     values: &[RheapInit],
+    insists: bool,
 ) -> u8
     ensures { IsMadeUnless (making insists) (values_fault values.now) heap.old heap.new owner dst
         shape (operands_of values.now) result }
 {
-    if values.len() > FEW {
-        return made_of_many(heap, insists, owner, dst, shape, values);
+    match heap.make_given(owner, dst, shape, values) {
+        Some(_) => DONE,
+        None => made_by_operands(heap, owner, dst, shape, values, insists),
     }
-    let mut operands = [Operand::Nil; FEW];
-    if !translate(values, &mut operands) {
-        return BAD_KIND;
-    }
-    made_straight(heap, insists, owner, dst, shape, &operands[..values.len()])
 }
 
-/// As `made`, of more than a few values.
+/// As `made`, also in a cycle, where one begins, and where it is refused.
 #[inline(never)]
-fn made_of_many(
+fn made_by_operands(
     heap: &mut PacedHeap<Global>,
-    insists: bool,
     owner: u32,
     dst: RootId,
     shape: Shape,
     values: &[RheapInit],
+    insists: bool,
 ) -> u8
     ensures { IsMadeUnless (making insists) (values_fault values.now) heap.old heap.new owner dst
         shape (operands_of values.now) result }
@@ -145,7 +141,10 @@ fn made_of_many(
     if values.len() > MANY {
         return made_by_way_of::<MOST>(heap, insists, owner, dst, shape, values);
     }
-    made_by_way_of::<MANY>(heap, insists, owner, dst, shape, values)
+    if values.len() > FEW {
+        return made_by_way_of::<MANY>(heap, insists, owner, dst, shape, values);
+    }
+    made_by_way_of::<FEW>(heap, insists, owner, dst, shape, values)
 }
 
 /// As `made`, with an array of so many operands.
@@ -170,27 +169,8 @@ fn made_by_way_of<const N: usize>(
     made_at_length(heap, insists, owner, dst, shape, &operands[..values.len()])
 }
 
-/// Makes an object with the operands' values straight, or else at length.
+/// Makes an object with the operands' values, or insists on it.
 #[inline(always)]
-fn made_straight(
-    heap: &mut PacedHeap<Global>,
-    insists: bool,
-    owner: u32,
-    dst: RootId,
-    shape: Shape,
-    operands: &[Operand],
-) -> u8
-    ensures { IsMadeUnless (making insists) None heap.old heap.new owner dst shape operands.now
-        result }
-{
-    match heap.make_straight(owner, dst, shape, operands) {
-        Some(_) => DONE,
-        None => made_at_length(heap, insists, owner, dst, shape, operands),
-    }
-}
-
-/// As `made_straight`, also in a cycle, where one begins, and where it is refused.
-#[inline(never)]
 fn made_at_length(
     heap: &mut PacedHeap<Global>,
     insists: bool,

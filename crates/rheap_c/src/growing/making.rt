@@ -19,11 +19,11 @@ use std::alloc::Global;
 pub(crate) fn make(
     heap: &mut GrowingPart,
     alloc: Global,
-    insists: bool,
     owner: u32,
     dst: RheapRoot,
     shape: Shape,
     values: &[RheapInit],
+    insists: bool,
 ) -> u8
     ensures { IsGrownMadeWith (growing_making insists) heap.old.state heap.new.state owner
         (root_of dst) shape values.now result }

@@ -6,10 +6,13 @@ ghost use Rattle.rh_core.specs.Stat.{stat_of};
 ghost use Rattle.rh_pace.specs.declared.did.Did.{Did};
 ghost use Rattle.rh_pace.specs.declared.pace.Pace.{Pace};
 ghost use Rattle.rh_pace.specs.Paced.{PacedState};
+ghost use Rattle.rh_cycles.specs.declared.cycle.Cycle.{Cycle};
+ghost use Rattle.rh_cycles.specs.declared.cycle.CycleEnd.TheVariants as ends;
 ghost use Rattle.rheap_c.specs.declared.numbers.RheapDid.{RheapDid};
 ghost use Rattle.rheap_c.specs.declared.numbers.RheapPacing.{RheapPacing};
 ghost use Rattle.rheap_c.specs.declared.numbers.RheapWords.{RheapWords};
 ghost use Rattle.rheap_c.specs.declared.numbers.RheapStats.{RheapStats};
+ghost use Rattle.rheap_c.specs.Cycles.{cycle_numbers};
 ghost use Rattle.rheap_c.specs.Numbers.{IsRead, did_in, did_of, no_did, no_pace, no_room, no_stats, pace_in, pace_of, room_in, stats_of};
 ghost use Rattle.rheap_c.specs.Runs.{IsTelling};
 
@@ -23,6 +26,10 @@ ghost use Rattle.rheap_c.specs.Runs.{IsTelling};
 ///   `PacedHeap::last_did`; where no flip ended a cycle, its numbers are 0.
 /// - `pace`: the fields of `rheap_pace` are those of `PacedHeap::pace`.
 /// - `room`: `rheap_room` tells the words that are free, and 2 words more than the fields.
+/// - `cycle`, `cycle_words`, `cycle_units`: the fields of a cycle that `rheap_cycle` tells are
+///   those of `Cycle`, and `is` is 1; it is 0 where none is told (`no_cycle`).
+/// - `cycle_flipped`, `cycle_abandoned`: that it ended with a flip is 1, that it was abandoned is
+///   0.
 pub fn numbers_cross_under_their_names()
     ensures words { (s : PacedState) → (let told = stats_of s in let stat = stat_of s.heap in
         (told.used ≡ stat.used) × (told.free ≡ stat.free)) }
@@ -53,6 +60,20 @@ pub fn numbers_cross_under_their_names()
     ensures room { (fields : ℕ) (s : PacedState)
         → ((room_in fields s).need ≡ fields + 2)
         × ((room_in fields s).free ≡ (stat_of s.heap).free) }
+    ensures cycle { (c : Cycle) → (let told = cycle_numbers (Some c) in
+        (told.is ≡ 1) × (told.number ≡ c.number) × (told.epoch ≡ c.epoch)
+        × (told.began ≡ c.began) × (told.ended ≡ c.ended)) }
+    ensures cycle_words { (c : Cycle) → (let told = cycle_numbers (Some c) in
+        (told.used ≡ c.used) × (told.live ≡ c.live) × (told.freed ≡ c.freed)
+        × (told.words ≡ c.words) × (told.objects ≡ c.objects)) }
+    ensures cycle_units { (c : Cycle) → (let told = cycle_numbers (Some c) in
+        (told.granted ≡ c.granted) × (told.idle ≡ c.idle) × (told.spent ≡ c.spent)
+        × (told.most ≡ c.most) × (told.logged ≡ c.logged)) }
+    ensures cycle_flipped { (c : Cycle) → c.end ≡ ends.Flipped
+        → (cycle_numbers (Some c)).flipped ≡ 1 }
+    ensures cycle_abandoned { (c : Cycle) → c.end ≡ ends.Abandoned
+        → (cycle_numbers (Some c)).flipped ≡ 0 }
+    ensures no_cycle { (cycle_numbers None).is ≡ 0 }
 {}
 
 /// The calls `rheap_stat`, `rheap_last_did`, `rheap_pace` and `rheap_room` change nothing. In lists

@@ -217,7 +217,7 @@ pub fn calls_are_these_commands()
 {}
 
 /// No program in C sees that the heap collects, but by the calls that tell numbers of the heap, by its
-/// picture, by the status of `rheap_release` and by those of limits. Where its heap stands for a plain heap, which never moves its objects,
+/// picture, by the statuses of `rheap_release` and of resizes and by those of limits. Where its heap stands for a plain heap, which never moves its objects,
 /// what its calls tell is what that answers, one by one.
 ///
 /// - `told`: what each call tells, by its kind.

@@ -1,0 +1,9 @@
+use Rattle.std.proofs.Common.{refl}
+use Rattle.rheap_c.proofs.Parts.{Calls-fixed, Calls-growing}
+use Rattle.rheap_c.proofs.calls.resizing.rheap_resize_sized.Goals as goal
+
+pub returns-then-is_empty : goal.returns-then-is_empty
+returns-then-is_empty c = Calls-growing _ _ _ _ _ _ _ c.is_empty.ensures.empty c.if-is_empty.true c.is_empty.ensures.kept c.resize.ensures
+
+pub returns : goal.returns
+returns c = Calls-fixed _ _ _ _ _ _ _ _ c.is_empty.ensures.empty c.if-is_empty.false c.is_empty.ensures.kept c.resize_sized.ensures refl
