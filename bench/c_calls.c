@@ -194,6 +194,8 @@ int main(int argc, char **argv) {
     ON("load_path", rheap_load_path(&heap, 1, free_slot, object, path, 3, &done, &value))
     ON("watch_and_unwatch", watch_and_unwatch(&heap, object))
     ON("next_gone", rheap_next_gone(&heap, &ticket, &is))
+    ON("resize", rheap_resize(&heap, 2000000 - (uint32_t)(n % 2), 1000000, 8))
+    ON("resize_sized", rheap_resize_sized(&heap, 2000000 - (uint32_t)(n % 2), 8))
     ON("store_ints", rheap_store_ints(&heap, 1, text, 0, packed, FIELDS))
     ON("store_each", store_each(&heap, text, packed))
     ON("store_text", rheap_store_text(&heap, 1, text, 0, bytes, BYTES))

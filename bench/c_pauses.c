@@ -1,5 +1,6 @@
-/* How long the calls of a program took in which a collector works: allocations and stores of rheap.h,
-   or with -DBOEHM allocations of Boehm's collector. bench/c_calls links it with --wrap for each.
+/* How long the calls of a program took in which a collector works: of rheap.h what makes an object, and
+   stores, as the programs here make them; or with -DBOEHM allocations of Boehm's collector. It is
+   linked with --wrap for each.
 
    A call is timed by the processor time of the thread, so that other work on the machine isn't counted.
    Prints at the end the longest call, and within what 9,999 of 10,000 calls were done. */
@@ -86,19 +87,18 @@ WRAPPED(GC_malloc_atomic)
         return status;                                                                             \
     }
 #define ALLOCATION(name)                                                                           \
-    WRAPPED(name, (rheap * heap, uint32_t owner, rheap_root_id dst, uint32_t fields),              \
-            (heap, owner, dst, fields))
+    WRAPPED(name, (rheap * heap, uint32_t dst, uint32_t fields), (heap, dst, fields))
 #define STORE(name, type)                                                                          \
-    WRAPPED(name, (rheap * heap, uint32_t owner, rheap_root_id object, uint32_t field, type what), \
-            (heap, owner, object, field, what))
+    WRAPPED(name, (rheap * heap, uint32_t object, uint32_t field, type what),                      \
+            (heap, object, field, what))
 
-ALLOCATION(rheap_alloc)
-ALLOCATION(rheap_alloc_raw)
-ALLOCATION(rheap_insist_alloc)
-ALLOCATION(rheap_insist_alloc_raw)
-STORE(rheap_store_root, rheap_root_id)
-STORE(rheap_store_int, int64_t)
-STORE(rheap_insist_store_root, rheap_root_id)
-STORE(rheap_insist_store_int, int64_t)
+ALLOCATION(rheap_shared_insist_alloc)
+ALLOCATION(rheap_shared_insist_alloc_raw)
+STORE(rheap_shared_insist_store_root, uint32_t)
+STORE(rheap_shared_insist_store_int, int64_t)
+WRAPPED(rheap_insist_make,
+        (rheap * heap, uint32_t owner, rheap_root_id dst, uint32_t fields,
+         const rheap_init *values, size_t length),
+        (heap, owner, dst, fields, values, length))
 
 #endif

@@ -2,7 +2,10 @@
    leaves up, beside a tree and an array of numbers that live long. One source for two collectors:
    this heap, and Boehm's with -DBOEHM and -lgc. Both print the same lines.
 
-   Usage: gcbench [DEPTH], from 8 to 18, which is GCBench's; without it 10. */
+   Usage: gcbench [DEPTH [WORDS]]. DEPTH is from 8 to 18, which is GCBench's, and 10 without it. WORDS
+   are those of this heap's space; without them a space that suits the depth is taken. Boehm's
+   collector doesn't look at them: its first heap has the bytes that the variable
+   GC_INITIAL_HEAP_SIZE says. */
 #include <stdint.h>
 #include <stdio.h>
 #include <stdlib.h>
@@ -25,26 +28,69 @@ static node *nodes[64];
 
 static int64_t *numbers;
 
-#define OPEN(depth) GC_INIT()
-#define CLOSE() ((void)0)
-#define MAKE(slot) (nodes[slot] = (node *)GC_MALLOC(sizeof(node)))
-#define LINK_LEFT(slot, from) (nodes[slot]->left = nodes[from])
-#define LINK_RIGHT(slot, from) (nodes[slot]->right = nodes[from])
-#define GO_LEFT(slot, from) ((nodes[slot] = nodes[from]->left) != NULL)
-#define GO_RIGHT(slot, from) ((nodes[slot] = nodes[from]->right) != NULL)
-#define COLLECTIONS() ((unsigned long)GC_get_gc_no())
+static void open_for(uint32_t depth, uint32_t words) {
+    (void)depth;
+    (void)words;
+    GC_INIT();
+}
 
-#define MAKE_ARRAY(count)                                                                          \
-    (numbers = (int64_t *)GC_MALLOC_ATOMIC((size_t)(count) * sizeof(int64_t)))
-#define PUT(place, number) (numbers[place] = (number))
-#define AT(place) (numbers[place])
+/* A slot takes a new node: one without children, and one with the nodes of two slots. */
+static void make_leaf(uint32_t slot) {
+    nodes[slot] = (node *)GC_MALLOC(sizeof(node));
+}
+
+static void make_node(uint32_t slot, uint32_t left, uint32_t right) {
+    node *made = (node *)GC_MALLOC(sizeof(node));
+    made->left = nodes[left];
+    made->right = nodes[right];
+    nodes[slot] = made;
+}
+
+/* A slot's node takes the node of another slot as a child. */
+static void link_left(uint32_t slot, uint32_t left) {
+    nodes[slot]->left = nodes[left];
+}
+
+static void link_right(uint32_t slot, uint32_t right) {
+    nodes[slot]->right = nodes[right];
+}
+
+/* A slot takes a child of another slot's node. A node has both children or none: the first call
+   answers whether it has. */
+static int go_left(uint32_t slot, uint32_t from) {
+    nodes[slot] = nodes[from]->left;
+    return nodes[slot] != NULL;
+}
+
+static void go_right(uint32_t slot, uint32_t from) {
+    nodes[slot] = nodes[from]->right;
+}
+
+static void make_array(uint32_t count) {
+    numbers = (int64_t *)GC_MALLOC_ATOMIC((size_t)count * sizeof(int64_t));
+}
+
+static void put(uint32_t place, int64_t number) {
+    numbers[place] = number;
+}
+
+static int64_t at(uint32_t place) {
+    return numbers[place];
+}
+
+static unsigned long collections(void) {
+    return (unsigned long)GC_get_gc_no();
+}
+
+/* This collector's heap stays as long as the program. */
+static void close_heap(void) {
+}
 
 #else
 
 #include "rheap.h"
 
-/* The owner of the slots, and the slots of the array and of a piece of it. */
-#define TREES 1
+/* All slots are owner 0's. These are of the array and of a piece of it. */
 #define ARRAY 62
 #define PIECE 63
 
@@ -60,57 +106,68 @@ static void must(uint8_t status) {
     }
 }
 
-static rheap_root_id node(uint32_t slot) {
-    return rheap_slot(TREES, slot);
-}
-
 /* 4,194,304 words at depth 18: of nodes of 6 words the stretch tree has 3,145,722. */
-static void open_for(uint32_t depth) {
-    must(rheap_open_sized(&heap, depth < 11 ? 32768 : (uint32_t)16 << depth, 1026, 32, 2, 64));
+static void open_for(uint32_t depth, uint32_t words) {
+    if (words == 0) {
+        words = depth < 11 ? 32768 : (uint32_t)16 << depth;
+    }
+    must(rheap_open_sized(&heap, words, 1026, 32, 1, 64));
 }
 
-/* Loads a field, and answers whether a node is there. */
-static int goes(uint32_t slot, uint32_t from, uint32_t field) {
-    rheap_value value;
-    must(rheap_load(&heap, TREES, node(slot), node(from), field, &value));
-    return value.kind == RHEAP_OBJECT;
+/* A slot takes a new node: one without children, and one with the nodes of two slots. */
+static void make_leaf(uint32_t slot) {
+    must(rheap_shared_insist_alloc(&heap, slot, 4));
 }
 
-/* A new node, a store of one slot's value, and a store of a number. */
-static void make(uint32_t slot) {
-    must(rheap_insist_alloc(&heap, TREES, node(slot), 4));
+static void make_node(uint32_t slot, uint32_t left, uint32_t right) {
+    rheap_init children[2];
+    children[0] = rheap_of_root(rheap_slot(0, left));
+    children[1] = rheap_of_root(rheap_slot(0, right));
+    must(rheap_insist_make(&heap, 0, rheap_slot(0, slot), 4, children, 2));
 }
 
-static void link_to(uint32_t slot, uint32_t field, uint32_t from) {
-    must(rheap_insist_store_root(&heap, TREES, node(slot), field, node(from)));
+/* A slot's node takes the node of another slot as a child. */
+static void link_left(uint32_t slot, uint32_t left) {
+    must(rheap_shared_insist_store_root(&heap, slot, 0, left));
 }
 
-static void store(uint32_t slot, uint32_t field, int64_t number) {
-    must(rheap_insist_store_int(&heap, TREES, node(slot), field, number));
+static void link_right(uint32_t slot, uint32_t right) {
+    must(rheap_shared_insist_store_root(&heap, slot, 1, right));
+}
+
+/* A slot takes a child of another slot's node. A node has both children or none: the first call
+   answers whether it has. */
+static int go_left(uint32_t slot, uint32_t from) {
+    rheap_value left;
+    must(rheap_shared_load(&heap, slot, from, 0, &left));
+    return left.kind == RHEAP_OBJECT;
+}
+
+static void go_right(uint32_t slot, uint32_t from) {
+    must(rheap_shared_load_untold(&heap, slot, from, 1));
 }
 
 static void make_array(uint32_t count) {
     uint32_t piece;
-    must(rheap_insist_alloc(&heap, TREES, node(ARRAY), count / NUMBERS));
+    must(rheap_shared_insist_alloc(&heap, ARRAY, count / NUMBERS));
     for (piece = 0; piece < count / NUMBERS; piece++) {
-        must(rheap_insist_alloc_raw(&heap, TREES, node(PIECE), NUMBERS));
-        link_to(ARRAY, piece, PIECE);
+        must(rheap_shared_insist_alloc_raw(&heap, PIECE, NUMBERS));
+        must(rheap_shared_insist_store_root(&heap, ARRAY, piece, PIECE));
     }
 }
 
 /* Puts a number into the piece that the last number went to, or loads the next one. */
 static void put(uint32_t place, int64_t number) {
-    rheap_value value;
     if (place % NUMBERS == 0) {
-        must(rheap_load(&heap, TREES, node(PIECE), node(ARRAY), place / NUMBERS, &value));
+        must(rheap_shared_load_untold(&heap, PIECE, ARRAY, place / NUMBERS));
     }
-    store(PIECE, place % NUMBERS, number);
+    must(rheap_shared_insist_store_int(&heap, PIECE, place % NUMBERS, number));
 }
 
 static int64_t at(uint32_t place) {
     rheap_value value;
-    must(rheap_load(&heap, TREES, node(PIECE), node(ARRAY), place / NUMBERS, &value));
-    must(rheap_peek(&heap, TREES, node(PIECE), place % NUMBERS, &value));
+    must(rheap_shared_load_untold(&heap, PIECE, ARRAY, place / NUMBERS));
+    must(rheap_shared_peek(&heap, PIECE, place % NUMBERS, &value));
     return value.number;
 }
 
@@ -120,80 +177,70 @@ static unsigned long collections(void) {
     return (unsigned long)stats.flips;
 }
 
-#define OPEN(depth) open_for(depth)
-#define CLOSE() must(rheap_close(&heap))
-#define MAKE(slot) make(slot)
-#define LINK_LEFT(slot, from) link_to(slot, 0, from)
-#define LINK_RIGHT(slot, from) link_to(slot, 1, from)
-#define GO_LEFT(slot, from) goes(slot, from, 0)
-#define GO_RIGHT(slot, from) goes(slot, from, 1)
-#define COLLECTIONS() collections()
-#define MAKE_ARRAY(count) make_array(count)
-#define PUT(place, number) put(place, number)
-#define AT(place) at(place)
+static void close_heap(void) {
+    must(rheap_close(&heap));
+}
 
 #endif
 
 /* A whole tree of this depth in a slot, its leaves first; the slots above it are used. */
 static void grow_up(uint32_t slot, uint32_t depth) {
-    if (depth > 0) {
+    if (depth == 0) {
+        make_leaf(slot);
+    } else {
         grow_up(slot + 1, depth - 1);
         grow_up(slot + 2, depth - 1);
-    }
-    MAKE(slot);
-    if (depth > 0) {
-        LINK_LEFT(slot, slot + 1);
-        LINK_RIGHT(slot, slot + 2);
+        make_node(slot, slot + 1, slot + 2);
     }
 }
 
 /* Grows the node in a slot to a tree of this depth, its root first; the slots above it are used. */
 static void grow_down(uint32_t slot, uint32_t depth) {
     if (depth > 0) {
-        MAKE(slot + 1);
-        LINK_LEFT(slot, slot + 1);
+        make_leaf(slot + 1);
+        link_left(slot, slot + 1);
         grow_down(slot + 1, depth - 1);
-        MAKE(slot + 1);
-        LINK_RIGHT(slot, slot + 1);
+        make_leaf(slot + 1);
+        link_right(slot, slot + 1);
         grow_down(slot + 1, depth - 1);
     }
 }
 
 /* The nodes of the tree in a slot; the slots above it are used. */
 static long count(uint32_t slot) {
-    long nodes_below = 1;
-    if (GO_LEFT(slot + 1, slot)) {
-        nodes_below += count(slot + 1);
+    long below;
+    if (!go_left(slot + 1, slot)) {
+        return 1;
     }
-    if (GO_RIGHT(slot + 1, slot)) {
-        nodes_below += count(slot + 1);
-    }
-    return nodes_below;
+    below = count(slot + 1);
+    go_right(slot + 1, slot);
+    return 1 + below + count(slot + 1);
 }
 
 int main(int argc, char **argv) {
     uint32_t stretch = argc > 1 ? (uint32_t)atoi(argv[1]) : 10;
+    uint32_t words = argc > 2 ? (uint32_t)atoi(argv[2]) : 0;
     uint32_t place;
     uint32_t depth;
-    if (argc > 2 || stretch < 8 || stretch > 18) {
-        fprintf(stderr, "gcbench: it takes a depth from 8 to 18\n");
+    if (argc > 3 || stretch < 8 || stretch > 18) {
+        fprintf(stderr, "gcbench: it takes a depth from 8 to 18, and words\n");
         return 2;
     }
-    OPEN(stretch);
+    open_for(stretch, words);
     grow_up(1, stretch);
 
     /* Slot 0 has the tree that lives long, and slots from 1 on the others. */
-    MAKE(0);
+    make_leaf(0);
     grow_down(0, stretch - 2);
-    MAKE_ARRAY((uint32_t)2 << stretch);
+    make_array((uint32_t)2 << stretch);
     for (place = 0; place < (uint32_t)2 << stretch; place++) {
-        PUT(place, place);
+        put(place, place);
     }
     for (depth = 4; depth <= stretch - 2; depth += 2) {
         long trees = 2 * ((2L << stretch) - 1) / ((2L << depth) - 1);
         long tree;
         for (tree = 0; tree < trees; tree++) {
-            MAKE(1);
+            make_leaf(1);
             grow_down(1, depth);
         }
         for (tree = 0; tree < trees; tree++) {
@@ -202,8 +249,8 @@ int main(int argc, char **argv) {
         printf("%ld trees of depth %u, twice\n", trees, (unsigned)depth);
     }
     printf("long lived tree: %ld nodes\n", count(0));
-    printf("number 500: %ld\n", (long)AT(500));
-    fprintf(stderr, "%lu collections\n", COLLECTIONS());
-    CLOSE();
+    printf("number 500: %ld\n", (long)at(500));
+    fprintf(stderr, "%lu collections\n", collections());
+    close_heap();
     return 0;
 }
