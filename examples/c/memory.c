@@ -1,7 +1,8 @@
 /* Memory that is refused, each piece in turn, at the calls that open a heap, and at both that run a
    whole trace: the status tells it, and nothing is left taken. So it is of rheap_watch_room, which
-   leaves the tickets that there are, of the calls that tell a text, and of rheap_release. Each other
-   call is made while all memory is refused, and asks for none. A heap that grows goes on with the words
+   leaves the tickets that there are, of the calls that tell a text, of rheap_release, and of both that
+   give a heap more words: it has those that it had then. Each other call is made while all memory is
+   refused, and asks for none; so is a resize to no more words and no longer log. A heap that grows goes on with the words
    that it has, and says so, whichever call it is that would make it grow: where each piece is refused
    in turn, all of them, or all from one on. Then the functions by which the library takes memory give,
    resize and refuse blocks that are small and large. It is linked with --wrap for malloc, realloc,
@@ -180,7 +181,7 @@ static void each_shared_call(rheap *heap, int64_t number) {
     IS(rheap_shared_drop(heap, 5), NO_ROOT);
 }
 
-/* Each call on an open heap, as often as collects by itself. */
+/* Each call on an open heap while all memory is refused, as often as collects by itself. */
 static void each_call(rheap *heap) {
     rheap_root_id a = rheap_slot(0, 0);
     rheap_root_id b = rheap_slot(0, 1);
@@ -191,6 +192,8 @@ static void each_call(rheap *heap) {
     rheap_stats stats;
     rheap_did did;
     rheap_pacing pacing;
+    rheap_cycle_reader reader = RHEAP_CYCLE_READER_INIT;
+    rheap_ended_cycle cycle;
     rheap_words room;
     int64_t numbers[2] = {1, 2};
     rheap_init values[70];
@@ -203,6 +206,8 @@ static void each_call(rheap *heap) {
     uint8_t same;
     int n;
 
+    refused_at = 1;
+    all = 1;
     for (n = 0; n < 70; n++) {
         values[n] = rheap_of_int(n);
     }
@@ -243,6 +248,7 @@ static void each_call(rheap *heap) {
         IS(rheap_stat(heap, &stats), DONE);
         IS(rheap_last_did(heap, &did), DONE);
         IS(rheap_pace(heap, &pacing), DONE);
+        IS(rheap_cycle(heap, &reader, &cycle), DONE);
         IS(rheap_watch(heap, 0, a, &ticket), DONE);
         IS(rheap_unwatch(heap, ticket), DONE);
         IS(rheap_next_gone(heap, &ticket, &same), DONE);
@@ -307,20 +313,27 @@ static void tickets(rheap *heap) {
     IS(rheap_unwatch(heap, ticket), DONE);
 }
 
+/* The buffer that texts are told in. */
+static char buffer[100000];
+
+/* Whether no byte of it was written since all were set to '#'. */
+static int is_as_set(void) {
+    return buffer[0] == '#' && memcmp(buffer, buffer + 1, sizeof buffer - 1) == 0;
+}
+
 /* Tells a text where each piece of memory is refused once: nothing is changed then, not a byte of the
    buffer, and nothing stays taken. */
 static void text(rheap *heap, uint8_t (*tell)(rheap *, char *, size_t, size_t *)) {
-    static char buffer[100000];
     uint8_t status = RHEAP_NO_MEMORY;
     long before = taken;
     size_t length = 7;
     all = 0;
     for (refused_at = 1; refused_at < 1000 && status == RHEAP_NO_MEMORY; refused_at++) {
         asked = 0;
-        buffer[0] = '#';
+        memset(buffer, '#', sizeof buffer);
         length = 7;
         status = tell(heap, buffer, sizeof buffer, &length);
-        if (status == RHEAP_NO_MEMORY && (buffer[0] != '#' || length != 0 || taken != before)) {
+        if (status == RHEAP_NO_MEMORY && (!is_as_set() || length != 0 || taken != before)) {
             printf("refused at %ld: %ld pieces are left, of a text of %ld bytes\n", refused_at,
                    taken - before, (long)length);
             wrong++;
@@ -352,6 +365,50 @@ static void release(rheap *heap) {
         wrong++;
     }
     asked = 0;
+}
+
+/* Gives the heap more words by either call where each piece of memory is refused once: nothing has
+   changed then. Where it has them, fewer ask for no memory, and neither do the same words again. A heap
+   that grows asks for none: it chooses its own words. */
+static void resizes(rheap *heap, int is_sized) {
+    rheap_stats before, after;
+    rheap_pacing pacing, other;
+    uint8_t status = RHEAP_NO_MEMORY;
+    long pieces = taken;
+    IS(rheap_stat(heap, &before), DONE);
+    IS(rheap_pace(heap, &pacing), DONE);
+    if (heap->at == NULL) {
+        IS(is_sized ? rheap_resize_sized(heap, 9000, 4) : rheap_resize(heap, 9000, 4000, 4), GROWS);
+        return;
+    }
+    all = 0;
+    for (refused_at = 1; refused_at < 100 && status == RHEAP_NO_MEMORY; refused_at++) {
+        asked = 0;
+        status = is_sized ? rheap_resize_sized(heap, 9000, 4) : rheap_resize(heap, 9000, 4000, 4);
+        is(__LINE__, rheap_stat(heap, &after), RHEAP_DONE);
+        is(__LINE__, rheap_pace(heap, &other), RHEAP_DONE);
+        if (status == RHEAP_NO_MEMORY && (after.free != before.free || other.mark != pacing.mark ||
+                                          other.log_limit != pacing.log_limit) && is_told()) {
+            printf("a resize: %s, and the heap isn't as it was\n", rheap_name(status));
+        }
+    }
+    if ((status != RHEAP_DONE || refused_at < 4 || taken != pieces ||
+         after.free != before.free + (9000 - words)) && is_told()) {
+        printf("a resize: %s after %ld, with %ld pieces more\n", rheap_name(status), refused_at,
+               taken - pieces);
+    }
+    asked = 0;
+    refused_at = 1;
+    all = 1;
+    IS(rheap_resize(heap, 9000, 4000, 4), DONE);
+    IS(rheap_resize(heap, 5000, 2000, 4), DONE);
+    /* Room that was there before is kept, and isn't asked for again; any more is. */
+    IS(rheap_resize(heap, 9000, 4000, 4), DONE);
+    is(__LINE__, rheap_resize(heap, 10000, 4000, 4), RHEAP_NO_MEMORY);
+    asked = 0;
+    IS(rheap_resize_sized(heap, words, 4), DONE);
+    IS(rheap_resize(heap, words, 2000, 4), DONE);
+    IS(rheap_resize(heap, 100, 4000, 4), NO_PACE);
 }
 
 /* The ways to make one more cell of a list: each ends cycles by another call. */
@@ -626,6 +683,7 @@ int main(int argc, char **argv) {
         text(&heap, rheap_dump);
         text(&heap, rheap_draw);
         release(&heap);
+        resizes(&heap, sized);
         each_call(&heap);
         IS(rheap_close(&heap), DONE);
         IS(rheap_close(&heap), NOT_OPEN);
