@@ -1,3 +1,4 @@
+pub mod Gathered
 pub mod LispStatuses
 pub mod SharedStatuses
 pub mod StatusLaws

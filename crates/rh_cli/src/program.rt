@@ -1,13 +1,15 @@
 //! The program from its command line to its status.
 
-ghost use Rattle.std.specs.Prelude.{◌≡◌, ◌≢◌, ◌≤◌, ◌⊎◌, ◌↔◌, map, Ok, Err, IsTrue, IfOk, IfErr, codes};
-ghost use Rattle.std.specs.Io.Buffered.{writer_inner};
+ghost use Rattle.std.specs.Prelude.{◌≡◌, ◌≢◌, ◌≤◌, ◌⊎◌, ◌↔◌, ℕ, List, Option, map, Ok, Err, IsTrue, IfOk, IfErr, IfSome, codes};
+ghost use Rattle.std.specs.Io.Buffered.{writer_contents, writer_inner};
+ghost use Rattle.std.specs.Io.KnownBytes.{Consumes};
 ghost use Rattle.std.specs.IoError.{error_kind};
 ghost use Rattle.std.specs.String.{string_bytes};
 ghost use Rattle.std.specs.Vec.Iter.{into_iter_items};
 ghost use Rattle.rh_command_line.specs.Ask.{command_and_file, command_and_file_of, is_taken};
 ghost use Rattle.rh_cli.specs.Arguments.{IsEarlyFault};
-ghost use Rattle.rh_commands.specs.Fault.{IsLateStatus, IsUsualFault};
+ghost use Rattle.rh_cli.specs.Drive.{Concludes};
+ghost use Rattle.rh_commands.specs.Fault.{IsLateStatus, IsUsualFault, status_of};
 ghost use Rattle.rh_command_line.specs.declared.ask.Ask.{Ask as AskOf};
 
 use crate::arguments::read_words;
@@ -219,37 +221,75 @@ where
         → fault ≡ LineFault.OutOfMemory) }
 {
     if is_standard_input(ask.file) {
-        return write_text_of(rt, threads, ask, out, rt.reader(), err, explains);
+        let output = text_output(rt, ask.file, out);
+        return write_text_of(threads, rt.alloc(), ask, rt.reader(), output, err, explains);
     }
     let file = opened(rt, ask.file)?;
-    write_text_of(rt, threads, ask, out, file, err, explains)
+    let output = text_output(rt, ask.file, out);
+    write_text_of(threads, rt.alloc(), ask, file, output, err, explains)
 }
 
-/// Carries out a request whose text goes to this file, with what the reader gives. Nothing is read
-/// where the file can't be made.
-fn write_text_of<R, T, I, E>(
-    rt: &R,
+/// Carries out a request whose text goes to this writer, with what the reader gives. Nothing is read
+/// where there is no writer, since its file can't be made.
+fn write_text_of<T, I, W, E>(
     threads: &T,
+    alloc: Global,
     ask: &Ask<'_>,
-    out: &str,
     reader: I,
+    output: Result<W, LineFault>,
     err: &mut E,
     explains: bool,
 ) -> Result<u8, LineFault>
 where
-    R: Files + Print + AllocGlobal,
     T: Threads + Wait + Sync,
     I: Read + Drop,
+    W: Write + Drop,
     E: Write,
+    requires unmade { IfErr output (λ fault.
+        (fault ≡ LineFault.Write) ⊎ (fault ≡ LineFault.SameFile)) }
+    // What was asked was done, and written to this writer.
+    ensures told { IfOk output (λ writer. IfOk result (λ status. IfSome (I.remaining reader)
+        (λ input. (written : Option (List ℕ))
+        × Concludes ask.now.subcommand input status (W.contents writer) written))) }
+    // Without a writer it is the fault that there is none.
+    ensures none { IfErr output (λ fault. IfOk result (λ status. status ≡ status_of fault)) }
     ensures late { IfOk result (λ status. IsLateStatus status) }
     ensures refused { IfErr result (λ fault. fault ≡ LineFault.OutOfMemory) }
 {
-    let output = match text_output(rt, ask.file, out) {
-        Ok(output) => output,
-        Err(fault) => return Ok(tell(&fault, err)),
-    };
-    let mut out = gathering(rt.alloc(), output)?;
-    Ok(carried_out(threads, rt.alloc(), ask, reader, &mut out, err, explains))
+    match output {
+        Ok(writer) => carried_out_to(threads, alloc, ask, reader, writer, err, explains),
+        Err(fault) => Ok(tell(&fault, err)),
+    }
+}
+
+/// Carries out a request whose text goes to this writer, with what the reader gives.
+fn carried_out_to<T, R, W, E>(
+    threads: &T,
+    alloc: Global,
+    ask: &Ask<'_>,
+    reader: R,
+    writer: W,
+    err: &mut E,
+    explains: bool,
+) -> Result<u8, LineFault>
+where
+    T: Threads + Wait + Sync,
+    R: Read + Drop,
+    W: Write + Drop,
+    E: Write,
+    // For a reader that tells its bytes: by what is due for the bytes that it had.
+    ensures told { IfOk result (λ status. IfSome (R.remaining reader)
+        (λ input. (written : Option (List ℕ))
+        × Concludes ask.now.subcommand input status (W.contents writer) written)) }
+    // Of the bytes that were taken.
+    ensures read { IfOk result (λ status. (input : List ℕ) × (left : Option (List ℕ))
+        × (written : Option (List ℕ)) × Consumes (R.remaining reader) left input
+        × Concludes ask.now.subcommand input status (W.contents writer) written) }
+    ensures late { IfOk result (λ status. IsLateStatus status) }
+    ensures refused { IfErr result (λ fault. fault ≡ LineFault.OutOfMemory) }
+{
+    let mut out = gathering(alloc, writer)?;
+    Ok(carried_out(threads, alloc, ask, reader, &mut out, err, explains))
 }
 
 /// Whether there are answers or a report alone.
@@ -296,7 +336,14 @@ where
     R: Read + Drop,
     O: Write,
     E: Write,
-    ensures { IsLateStatus result }
+    // For a reader that tells its bytes: by what is due for the bytes that it had.
+    ensures told { IfSome (R.remaining reader) (λ input.
+        Concludes ask.now.subcommand input result (O.contents out.old) (O.contents out.new)) }
+    // Of the bytes that were taken.
+    ensures read { (input : List ℕ) × (left : Option (List ℕ))
+        × Consumes (R.remaining reader) left input
+        × Concludes ask.now.subcommand input result (O.contents out.old) (O.contents out.new) }
+    ensures late { IsLateStatus result }
 {
     if explains {
         let mut kept = KeptReader::new(alloc, reader);
@@ -458,6 +505,8 @@ pub(crate) fn gathering<W: Write + Drop>(
     writer: W,
 ) -> Result<BufWriter<W>, LineFault>
     ensures kept { IfOk result (λ out. writer_inner out ≡ writer) }
+    // What it gathers to is what the writer has, since it gathered nothing yet.
+    ensures empty { IfOk result (λ out. writer_contents W.contents out ≡ W.contents writer) }
     ensures memory { IfErr result (λ fault. fault ≡ LineFault.OutOfMemory) }
 {
     match BufWriter::with_capacity(alloc, OUTPUT_BYTES, writer) {
