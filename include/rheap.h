@@ -34,16 +34,16 @@
  *
  * What a call costs, in instructions of x86-64, with the loop of 10 to 12 round it. No cycle is on,
  * and nothing is refused; docs/c.md says how they were counted, and what of:
- *   alloc, 4 fields      92     load            77 to 87     4 roots: load_roots      313
- *   store_root           88     load_untold           64       store_roots            327
- *   store_int            63     peek, field       65, 61       insist_store_roots     408
- *   store_nil            55     root, room        61, 22       drop_roots              88
- *   copy, drop       42, 30     same                  48     load_path, 3 fields      247
- *   143 numbers: store_ints  2,999, load_ints  2,375     watch and unwatch            114
- *   1,000 bytes: store_text  2,775, load_text  3,729     next_gone, none gone          26
- *   make of 2 values, 6 values    188, 330               store_row of 4 values        425
- *   by number, rheap_shared_*: alloc 74, load 63 to 68, load_untold 47, stores 46 to 60, copy 29,
- *     drop 20, peek 55
+ *   alloc, 4 fields      86     load            73 to 81     4 roots: load_roots      311
+ *   store_root           78     load_untold           58       store_roots            317
+ *   store_int            58     peek, field       60, 56       insist_store_roots     401
+ *   store_nil            51     root, room        59, 22       drop_roots              88
+ *   copy, drop       41, 30     same                  45     load_path, 3 fields      247
+ *   143 numbers: store_ints  2,927, load_ints  2,373     watch and unwatch            114
+ *   1,000 bytes: store_text  2,775, load_text  3,727     next_gone, none gone          26
+ *   make of 2 values, 6 values    193, 339               store_row of 4 values        407
+ *   by number, rheap_shared_*: alloc 72, load 58 to 61, load_untold 42, stores 41 to 52, copy 27,
+ *     drop 19, peek 49
  *   resize, resize_sized          231, 242, where they ask for no memory
  * The other rheap_insist_ calls cost what the plain ones do. In a cycle an allocation or a store does its
  * collector work too: 400 to 1,000 instructions, mostly. Words and memory: an object takes 2 words
@@ -625,8 +625,8 @@ uint8_t rheap_insist_store_row(rheap *heap, uint32_t owner, rheap_root_id object
 
 /* A program with one owner names no owner: it keeps all its roots in the slots of owner 0, which all
    owners share, and names a slot by its number alone. Each call is the one without shared_ by owner
-   0, with the same statuses but NOT_YOURS, in fewer instructions. For the others rheap_slot(0, n)
-   names the root in slot n. */
+   0, with the same statuses but NOT_YOURS: in fewer instructions on a heap of fixed sizes, and in as
+   many or up to 6 more on one that grows. For the others rheap_slot(0, n) names the root in slot n. */
 uint8_t rheap_shared_alloc(rheap *heap, uint32_t dst, uint32_t fields);
 uint8_t rheap_shared_alloc_raw(rheap *heap, uint32_t dst, uint32_t fields);
 uint8_t rheap_shared_load(rheap *heap, uint32_t dst, uint32_t src, uint32_t field,

@@ -261,8 +261,8 @@ struct root {
     friend constexpr bool operator!=(root a, root b) noexcept { return !(a == b); }
 };
 
-// A slot of owner 0, by its number: a root that all owners share. Calls on such slots alone take
-// fewer instructions.
+// A slot of owner 0, by its number: a root that all owners share. On a heap of fixed sizes, calls on
+// such slots alone take fewer instructions.
 struct shared {
     std::uint32_t slot;
     operator root() const noexcept { return {0, slot}; }

@@ -280,6 +280,10 @@ static void mistakes(rheap *heap) {
     IS(rheap_alloc_raw(heap, 1, mine, 4096), FIELDS_RANGE);
     IS(rheap_insist_alloc(heap, 1, mine, 4096), FIELDS_RANGE);
     IS(rheap_insist_alloc_raw(heap, 1, mine, UINT32_MAX), FIELDS_RANGE);
+    IS(rheap_alloc(heap, 1, no_slot, 4096), NO_ROOT);
+    IS(rheap_alloc_raw(heap, 1, theirs, 4096), NOT_YOURS);
+    IS(rheap_insist_alloc(heap, 1, theirs, 4096), NOT_YOURS);
+    IS(rheap_insist_alloc_raw(heap, 1, no_slot, 4096), NO_ROOT);
 
     /* Of an object: no field, no reference in a raw one, no number without a word. */
     IS(rheap_alloc(heap, 1, mine, 2), DONE);

@@ -95,3 +95,11 @@ module _ (old mid : Option PacedState) (s : PacedState) (kept : mid ≡ old) (he
 
     pub again-insisted : IsInsisted (Some t) new owner command status → IsInsisted old new owner command status
     again-insisted = subst (λ (o : Option PacedState). IsInsisted o new owner command status) is
+
+-- It was only looked whether one is open.
+module _ (old mid : Option PacedState) (kept : mid ≡ old) (new : Option PacedState) (owner : ℕ) (command : Command) (status : ℕ) where
+  pub kept-done : IsDone mid new owner command status → IsDone old new owner command status
+  kept-done = subst (λ (o : Option PacedState). IsDone o new owner command status) kept
+
+  pub kept-insisted : IsInsisted mid new owner command status → IsInsisted old new owner command status
+  kept-insisted = subst (λ (o : Option PacedState). IsInsisted o new owner command status) kept

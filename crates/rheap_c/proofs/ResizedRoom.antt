@@ -1,17 +1,15 @@
 -- What a resized heap keeps of the times.
-use Rattle.std.proofs.Common.{◌≡◌, ◌⊎◌, inl, inr, ℕ, ◌+◌, ◌≤◌, false, Option, Some, None, refl, sym, ap, subst, ◌∙◌, arith}
+use Rattle.std.proofs.Common.{◌≡◌, inl, inr, ℕ, ◌+◌, ◌≤◌, false, Some, sym, ap, subst, ◌∙◌, arith}
 use Rattle.std.proofs.lemmas.Bool.{true≢false}
 use Rattle.std.proofs.lemmas.Option.{same_Some}
 use Rattle.rh_space.specs.Space.{free_words, used_words}
 use Rattle.rh_mutator.specs.declared.config.Config.{Config}
-use Rattle.rh_core.specs.Heap.{new_heap}
 use Rattle.rh_pace.specs.declared.pace.Pace.{Pace}
 use Rattle.rh_pace.specs.InTime.{IsInTime}
-use Rattle.rh_pace.specs.KeptUp.{IsKept}
-use Rattle.rh_pace.specs.Pace.{CanKeepUp, KeepsUp, words_left}
-use Rattle.rh_pace.specs.Paced.{PacedState, paced_heap}
+use Rattle.rh_pace.specs.Pace.{KeepsUp}
+use Rattle.rh_pace.specs.Paced.{PacedState}
 use Rattle.rh_pace.specs.Resizing.{LeavesNoLess, resized}
-use Rattle.rheap_c.specs.Opened.{IsFillingPace, IsNew, IsPaceFor}
+use Rattle.rheap_c.specs.Opened.{IsNew}
 use Rattle.rheap_c.specs.Resized.{IsResized, PaysRatio, Resizes, ResizesAt, ResizesBy}
 
 -- One that was done has made the heap so, with a pace that fits.

@@ -11,6 +11,7 @@ pub(crate) mod reading;
 pub(crate) mod resizing;
 pub(crate) mod root_rows;
 pub(crate) mod several;
+pub(crate) mod shared;
 pub(crate) mod texts;
 pub(crate) mod value_rows;
 pub(crate) mod views;

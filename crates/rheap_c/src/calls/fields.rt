@@ -33,7 +33,15 @@ pub extern "C" fn rheap_load(
         heap.old heap.new }
 {
     if heap.fixed.is_empty() {
-        return growing::fields::load(&mut heap.growing, alloc, owner, dst, src, field, value);
+        return growing::fields::load(
+            &mut heap.growing,
+            alloc,
+            owner,
+            &{ dst },
+            &{ src },
+            field,
+            value,
+        );
     }
     fixed::fields::load(&mut heap.fixed, owner, dst, src, field, value)
 }
@@ -54,7 +62,14 @@ pub extern "C" fn rheap_load_untold(
         result) heap.old heap.new }
 {
     if heap.fixed.is_empty() {
-        return growing::fields::load_untold(&mut heap.growing, alloc, owner, dst, src, field);
+        return growing::fields::load_untold(
+            &mut heap.growing,
+            alloc,
+            owner,
+            &{ dst },
+            &{ src },
+            field,
+        );
     }
     fixed::fields::load_untold(&mut heap.fixed, owner, dst, src, field)
 }
@@ -74,7 +89,7 @@ pub extern "C" fn rheap_store_nil(
         result) heap.old heap.new }
 {
     if heap.fixed.is_empty() {
-        return growing::fields::store_nil(&mut heap.growing, alloc, owner, object, field);
+        return growing::fields::store_nil(&mut heap.growing, alloc, owner, &{ object }, field);
     }
     fixed::fields::store_nil(&mut heap.fixed, alloc, owner, object, field)
 }
@@ -96,7 +111,14 @@ pub extern "C" fn rheap_store_int(
         number)) result) heap.old heap.new }
 {
     if heap.fixed.is_empty() {
-        return growing::fields::store_int(&mut heap.growing, alloc, owner, object, field, number);
+        return growing::fields::store_int(
+            &mut heap.growing,
+            alloc,
+            owner,
+            &{ object },
+            field,
+            number,
+        );
     }
     fixed::fields::store_int(&mut heap.fixed, alloc, owner, object, field, number)
 }
@@ -118,7 +140,14 @@ pub extern "C" fn rheap_store_root(
         (root_of src))) result) heap.old heap.new }
 {
     if heap.fixed.is_empty() {
-        return growing::fields::store_root(&mut heap.growing, alloc, owner, object, field, src);
+        return growing::fields::store_root(
+            &mut heap.growing,
+            alloc,
+            owner,
+            &{ object },
+            field,
+            &{ src },
+        );
     }
     fixed::fields::store_root(&mut heap.fixed, alloc, owner, object, field, src)
 }

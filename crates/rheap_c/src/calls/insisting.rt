@@ -31,7 +31,7 @@ pub extern "C" fn rheap_insist_alloc(
         heap.old heap.new }
 {
     if heap.fixed.is_empty() {
-        return growing::insisting::insist_alloc(&mut heap.growing, alloc, owner, dst, fields);
+        return growing::insisting::insist_alloc(&mut heap.growing, alloc, owner, &{ dst }, fields);
     }
     fixed::insisting::insist_alloc(&mut heap.fixed, alloc, owner, dst, fields)
 }
@@ -51,7 +51,13 @@ pub extern "C" fn rheap_insist_alloc_raw(
         heap.old heap.new }
 {
     if heap.fixed.is_empty() {
-        return growing::insisting::insist_alloc_raw(&mut heap.growing, alloc, owner, dst, fields);
+        return growing::insisting::insist_alloc_raw(
+            &mut heap.growing,
+            alloc,
+            owner,
+            &{ dst },
+            fields,
+        );
     }
     fixed::insisting::insist_alloc_raw(&mut heap.fixed, alloc, owner, dst, fields)
 }
@@ -72,7 +78,13 @@ pub extern "C" fn rheap_insist_store_nil(
         operands.Nil) result) heap.old heap.new }
 {
     if heap.fixed.is_empty() {
-        return growing::insisting::insist_store_nil(&mut heap.growing, alloc, owner, object, field);
+        return growing::insisting::insist_store_nil(
+            &mut heap.growing,
+            alloc,
+            owner,
+            &{ object },
+            field,
+        );
     }
     fixed::insisting::insist_store_nil(&mut heap.fixed, alloc, owner, object, field)
 }
@@ -98,7 +110,7 @@ pub extern "C" fn rheap_insist_store_int(
             &mut heap.growing,
             alloc,
             owner,
-            object,
+            &{ object },
             field,
             number,
         );
@@ -127,9 +139,9 @@ pub extern "C" fn rheap_insist_store_root(
             &mut heap.growing,
             alloc,
             owner,
-            object,
+            &{ object },
             field,
-            src,
+            &{ src },
         );
     }
     fixed::insisting::insist_store_root(&mut heap.fixed, alloc, owner, object, field, src)

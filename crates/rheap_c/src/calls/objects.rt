@@ -29,7 +29,7 @@ pub extern "C" fn rheap_alloc(
         heap.new }
 {
     if heap.fixed.is_empty() {
-        return growing::objects::alloc(&mut heap.growing, alloc, owner, dst, fields);
+        return growing::objects::alloc(&mut heap.growing, alloc, owner, &{ dst }, fields);
     }
     fixed::objects::alloc(&mut heap.fixed, alloc, owner, dst, fields)
 }
@@ -48,7 +48,7 @@ pub extern "C" fn rheap_alloc_raw(
         heap.new }
 {
     if heap.fixed.is_empty() {
-        return growing::objects::alloc_raw(&mut heap.growing, alloc, owner, dst, fields);
+        return growing::objects::alloc_raw(&mut heap.growing, alloc, owner, &{ dst }, fields);
     }
     fixed::objects::alloc_raw(&mut heap.fixed, alloc, owner, dst, fields)
 }
@@ -68,7 +68,7 @@ pub extern "C" fn rheap_copy(
         heap.old heap.new }
 {
     if heap.fixed.is_empty() {
-        return growing::objects::copy(&mut heap.growing, alloc, owner, dst, src);
+        return growing::objects::copy(&mut heap.growing, alloc, owner, &{ dst }, &{ src });
     }
     fixed::objects::copy(&mut heap.fixed, owner, dst, src)
 }
@@ -81,7 +81,7 @@ pub extern "C" fn rheap_drop(heap: &mut Rheap, alloc: Global, owner: u32, root: 
         heap.new }
 {
     if heap.fixed.is_empty() {
-        return growing::objects::drop_root(&mut heap.growing, alloc, owner, root);
+        return growing::objects::drop_root(&mut heap.growing, alloc, owner, &{ root });
     }
     fixed::objects::drop_root(&mut heap.fixed, owner, root)
 }
@@ -101,7 +101,7 @@ pub extern "C" fn rheap_same(
         heap.new }
 {
     if heap.fixed.is_empty() {
-        return growing::objects::same(&mut heap.growing, alloc, owner, a, b, same);
+        return growing::objects::same(&mut heap.growing, alloc, owner, &{ a }, &{ b }, same);
     }
     fixed::objects::same(&mut heap.fixed, owner, a, b, same)
 }

@@ -13,7 +13,7 @@ ghost use Rattle.rheap_c.specs.Read.{IsAnswered, peek_answer};
 ghost use Rattle.rheap_c.specs.Shared.{shared_root};
 
 use crate::handle::Rheap;
-use crate::value::{RheapRoot, RheapValue};
+use crate::value::RheapValue;
 use crate::{fixed, growing};
 use std::alloc::Global;
 
@@ -25,11 +25,7 @@ pub extern "C" fn rheap_shared_alloc(heap: &mut Rheap, alloc: Global, dst: u32, 
         heap.new }
 {
     if heap.fixed.is_empty() {
-        let dst = RheapRoot {
-            owner: 0,
-            slot: dst,
-        };
-        return growing::objects::alloc(&mut heap.growing, alloc, 0, dst, fields);
+        return growing::shared::alloc(&mut heap.growing, alloc, dst, fields);
     }
     fixed::shared::alloc(&mut heap.fixed, alloc, dst, fields)
 }
@@ -47,11 +43,7 @@ pub extern "C" fn rheap_shared_alloc_raw(
         heap.new }
 {
     if heap.fixed.is_empty() {
-        let dst = RheapRoot {
-            owner: 0,
-            slot: dst,
-        };
-        return growing::objects::alloc_raw(&mut heap.growing, alloc, 0, dst, fields);
+        return growing::shared::alloc_raw(&mut heap.growing, alloc, dst, fields);
     }
     fixed::shared::alloc_raw(&mut heap.fixed, alloc, dst, fields)
 }
@@ -72,15 +64,7 @@ pub extern "C" fn rheap_shared_load(
         value.new) heap.old heap.new }
 {
     if heap.fixed.is_empty() {
-        let dst = RheapRoot {
-            owner: 0,
-            slot: dst,
-        };
-        let src = RheapRoot {
-            owner: 0,
-            slot: src,
-        };
-        return growing::fields::load(&mut heap.growing, alloc, 0, dst, src, field, value);
+        return growing::shared::load(&mut heap.growing, alloc, dst, src, field, value);
     }
     fixed::shared::load(&mut heap.fixed, dst, src, field, value)
 }
@@ -100,15 +84,7 @@ pub extern "C" fn rheap_shared_load_untold(
         result) heap.old heap.new }
 {
     if heap.fixed.is_empty() {
-        let dst = RheapRoot {
-            owner: 0,
-            slot: dst,
-        };
-        let src = RheapRoot {
-            owner: 0,
-            slot: src,
-        };
-        return growing::fields::load_untold(&mut heap.growing, alloc, 0, dst, src, field);
+        return growing::shared::load_untold(&mut heap.growing, alloc, dst, src, field);
     }
     fixed::shared::load_untold(&mut heap.fixed, dst, src, field)
 }
@@ -126,11 +102,7 @@ pub extern "C" fn rheap_shared_peek(
         new result value.new) heap.old heap.new }
 {
     if heap.fixed.is_empty() {
-        let src = RheapRoot {
-            owner: 0,
-            slot: src,
-        };
-        return growing::reading::peek(&mut heap.growing, alloc, 0, src, field, value);
+        return growing::shared::peek(&mut heap.growing, alloc, src, field, value);
     }
     fixed::shared::peek(&mut heap.fixed, src, field, value)
 }
@@ -149,11 +121,7 @@ pub extern "C" fn rheap_shared_store_nil(
         result) heap.old heap.new }
 {
     if heap.fixed.is_empty() {
-        let object = RheapRoot {
-            owner: 0,
-            slot: object,
-        };
-        return growing::fields::store_nil(&mut heap.growing, alloc, 0, object, field);
+        return growing::shared::store_nil(&mut heap.growing, alloc, object, field);
     }
     fixed::shared::store_nil(&mut heap.fixed, alloc, object, field)
 }
@@ -173,11 +141,7 @@ pub extern "C" fn rheap_shared_store_int(
         number)) result) heap.old heap.new }
 {
     if heap.fixed.is_empty() {
-        let object = RheapRoot {
-            owner: 0,
-            slot: object,
-        };
-        return growing::fields::store_int(&mut heap.growing, alloc, 0, object, field, number);
+        return growing::shared::store_int(&mut heap.growing, alloc, object, field, number);
     }
     fixed::shared::store_int(&mut heap.fixed, alloc, object, field, number)
 }
@@ -197,15 +161,7 @@ pub extern "C" fn rheap_shared_store_root(
         (shared_root src))) result) heap.old heap.new }
 {
     if heap.fixed.is_empty() {
-        let object = RheapRoot {
-            owner: 0,
-            slot: object,
-        };
-        let src = RheapRoot {
-            owner: 0,
-            slot: src,
-        };
-        return growing::fields::store_root(&mut heap.growing, alloc, 0, object, field, src);
+        return growing::shared::store_root(&mut heap.growing, alloc, object, field, src);
     }
     fixed::shared::store_root(&mut heap.fixed, alloc, object, field, src)
 }
@@ -219,15 +175,7 @@ pub extern "C" fn rheap_shared_copy(heap: &mut Rheap, alloc: Global, dst: u32, s
         result) heap.old heap.new }
 {
     if heap.fixed.is_empty() {
-        let dst = RheapRoot {
-            owner: 0,
-            slot: dst,
-        };
-        let src = RheapRoot {
-            owner: 0,
-            slot: src,
-        };
-        return growing::objects::copy(&mut heap.growing, alloc, 0, dst, src);
+        return growing::shared::copy(&mut heap.growing, alloc, dst, src);
     }
     fixed::shared::copy(&mut heap.fixed, dst, src)
 }
@@ -240,11 +188,7 @@ pub extern "C" fn rheap_shared_drop(heap: &mut Rheap, alloc: Global, root: u32) 
         heap.new }
 {
     if heap.fixed.is_empty() {
-        let root = RheapRoot {
-            owner: 0,
-            slot: root,
-        };
-        return growing::objects::drop_root(&mut heap.growing, alloc, 0, root);
+        return growing::shared::drop_root(&mut heap.growing, alloc, root);
     }
     fixed::shared::drop_root(&mut heap.fixed, root)
 }
@@ -263,11 +207,7 @@ pub extern "C" fn rheap_shared_insist_alloc(
         heap.old heap.new }
 {
     if heap.fixed.is_empty() {
-        let dst = RheapRoot {
-            owner: 0,
-            slot: dst,
-        };
-        return growing::insisting::insist_alloc(&mut heap.growing, alloc, 0, dst, fields);
+        return growing::shared::insist_alloc(&mut heap.growing, alloc, dst, fields);
     }
     fixed::shared::insist_alloc(&mut heap.fixed, alloc, dst, fields)
 }
@@ -285,11 +225,7 @@ pub extern "C" fn rheap_shared_insist_alloc_raw(
         heap.old heap.new }
 {
     if heap.fixed.is_empty() {
-        let dst = RheapRoot {
-            owner: 0,
-            slot: dst,
-        };
-        return growing::insisting::insist_alloc_raw(&mut heap.growing, alloc, 0, dst, fields);
+        return growing::shared::insist_alloc_raw(&mut heap.growing, alloc, dst, fields);
     }
     fixed::shared::insist_alloc_raw(&mut heap.fixed, alloc, dst, fields)
 }
@@ -308,11 +244,7 @@ pub extern "C" fn rheap_shared_insist_store_nil(
         operands.Nil) result) heap.old heap.new }
 {
     if heap.fixed.is_empty() {
-        let object = RheapRoot {
-            owner: 0,
-            slot: object,
-        };
-        return growing::insisting::insist_store_nil(&mut heap.growing, alloc, 0, object, field);
+        return growing::shared::insist_store_nil(&mut heap.growing, alloc, object, field);
     }
     fixed::shared::insist_store_nil(&mut heap.fixed, alloc, object, field)
 }
@@ -332,18 +264,7 @@ pub extern "C" fn rheap_shared_insist_store_int(
         (operands.Int number)) result) heap.old heap.new }
 {
     if heap.fixed.is_empty() {
-        let object = RheapRoot {
-            owner: 0,
-            slot: object,
-        };
-        return growing::insisting::insist_store_int(
-            &mut heap.growing,
-            alloc,
-            0,
-            object,
-            field,
-            number,
-        );
+        return growing::shared::insist_store_int(&mut heap.growing, alloc, object, field, number);
     }
     fixed::shared::insist_store_int(&mut heap.fixed, alloc, object, field, number)
 }
@@ -363,22 +284,7 @@ pub extern "C" fn rheap_shared_insist_store_root(
         (operands.Root (shared_root src))) result) heap.old heap.new }
 {
     if heap.fixed.is_empty() {
-        let object = RheapRoot {
-            owner: 0,
-            slot: object,
-        };
-        let src = RheapRoot {
-            owner: 0,
-            slot: src,
-        };
-        return growing::insisting::insist_store_root(
-            &mut heap.growing,
-            alloc,
-            0,
-            object,
-            field,
-            src,
-        );
+        return growing::shared::insist_store_root(&mut heap.growing, alloc, object, field, src);
     }
     fixed::shared::insist_store_root(&mut heap.fixed, alloc, object, field, src)
 }

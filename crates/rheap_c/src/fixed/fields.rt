@@ -75,7 +75,7 @@ pub(crate) fn store_nil(
         .store_straight(owner, object.id(), field, Operand::Nil)
     {
         Some(_) => DONE,
-        None => store_nil_at_length(heap, alloc, owner, object, field),
+        None => store_nil_at_length(heap, alloc, owner, &{ object }, field),
     }
 }
 
@@ -85,11 +85,11 @@ pub(crate) fn store_nil_at_length(
     heap: &mut FixedPart,
     alloc: Global,
     owner: u32,
-    object: RheapRoot,
+    object: &RheapRoot,
     field: u32,
 ) -> u8
     ensures { IsDone heap.old.state heap.new.state owner
-        (commands.Store (root_of object) field operands.Nil) result }
+        (commands.Store (root_of object.now) field operands.Nil) result }
 {
     match heap.take(alloc) {
         None => NOT_OPEN,
@@ -122,7 +122,7 @@ pub(crate) fn store_int(
         .store_straight(owner, object.id(), field, Operand::Int(number))
     {
         Some(_) => DONE,
-        None => store_int_at_length(heap, alloc, owner, object, field, number),
+        None => store_int_at_length(heap, alloc, owner, &{ object }, field, number),
     }
 }
 
@@ -132,12 +132,12 @@ pub(crate) fn store_int_at_length(
     heap: &mut FixedPart,
     alloc: Global,
     owner: u32,
-    object: RheapRoot,
+    object: &RheapRoot,
     field: u32,
     number: i64,
 ) -> u8
     ensures { IsDone heap.old.state heap.new.state owner
-        (commands.Store (root_of object) field (operands.Int number)) result }
+        (commands.Store (root_of object.now) field (operands.Int number)) result }
 {
     match heap.take(alloc) {
         None => NOT_OPEN,
@@ -170,7 +170,7 @@ pub(crate) fn store_root(
         .store_straight(owner, object.id(), field, Operand::Root(src.id()))
     {
         Some(_) => DONE,
-        None => store_root_at_length(heap, alloc, owner, object, field, src),
+        None => store_root_at_length(heap, alloc, owner, &{ object }, field, &{ src }),
     }
 }
 
@@ -180,12 +180,12 @@ pub(crate) fn store_root_at_length(
     heap: &mut FixedPart,
     alloc: Global,
     owner: u32,
-    object: RheapRoot,
+    object: &RheapRoot,
     field: u32,
-    src: RheapRoot,
+    src: &RheapRoot,
 ) -> u8
     ensures { IsDone heap.old.state heap.new.state owner
-        (commands.Store (root_of object) field (operands.Root (root_of src))) result }
+        (commands.Store (root_of object.now) field (operands.Root (root_of src.now))) result }
 {
     match heap.take(alloc) {
         None => NOT_OPEN,

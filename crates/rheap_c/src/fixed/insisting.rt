@@ -1,7 +1,7 @@
 //! Calls that insist on room: `rheap_insist_alloc`, `rheap_insist_store_int` and the like.
 //!
 //! Most come while no cycle is on and are accepted. These are done in a few instructions, each
-//! other one by a call.
+//! other one by a call. As in `objects`, too many fields go to that call at once.
 
 ghost use Rattle.std.specs.Prelude.{◌≡◌};
 ghost use Rattle.rh_layout.specs.declared.command.Command.TheVariants as commands;
@@ -14,7 +14,7 @@ ghost use Rattle.rheap_c.specs.Told.{root_of};
 use crate::fixed_part::FixedPart;
 use crate::status::{DONE, NOT_OPEN, answer_status};
 use crate::value::RheapRoot;
-use rh_layout::{Command, Operand, Refusal, Reply, RootId};
+use rh_layout::{Command, MAX_FIELDS, Operand, Refusal, Reply, RootId};
 use rh_pace::{PacedHeap, wants_room};
 use std::alloc::Global;
 
@@ -33,9 +33,12 @@ pub(crate) fn insist_alloc(
     if heap.is_empty() {
         return NOT_OPEN;
     }
+    if fields > MAX_FIELDS {
+        return insist_alloc_at_length(heap, alloc, owner, &{ dst }, fields);
+    }
     match heap.here().alloc_straight(owner, dst.id(), fields) {
         Some(_) => DONE,
-        None => insist_alloc_at_length(heap, alloc, owner, dst, fields),
+        None => insist_alloc_at_length(heap, alloc, owner, &{ dst }, fields),
     }
 }
 
@@ -45,11 +48,11 @@ pub(crate) fn insist_alloc_at_length(
     heap: &mut FixedPart,
     alloc: Global,
     owner: u32,
-    dst: RheapRoot,
+    dst: &RheapRoot,
     fields: u32,
 ) -> u8
     ensures { IsInsisted heap.old.state heap.new.state owner
-        (commands.Alloc (root_of dst) fields) result }
+        (commands.Alloc (root_of dst.now) fields) result }
 {
     match heap.take(alloc) {
         None => NOT_OPEN,
@@ -78,9 +81,12 @@ pub(crate) fn insist_alloc_raw(
     if heap.is_empty() {
         return NOT_OPEN;
     }
+    if fields > MAX_FIELDS {
+        return insist_alloc_raw_at_length(heap, alloc, owner, &{ dst }, fields);
+    }
     match heap.here().alloc_raw_straight(owner, dst.id(), fields) {
         Some(_) => DONE,
-        None => insist_alloc_raw_at_length(heap, alloc, owner, dst, fields),
+        None => insist_alloc_raw_at_length(heap, alloc, owner, &{ dst }, fields),
     }
 }
 
@@ -90,11 +96,11 @@ pub(crate) fn insist_alloc_raw_at_length(
     heap: &mut FixedPart,
     alloc: Global,
     owner: u32,
-    dst: RheapRoot,
+    dst: &RheapRoot,
     fields: u32,
 ) -> u8
     ensures { IsInsisted heap.old.state heap.new.state owner
-        (commands.Raw (root_of dst) fields) result }
+        (commands.Raw (root_of dst.now) fields) result }
 {
     match heap.take(alloc) {
         None => NOT_OPEN,
@@ -128,7 +134,7 @@ pub(crate) fn insist_store_nil(
         .store_straight(owner, object.id(), field, Operand::Nil)
     {
         Some(_) => DONE,
-        None => insist_store_nil_at_length(heap, alloc, owner, object, field),
+        None => insist_store_nil_at_length(heap, alloc, owner, &{ object }, field),
     }
 }
 
@@ -138,11 +144,11 @@ pub(crate) fn insist_store_nil_at_length(
     heap: &mut FixedPart,
     alloc: Global,
     owner: u32,
-    object: RheapRoot,
+    object: &RheapRoot,
     field: u32,
 ) -> u8
     ensures { IsInsisted heap.old.state heap.new.state owner
-        (commands.Store (root_of object) field operands.Nil) result }
+        (commands.Store (root_of object.now) field operands.Nil) result }
 {
     insist_store(heap, alloc, owner, object.id(), field, Operand::Nil)
 }
@@ -168,7 +174,7 @@ pub(crate) fn insist_store_int(
         .store_straight(owner, object.id(), field, Operand::Int(number))
     {
         Some(_) => DONE,
-        None => insist_store_int_at_length(heap, alloc, owner, object, field, number),
+        None => insist_store_int_at_length(heap, alloc, owner, &{ object }, field, number),
     }
 }
 
@@ -178,12 +184,12 @@ pub(crate) fn insist_store_int_at_length(
     heap: &mut FixedPart,
     alloc: Global,
     owner: u32,
-    object: RheapRoot,
+    object: &RheapRoot,
     field: u32,
     number: i64,
 ) -> u8
     ensures { IsInsisted heap.old.state heap.new.state owner
-        (commands.Store (root_of object) field (operands.Int number)) result }
+        (commands.Store (root_of object.now) field (operands.Int number)) result }
 {
     insist_store(heap, alloc, owner, object.id(), field, Operand::Int(number))
 }
@@ -209,7 +215,7 @@ pub(crate) fn insist_store_root(
         .store_straight(owner, object.id(), field, Operand::Root(src.id()))
     {
         Some(_) => DONE,
-        None => insist_store_root_at_length(heap, alloc, owner, object, field, src),
+        None => insist_store_root_at_length(heap, alloc, owner, &{ object }, field, &{ src }),
     }
 }
 
@@ -219,12 +225,12 @@ pub(crate) fn insist_store_root_at_length(
     heap: &mut FixedPart,
     alloc: Global,
     owner: u32,
-    object: RheapRoot,
+    object: &RheapRoot,
     field: u32,
-    src: RheapRoot,
+    src: &RheapRoot,
 ) -> u8
     ensures { IsInsisted heap.old.state heap.new.state owner
-        (commands.Store (root_of object) field (operands.Root (root_of src))) result }
+        (commands.Store (root_of object.now) field (operands.Root (root_of src.now))) result }
 {
     insist_store(
         heap,

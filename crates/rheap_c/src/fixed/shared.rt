@@ -1,7 +1,8 @@
 //! The calls on the slots of owner 0 by number, on a heap of fixed sizes: `rheap_shared_load` and the
 //! like.
 //!
-//! What isn't done in a few instructions is left to the call by owner 0.
+//! What isn't done in a few instructions is left to the call by owner 0. Too many fields aren't looked
+//! for first here: by number that saves nothing.
 
 ghost use Rattle.std.specs.Prelude.{◌≡◌};
 ghost use Rattle.rh_layout.specs.declared.command.Command.TheVariants as commands;
@@ -10,12 +11,11 @@ ghost use Rattle.rheap_c.specs.Called.{IsDone, IsLoaded};
 ghost use Rattle.rheap_c.specs.Insisted.{IsInsisted};
 ghost use Rattle.rheap_c.specs.Read.{IsAnswered, peek_answer};
 ghost use Rattle.rheap_c.specs.Shared.{shared_root};
-ghost use Rattle.rheap_c.specs.Told.{root_of};
 
 use crate::fixed::{fields, insisting, objects};
 use crate::fixed_part::FixedPart;
 use crate::status::{DONE, NOT_OPEN, answer_status};
-use crate::value::{RheapRoot, RheapValue};
+use crate::value::{RheapValue, crossing};
 use rh_layout::{Operand, Refusal, Reply, RootId};
 use rh_pace::PacedHeap;
 use std::alloc::Global;
@@ -31,7 +31,7 @@ pub(crate) fn alloc(heap: &mut FixedPart, alloc: Global, dst: u32, fields: u32) 
     }
     match heap.here().alloc_straight(0, shared(dst), fields) {
         Some(_) => DONE,
-        None => objects::alloc_at_length(heap, alloc, 0, crossing(dst), fields),
+        None => alloc_at_length(heap, alloc, dst, fields),
     }
 }
 
@@ -46,7 +46,7 @@ pub(crate) fn alloc_raw(heap: &mut FixedPart, alloc: Global, dst: u32, fields: u
     }
     match heap.here().alloc_raw_straight(0, shared(dst), fields) {
         Some(_) => DONE,
-        None => objects::alloc_raw_at_length(heap, alloc, 0, crossing(dst), fields),
+        None => alloc_raw_at_length(heap, alloc, dst, fields),
     }
 }
 
@@ -113,7 +113,7 @@ pub(crate) fn store_nil(heap: &mut FixedPart, alloc: Global, object: u32, field:
         .store_straight(0, shared(object), field, Operand::Nil)
     {
         Some(_) => DONE,
-        None => fields::store_nil_at_length(heap, alloc, 0, crossing(object), field),
+        None => store_nil_at_length(heap, alloc, object, field),
     }
 }
 
@@ -137,7 +137,7 @@ pub(crate) fn store_int(
         .store_straight(0, shared(object), field, Operand::Int(number))
     {
         Some(_) => DONE,
-        None => fields::store_int_at_length(heap, alloc, 0, crossing(object), field, number),
+        None => store_int_at_length(heap, alloc, object, field, number),
     }
 }
 
@@ -161,14 +161,7 @@ pub(crate) fn store_root(
         .store_straight(0, shared(object), field, Operand::Root(shared(src)))
     {
         Some(_) => DONE,
-        None => fields::store_root_at_length(
-            heap,
-            alloc,
-            0,
-            crossing(object),
-            field,
-            crossing(src),
-        ),
+        None => store_root_at_length(heap, alloc, object, field, src),
     }
 }
 
@@ -208,7 +201,7 @@ pub(crate) fn insist_alloc(heap: &mut FixedPart, alloc: Global, dst: u32, fields
     }
     match heap.here().alloc_straight(0, shared(dst), fields) {
         Some(_) => DONE,
-        None => insisting::insist_alloc_at_length(heap, alloc, 0, crossing(dst), fields),
+        None => insist_alloc_at_length(heap, alloc, dst, fields),
     }
 }
 
@@ -223,7 +216,7 @@ pub(crate) fn insist_alloc_raw(heap: &mut FixedPart, alloc: Global, dst: u32, fi
     }
     match heap.here().alloc_raw_straight(0, shared(dst), fields) {
         Some(_) => DONE,
-        None => insisting::insist_alloc_raw_at_length(heap, alloc, 0, crossing(dst), fields),
+        None => insist_alloc_raw_at_length(heap, alloc, dst, fields),
     }
 }
 
@@ -241,7 +234,7 @@ pub(crate) fn insist_store_nil(heap: &mut FixedPart, alloc: Global, object: u32,
         .store_straight(0, shared(object), field, Operand::Nil)
     {
         Some(_) => DONE,
-        None => insisting::insist_store_nil_at_length(heap, alloc, 0, crossing(object), field),
+        None => insist_store_nil_at_length(heap, alloc, object, field),
     }
 }
 
@@ -265,14 +258,7 @@ pub(crate) fn insist_store_int(
         .store_straight(0, shared(object), field, Operand::Int(number))
     {
         Some(_) => DONE,
-        None => insisting::insist_store_int_at_length(
-            heap,
-            alloc,
-            0,
-            crossing(object),
-            field,
-            number,
-        ),
+        None => insist_store_int_at_length(heap, alloc, object, field, number),
     }
 }
 
@@ -296,14 +282,7 @@ pub(crate) fn insist_store_root(
         .store_straight(0, shared(object), field, Operand::Root(shared(src)))
     {
         Some(_) => DONE,
-        None => insisting::insist_store_root_at_length(
-            heap,
-            alloc,
-            0,
-            crossing(object),
-            field,
-            crossing(src),
-        ),
+        None => insist_store_root_at_length(heap, alloc, object, field, src),
     }
 }
 
@@ -323,10 +302,116 @@ fn shared(slot: u32) -> RootId
     RootId { owner: 0, slot }
 }
 
-/// The root in a slot of owner 0, as C names it.
-#[inline(always)]
-pub(crate) fn crossing(slot: u32) -> RheapRoot
-    ensures { root_of result ≡ shared_root slot }
+/// As `rheap_shared_alloc`, also in a cycle, where one begins, and where it is refused.
+#[inline(never)]
+fn alloc_at_length(heap: &mut FixedPart, alloc: Global, dst: u32, fields: u32) -> u8
+    ensures { IsDone heap.old.state heap.new.state 0 (commands.Alloc (shared_root dst) fields)
+        result }
 {
-    RheapRoot { owner: 0, slot }
+    objects::alloc_at_length(heap, alloc, 0, &crossing(dst), fields)
+}
+
+/// As `rheap_shared_alloc_raw`, also in a cycle, where one begins, and where it is refused.
+#[inline(never)]
+fn alloc_raw_at_length(heap: &mut FixedPart, alloc: Global, dst: u32, fields: u32) -> u8
+    ensures { IsDone heap.old.state heap.new.state 0 (commands.Raw (shared_root dst) fields)
+        result }
+{
+    objects::alloc_raw_at_length(heap, alloc, 0, &crossing(dst), fields)
+}
+
+/// As `rheap_shared_store_nil`, also in a cycle, and where it is refused.
+#[inline(never)]
+fn store_nil_at_length(heap: &mut FixedPart, alloc: Global, object: u32, field: u32) -> u8
+    ensures { IsDone heap.old.state heap.new.state 0 (commands.Store (shared_root object) field
+        operands.Nil) result }
+{
+    fields::store_nil_at_length(heap, alloc, 0, &crossing(object), field)
+}
+
+/// As `rheap_shared_store_int`, also in a cycle, and where it is refused.
+#[inline(never)]
+fn store_int_at_length(
+    heap: &mut FixedPart,
+    alloc: Global,
+    object: u32,
+    field: u32,
+    number: i64,
+) -> u8
+    ensures { IsDone heap.old.state heap.new.state 0 (commands.Store (shared_root object) field
+        (operands.Int number)) result }
+{
+    fields::store_int_at_length(heap, alloc, 0, &crossing(object), field, number)
+}
+
+/// As `rheap_shared_store_root`, also in a cycle, and where it is refused.
+#[inline(never)]
+fn store_root_at_length(
+    heap: &mut FixedPart,
+    alloc: Global,
+    object: u32,
+    field: u32,
+    src: u32,
+) -> u8
+    ensures { IsDone heap.old.state heap.new.state 0 (commands.Store (shared_root object) field
+        (operands.Root (shared_root src))) result }
+{
+    fields::store_root_at_length(heap, alloc, 0, &crossing(object), field, &crossing(src))
+}
+
+/// As `rheap_shared_insist_alloc`, also in a cycle, where one begins, and where it is refused.
+#[inline(never)]
+fn insist_alloc_at_length(heap: &mut FixedPart, alloc: Global, dst: u32, fields: u32) -> u8
+    ensures { IsInsisted heap.old.state heap.new.state 0 (commands.Alloc (shared_root dst) fields)
+        result }
+{
+    insisting::insist_alloc_at_length(heap, alloc, 0, &crossing(dst), fields)
+}
+
+/// As `rheap_shared_insist_alloc_raw`, also in a cycle, where one begins, and where it is refused.
+#[inline(never)]
+fn insist_alloc_raw_at_length(heap: &mut FixedPart, alloc: Global, dst: u32, fields: u32) -> u8
+    ensures { IsInsisted heap.old.state heap.new.state 0 (commands.Raw (shared_root dst) fields)
+        result }
+{
+    insisting::insist_alloc_raw_at_length(heap, alloc, 0, &crossing(dst), fields)
+}
+
+/// As `rheap_shared_insist_store_nil`, also in a cycle, and where it is refused.
+#[inline(never)]
+fn insist_store_nil_at_length(heap: &mut FixedPart, alloc: Global, object: u32, field: u32) -> u8
+    ensures { IsInsisted heap.old.state heap.new.state 0 (commands.Store (shared_root object) field
+        operands.Nil) result }
+{
+    insisting::insist_store_nil_at_length(heap, alloc, 0, &crossing(object), field)
+}
+
+/// As `rheap_shared_insist_store_int`, also in a cycle, and where it is refused.
+#[inline(never)]
+fn insist_store_int_at_length(
+    heap: &mut FixedPart,
+    alloc: Global,
+    object: u32,
+    field: u32,
+    number: i64,
+) -> u8
+    ensures { IsInsisted heap.old.state heap.new.state 0 (commands.Store (shared_root object) field
+        (operands.Int number)) result }
+{
+    insisting::insist_store_int_at_length(heap, alloc, 0, &crossing(object), field, number)
+}
+
+/// As `rheap_shared_insist_store_root`, also in a cycle, and where it is refused.
+#[inline(never)]
+fn insist_store_root_at_length(
+    heap: &mut FixedPart,
+    alloc: Global,
+    object: u32,
+    field: u32,
+    src: u32,
+) -> u8
+    ensures { IsInsisted heap.old.state heap.new.state 0 (commands.Store (shared_root object) field
+        (operands.Root (shared_root src))) result }
+{
+    insisting::insist_store_root_at_length(heap, alloc, 0, &crossing(object), field, &crossing(src))
 }

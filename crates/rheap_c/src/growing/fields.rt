@@ -17,13 +17,13 @@ pub(crate) fn load(
     heap: &mut GrowingPart,
     alloc: Global,
     owner: u32,
-    dst: RheapRoot,
-    src: RheapRoot,
+    dst: &RheapRoot,
+    src: &RheapRoot,
     field: u32,
     value: &mut RheapValue,
 ) -> u8
-    ensures { IsGrownLoaded heap.old.state heap.new.state owner (root_of dst) (root_of src) field
-        result value.new }
+    ensures { IsGrownLoaded heap.old.state heap.new.state owner (root_of dst.now) (root_of src.now)
+        field result value.new }
 {
     match heap.take(alloc) {
         None => {
@@ -45,12 +45,12 @@ pub(crate) fn load_untold(
     heap: &mut GrowingPart,
     alloc: Global,
     owner: u32,
-    dst: RheapRoot,
-    src: RheapRoot,
+    dst: &RheapRoot,
+    src: &RheapRoot,
     field: u32,
 ) -> u8
-    ensures { IsGrownDone heap.old.state heap.new.state owner (commands.Load (root_of dst) (root_of
-        src) field) result }
+    ensures { IsGrownDone heap.old.state heap.new.state owner (commands.Load (root_of dst.now)
+        (root_of src.now) field) result }
 {
     match heap.take(alloc) {
         None => NOT_OPEN,
@@ -68,11 +68,11 @@ pub(crate) fn store_nil(
     heap: &mut GrowingPart,
     alloc: Global,
     owner: u32,
-    object: RheapRoot,
+    object: &RheapRoot,
     field: u32,
 ) -> u8
-    ensures { IsGrownDone heap.old.state heap.new.state owner (commands.Store (root_of object) field
-        operands.Nil) result }
+    ensures { IsGrownDone heap.old.state heap.new.state owner (commands.Store (root_of object.now)
+        field operands.Nil) result }
 {
     match heap.take(alloc) {
         None => NOT_OPEN,
@@ -90,12 +90,12 @@ pub(crate) fn store_int(
     heap: &mut GrowingPart,
     alloc: Global,
     owner: u32,
-    object: RheapRoot,
+    object: &RheapRoot,
     field: u32,
     number: i64,
 ) -> u8
-    ensures { IsGrownDone heap.old.state heap.new.state owner (commands.Store (root_of object) field
-        (operands.Int number)) result }
+    ensures { IsGrownDone heap.old.state heap.new.state owner (commands.Store (root_of object.now)
+        field (operands.Int number)) result }
 {
     match heap.take(alloc) {
         None => NOT_OPEN,
@@ -113,12 +113,12 @@ pub(crate) fn store_root(
     heap: &mut GrowingPart,
     alloc: Global,
     owner: u32,
-    object: RheapRoot,
+    object: &RheapRoot,
     field: u32,
-    src: RheapRoot,
+    src: &RheapRoot,
 ) -> u8
-    ensures { IsGrownDone heap.old.state heap.new.state owner (commands.Store (root_of object) field
-        (operands.Root (root_of src))) result }
+    ensures { IsGrownDone heap.old.state heap.new.state owner (commands.Store (root_of object.now)
+        field (operands.Root (root_of src.now))) result }
 {
     match heap.take(alloc) {
         None => NOT_OPEN,

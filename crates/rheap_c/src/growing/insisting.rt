@@ -18,10 +18,10 @@ pub(crate) fn insist_alloc(
     heap: &mut GrowingPart,
     alloc: Global,
     owner: u32,
-    dst: RheapRoot,
+    dst: &RheapRoot,
     fields: u32,
 ) -> u8
-    ensures { IsGrownInsisted heap.old.state heap.new.state owner (commands.Alloc (root_of dst)
+    ensures { IsGrownInsisted heap.old.state heap.new.state owner (commands.Alloc (root_of dst.now)
         fields) result }
 {
     match heap.take(alloc) {
@@ -40,10 +40,10 @@ pub(crate) fn insist_alloc_raw(
     heap: &mut GrowingPart,
     alloc: Global,
     owner: u32,
-    dst: RheapRoot,
+    dst: &RheapRoot,
     fields: u32,
 ) -> u8
-    ensures { IsGrownInsisted heap.old.state heap.new.state owner (commands.Raw (root_of dst)
+    ensures { IsGrownInsisted heap.old.state heap.new.state owner (commands.Raw (root_of dst.now)
         fields) result }
 {
     match heap.take(alloc) {
@@ -62,11 +62,11 @@ pub(crate) fn insist_store_nil(
     heap: &mut GrowingPart,
     alloc: Global,
     owner: u32,
-    object: RheapRoot,
+    object: &RheapRoot,
     field: u32,
 ) -> u8
-    ensures { IsGrownInsisted heap.old.state heap.new.state owner (commands.Store (root_of object)
-        field operands.Nil) result }
+    ensures { IsGrownInsisted heap.old.state heap.new.state owner (commands.Store (root_of
+        object.now) field operands.Nil) result }
 {
     match heap.take(alloc) {
         None => NOT_OPEN,
@@ -84,12 +84,12 @@ pub(crate) fn insist_store_int(
     heap: &mut GrowingPart,
     alloc: Global,
     owner: u32,
-    object: RheapRoot,
+    object: &RheapRoot,
     field: u32,
     number: i64,
 ) -> u8
-    ensures { IsGrownInsisted heap.old.state heap.new.state owner (commands.Store (root_of object)
-        field (operands.Int number)) result }
+    ensures { IsGrownInsisted heap.old.state heap.new.state owner (commands.Store (root_of
+        object.now) field (operands.Int number)) result }
 {
     match heap.take(alloc) {
         None => NOT_OPEN,
@@ -108,12 +108,12 @@ pub(crate) fn insist_store_root(
     heap: &mut GrowingPart,
     alloc: Global,
     owner: u32,
-    object: RheapRoot,
+    object: &RheapRoot,
     field: u32,
-    src: RheapRoot,
+    src: &RheapRoot,
 ) -> u8
-    ensures { IsGrownInsisted heap.old.state heap.new.state owner (commands.Store (root_of object)
-        field (operands.Root (root_of src))) result }
+    ensures { IsGrownInsisted heap.old.state heap.new.state owner (commands.Store (root_of
+        object.now) field (operands.Root (root_of src.now))) result }
 {
     match heap.take(alloc) {
         None => NOT_OPEN,

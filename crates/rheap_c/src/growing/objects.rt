@@ -15,11 +15,11 @@ pub(crate) fn alloc(
     heap: &mut GrowingPart,
     alloc: Global,
     owner: u32,
-    dst: RheapRoot,
+    dst: &RheapRoot,
     fields: u32,
 ) -> u8
-    ensures { IsGrownDone heap.old.state heap.new.state owner (commands.Alloc (root_of dst) fields)
-        result }
+    ensures { IsGrownDone heap.old.state heap.new.state owner (commands.Alloc (root_of dst.now)
+        fields) result }
 {
     match heap.take(alloc) {
         None => NOT_OPEN,
@@ -37,11 +37,11 @@ pub(crate) fn alloc_raw(
     heap: &mut GrowingPart,
     alloc: Global,
     owner: u32,
-    dst: RheapRoot,
+    dst: &RheapRoot,
     fields: u32,
 ) -> u8
-    ensures { IsGrownDone heap.old.state heap.new.state owner (commands.Raw (root_of dst) fields)
-        result }
+    ensures { IsGrownDone heap.old.state heap.new.state owner (commands.Raw (root_of dst.now)
+        fields) result }
 {
     match heap.take(alloc) {
         None => NOT_OPEN,
@@ -59,11 +59,11 @@ pub(crate) fn copy(
     heap: &mut GrowingPart,
     alloc: Global,
     owner: u32,
-    dst: RheapRoot,
-    src: RheapRoot,
+    dst: &RheapRoot,
+    src: &RheapRoot,
 ) -> u8
-    ensures { IsGrownDone heap.old.state heap.new.state owner (commands.Copy (root_of dst) (root_of
-        src)) result }
+    ensures { IsGrownDone heap.old.state heap.new.state owner (commands.Copy (root_of dst.now)
+        (root_of src.now)) result }
 {
     match heap.take(alloc) {
         None => NOT_OPEN,
@@ -77,8 +77,9 @@ pub(crate) fn copy(
 
 /// `rheap_drop`, on a heap that grows.
 #[inline(never)]
-pub(crate) fn drop_root(heap: &mut GrowingPart, alloc: Global, owner: u32, root: RheapRoot) -> u8
-    ensures { IsGrownDone heap.old.state heap.new.state owner (commands.Drop (root_of root)) result }
+pub(crate) fn drop_root(heap: &mut GrowingPart, alloc: Global, owner: u32, root: &RheapRoot) -> u8
+    ensures { IsGrownDone heap.old.state heap.new.state owner (commands.Drop (root_of root.now))
+        result }
 {
     match heap.take(alloc) {
         None => NOT_OPEN,
@@ -96,12 +97,12 @@ pub(crate) fn same(
     heap: &mut GrowingPart,
     alloc: Global,
     owner: u32,
-    a: RheapRoot,
-    b: RheapRoot,
+    a: &RheapRoot,
+    b: &RheapRoot,
     same: &mut u8,
 ) -> u8
-    ensures { IsGrownCompared heap.old.state heap.new.state owner (root_of a) (root_of b) result
-        same.new }
+    ensures { IsGrownCompared heap.old.state heap.new.state owner (root_of a.now) (root_of b.now)
+        result same.new }
 {
     match heap.take(alloc) {
         None => {

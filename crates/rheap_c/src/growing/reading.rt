@@ -15,10 +15,10 @@ use std::alloc::Global;
 pub(crate) fn root(
     heap: &mut GrowingPart,
     alloc: Global,
-    root: RheapRoot,
+    root: &RheapRoot,
     value: &mut RheapValue,
 ) -> u8
-    ensures { OnPaced (λ old new. IsAnswered (λ s. root_answer s (root_of root)) old new result
+    ensures { OnPaced (λ old new. IsAnswered (λ s. root_answer s (root_of root.now)) old new result
         value.new) heap.old.state heap.new.state }
 {
     match heap.take(alloc) {
@@ -40,11 +40,11 @@ pub(crate) fn root(
 pub(crate) fn field(
     heap: &mut GrowingPart,
     alloc: Global,
-    root: RheapRoot,
+    root: &RheapRoot,
     field: u32,
     value: &mut RheapValue,
 ) -> u8
-    ensures { OnPaced (λ old new. IsAnswered (λ s. field_answer s (root_of root) field) old new
+    ensures { OnPaced (λ old new. IsAnswered (λ s. field_answer s (root_of root.now) field) old new
         result value.new) heap.old.state heap.new.state }
 {
     match heap.take(alloc) {
@@ -67,12 +67,12 @@ pub(crate) fn peek(
     heap: &mut GrowingPart,
     alloc: Global,
     owner: u32,
-    src: RheapRoot,
+    src: &RheapRoot,
     field: u32,
     value: &mut RheapValue,
 ) -> u8
-    ensures { OnPaced (λ old new. IsAnswered (λ s. peek_answer s owner (root_of src) field) old new
-        result value.new) heap.old.state heap.new.state }
+    ensures { OnPaced (λ old new. IsAnswered (λ s. peek_answer s owner (root_of src.now) field) old
+        new result value.new) heap.old.state heap.new.state }
 {
     match heap.take(alloc) {
         None => {
@@ -90,9 +90,14 @@ pub(crate) fn peek(
 
 /// `rheap_fields`, on a heap that grows.
 #[inline(never)]
-pub(crate) fn fields(heap: &mut GrowingPart, alloc: Global, root: RheapRoot, fields: &mut u32) -> u8
-    ensures { OnPaced (λ old new. IsCounted (λ s. count_in (root_answer s (root_of root))) old new
-        result fields.new) heap.old.state heap.new.state }
+pub(crate) fn fields(
+    heap: &mut GrowingPart,
+    alloc: Global,
+    root: &RheapRoot,
+    fields: &mut u32,
+) -> u8
+    ensures { OnPaced (λ old new. IsCounted (λ s. count_in (root_answer s (root_of root.now))) old
+        new result fields.new) heap.old.state heap.new.state }
 {
     match heap.take(alloc) {
         None => {

@@ -1,6 +1,6 @@
 //! Laws of heaps that are given other words.
 
-ghost use Rattle.std.specs.Prelude.{◌≡◌, ◌+◌, ◌≤◌, ℕ, false, Option, Some, None};
+ghost use Rattle.std.specs.Prelude.{◌≡◌, ◌+◌, ◌≤◌, ℕ, false, Some, None};
 ghost use Rattle.rh_space.specs.Space.{free_words, used_words};
 ghost use Rattle.rh_pace.specs.InTime.{IsInTime};
 ghost use Rattle.rh_pace.specs.KeptUp.{IsKept};

@@ -1,7 +1,6 @@
 use Rattle.std.proofs.Common.{refl}
 use Rattle.rh_layout.specs.declared.command.Command.TheVariants.{Raw}
-use Rattle.rheap_c.proofs.Lent.{closed-done, lent-done, open-held}
-use Rattle.rheap_c.proofs.SharedSlots.{again-done-as}
+use Rattle.rheap_c.proofs.Lent.{again-done, closed-done, lent-done, open-held}
 use Rattle.rheap_c.proofs.fixed.shared.alloc_raw.Goals as goal
 
 pub returns-then-is_empty : goal.returns-then-is_empty
@@ -14,4 +13,4 @@ pub returns-in-Some : goal.returns-in-Some
 returns-in-Some c = lent-done _ _ _ c.is_empty.ensures.kept c.here.ensures.value _ _ _ _ c.in-Some.ensures.done _ refl _ (λ k. Raw (c.shared.ensures k) c.args.fields)
 
 pub returns-in-None : goal.returns-in-None
-returns-in-None c = again-done-as _ _ _ c.is_empty.ensures.kept c.here.ensures.value _ c.in-None.ensures.nothing _ 0 _ _ (λ k. Raw (c.crossing.ensures k) c.args.fields) _ c.alloc_raw_at_length.ensures
+returns-in-None c = again-done _ _ _ c.is_empty.ensures.kept c.here.ensures.value _ c.in-None.ensures.nothing _ _ _ _ c.alloc_raw_at_length.ensures

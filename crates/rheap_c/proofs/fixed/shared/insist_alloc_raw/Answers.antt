@@ -1,6 +1,5 @@
 use Rattle.rh_layout.specs.declared.command.Command.TheVariants.{Raw}
-use Rattle.rheap_c.proofs.Lent.{closed-insisted, lent-insisted, open-held}
-use Rattle.rheap_c.proofs.SharedSlots.{again-insisted-as}
+use Rattle.rheap_c.proofs.Lent.{again-insisted, closed-insisted, lent-insisted, open-held}
 use Rattle.rheap_c.proofs.fixed.shared.insist_alloc_raw.Goals as goal
 
 pub returns-then-is_empty : goal.returns-then-is_empty
@@ -13,4 +12,4 @@ pub returns-in-Some : goal.returns-in-Some
 returns-in-Some c = lent-insisted _ _ _ c.is_empty.ensures.kept c.here.ensures.value _ _ _ _ c.in-Some.ensures.done _ (λ k. Raw (c.shared.ensures k) c.args.fields)
 
 pub returns-in-None : goal.returns-in-None
-returns-in-None c = again-insisted-as _ _ _ c.is_empty.ensures.kept c.here.ensures.value _ c.in-None.ensures.nothing _ 0 _ _ (λ k. Raw (c.crossing.ensures k) c.args.fields) _ c.insist_alloc_raw_at_length.ensures
+returns-in-None c = again-insisted _ _ _ c.is_empty.ensures.kept c.here.ensures.value _ c.in-None.ensures.nothing _ _ _ _ c.insist_alloc_raw_at_length.ensures

@@ -1,9 +1,10 @@
-use Rattle.std.proofs.Common.{rules, FitsSigned, w64, refl}
+use Rattle.std.proofs.Common.{rules, ℤ, FitsSigned, w64, refl, subst}
 use Rattle.std.proofs.lemmas.Int.{to_z-of_z}
 use Rattle.rh_layout.specs.declared.command.Command.TheVariants.{Store}
 use Rattle.rh_layout.specs.declared.command.Operand.TheVariants.{Int}
-use Rattle.rheap_c.proofs.Lent.{closed-done, lent-done, open-held}
-use Rattle.rheap_c.proofs.SharedSlots.{again-done-as}
+use Rattle.rheap_c.specs.Called.{IsDone}
+use Rattle.rheap_c.specs.Shared.{shared_root}
+use Rattle.rheap_c.proofs.Lent.{again-done, closed-done, lent-done, open-held}
 use Rattle.rheap_c.proofs.fixed.shared.store_int.Goals as goal
 
 pub returns-then-is_empty : goal.returns-then-is_empty
@@ -20,4 +21,5 @@ returns-in-Some c =
 pub returns-in-None : goal.returns-in-None
 returns-in-None c =
     let fits : FitsSigned w64 c.args.number = search rules in
-    again-done-as _ _ _ c.is_empty.ensures.kept c.here.ensures.value _ c.in-None.ensures.nothing _ 0 _ _ (λ k. Store (c.crossing.ensures k) c.args.field (Int (to_z-of_z w64 c.args.number fits k))) _ c.store_int_at_length.ensures
+    subst (λ (n : ℤ). IsDone c.args.heap.now.state c.store_int_at_length.new.heap.state 0 (Store (shared_root c.args.object) c.args.field (Int n)) c.store_int_at_length.result) (to_z-of_z w64 c.args.number fits)
+    (again-done _ _ _ c.is_empty.ensures.kept c.here.ensures.value _ c.in-None.ensures.nothing _ _ _ _ c.store_int_at_length.ensures)

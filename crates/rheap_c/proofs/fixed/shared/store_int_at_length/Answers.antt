@@ -1,0 +1,11 @@
+use Rattle.std.proofs.Common.{rules, FitsSigned, w64}
+use Rattle.std.proofs.lemmas.Int.{to_z-of_z}
+use Rattle.rh_layout.specs.declared.command.Command.TheVariants.{Store}
+use Rattle.rh_layout.specs.declared.command.Operand.TheVariants.{Int}
+use Rattle.rheap_c.proofs.SharedSlots.{shared-done}
+use Rattle.rheap_c.proofs.fixed.shared.store_int_at_length.Goals as goal
+
+pub returns : goal.returns
+returns c =
+    let fits : FitsSigned w64 c.args.number = search rules in
+    shared-done _ _ (λ k. Store (c.crossing.ensures k) c.args.field (Int (to_z-of_z w64 c.args.number fits k))) _ _ _ c.store_int_at_length.ensures

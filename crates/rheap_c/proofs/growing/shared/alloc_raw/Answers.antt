@@ -1,0 +1,6 @@
+use Rattle.rh_layout.specs.declared.command.Command.TheVariants.{Raw}
+use Rattle.rheap_c.proofs.SharedSlots.{shared-grown_done}
+use Rattle.rheap_c.proofs.growing.shared.alloc_raw.Goals as goal
+
+pub returns : goal.returns
+returns c = shared-grown_done _ _ (λ k. Raw (c.crossing.ensures k) c.args.fields) _ _ _ c.alloc_raw.ensures
