@@ -1,0 +1,5 @@
+use Rattle.std.proofs.Common.{rules}
+use Rattle.rh_cycles.proofs.cycles.Cycles.of_kept.Goals as goal
+
+pub returns : goal.returns
+returns c = search rules
