@@ -371,13 +371,12 @@ and prints the same on each heap that is large enough.
 Values      whole numbers from -2^60 to 2^60 - 1, booleans, characters of a byte, symbols, pairs,
             strings, vectors, procedures
 Forms       define lambda if cond case and or when unless let, named let, let* letrec letrec* do
-            begin set! quote quasiquote, which stands in no other
-Numbers     + - * quotient remainder modulo = < <= > >= abs max min zero? positive? negative? even?
-            odd? number? number->string
-Lists       cons car cdr set-car! set-cdr! pair? null? list list? length append reverse list-tail
-            list-ref memq memv member assq assv assoc map for-each apply
-Others      eq? eqv? equal? not boolean? symbol? procedure? integer? call/cc, what reads and makes
-            characters, strings and vectors, display write newline error
+            begin set! quote quasiquote import
+Procedures  of R7RS small those on whole numbers, booleans, pairs and lists, symbols, characters,
+            strings and vectors, but for / and what else may give a fraction, as sqrt; eq? eqv?
+            equal? procedure? apply map for-each call/cc, display write newline write-char
+            write-string write-simple and error. Not string->symbol, nor what makes or takes several
+            values
 
 What differs from R7RS: numbers are whole, and what passes them is an error. Vectors and strings
 have at most 4094 elements. There are no macros, no ports and no dynamic-wind. A continuation that
@@ -422,14 +421,17 @@ functions that one definition gives, or before its first form one in `prelude`. 
 always on a terminal, the line of the program comes after it, carets under the form, and what may
 stand there. So are told
 
-  unbound variable, not a pair, not a number, not a procedure, not a vector, not a string,
-  not a character, wrong number of arguments, too many arguments, out of range, division by zero,
-  overflow, heap exhausted, steps spent, too much output, and the text that `error` was given
+  unbound variable, not a pair, not a list, not a number, not a procedure, not a vector,
+  not a string, not a character, not a symbol, wrong number of arguments, too many arguments,
+  out of range, division by zero, overflow, heap exhausted, steps spent, too much output, and the
+  text that `error` was given
 
 A text that is no program is told in the same way, before anything runs:
 
-  unexpected ), unfinished, misplaced dot, number out of range, no such datum, bad form, not a name,
-  too many globals, too many variables, program too long
+  unexpected ), unfinished, misplaced dot, number out of range, no such number, no such name,
+  no such escape, no such datum, bad form, not a name, too many globals, too many variables,
+  too many elements, program too long, and `guard: not in this Scheme` of a form of R7RS that isn't
+  there
 
 On other failures standard error has one line, as `rheap: open failed`, or `rheap: OUT is ..` where
 OUT is FILE or where standard output or error goes, by another name; of the heap

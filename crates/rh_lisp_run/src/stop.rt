@@ -3,7 +3,7 @@
 ghost use Rattle.std.specs.Prelude.{◌≡◌, ◌↔◌, None, IfSome};
 
 use rh_code::Position;
-use rh_lisp::{Fault, FaultKind, Outcome, Problem, ReadKind, Source, Why};
+use rh_lisp::{Fault, FaultKind, Missing, Outcome, Problem, ReadKind, Source, Why};
 
 /// Why a program stopped, or why a text is none.
 #[derive(Clone, Copy, PartialEq, Eq)]
@@ -85,6 +85,8 @@ fn of_failure(why: Why) -> &'static str {
         Why::Range => "a number is too small or too great here, as an index past the end",
         Why::Zero => "the divisor is 0",
         Why::User => "the program ended by error",
+        Why::List => "a list is due here, as (list 1 2)",
+        Why::Symbol => "a symbol is due here, as 'a",
     }
 }
 
@@ -92,7 +94,7 @@ fn of_failure(why: Why) -> &'static str {
 fn of_problem(problem: Problem) -> &'static str {
     match problem {
         Problem::Exhausted => "what the program reaches has no room: --grow or --heap gives more",
-        Problem::Overflow => "numbers are from -2^60 to 2^60 - 1",
+        Problem::Overflow(_) => "numbers are from -2^60 to 2^60 - 1",
         Problem::Output => "a program puts out 1048576 characters and names at most",
         Problem::Steps => "--steps says how many instructions may be done",
         Problem::Arguments => "a call has some 4090 operands at most",
@@ -118,6 +120,9 @@ fn of_reading(kind: ReadKind) -> &'static str {
 /// What may stand where a text is no program.
 fn of_fault(kind: FaultKind) -> &'static str {
     match kind {
+        FaultKind::Missing(Missing::Import) =>
+            "only (scheme ..) can be imported, by its own names: (import (scheme base))",
+        FaultKind::Missing(_) => "rheap lisp --help has the forms that are there",
         FaultKind::Name => "a name is due here",
         FaultKind::Globals => "names, quoted lists and strings are 4095 at most in all",
         FaultKind::Variables =>
