@@ -4,6 +4,8 @@
 #[cfg(test)]
 mod expectations;
 #[cfg(test)]
+mod procedures;
+#[cfg(test)]
 mod programs;
 #[cfg(test)]
 mod sessions;

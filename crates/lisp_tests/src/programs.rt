@@ -20,13 +20,16 @@ const WRITERS: &[&[u8]] = &[
 
 /// Programs, and what they print: what another Scheme prints.
 const PROGRAMS: &[(&[u8], &[u8])] = &[
-    (b"(display (+ 1 2))", b"3"),
     (
-        b"(write '(1 (2 . 3) \"a\\\"b\\\\c\\n\" #\\a #\\space #t () sym))",
-        b"(1 (2 . 3) \"a\\\"b\\\\c\\n\" #\\a #\\space #t () sym)",
+        b"(display (+ 1 2)) (write (do ((i 0 (+ i 1)) (s 0 (+ s i))) ((= i 5) s))) (write (letrec ((even (lambda (n) (if (= n 0) #t (odd (- n 1))))) (odd (lambda (n) (if (= n 0) #f (even (- n 1)))))) (even 10))) (write (and 1 2)) (write (or #f 3)) (write (not 1)) (when #t (display 'w)) (unless #t (display 'u))",
+        b"310#t23#fw",
     ),
     (
-        b"(define (loop n) (if (= n 0) 'done (loop (- n 1)))) (display (loop 3000))",
+        b"(write '(1 (2 . 3) \"a\\\"b\\\\c\\n\" #\\a #\\space #t () sym)) (write (list (quotient -7 2) (remainder -7 2) (modulo -7 2) (max 3 9 4) (number->string -120)))",
+        b"(1 (2 . 3) \"a\\\"b\\\\c\\n\" #\\a #\\space #t () sym)(-3 -1 1 9 \"-120\")",
+    ),
+    (
+        b"(define (loop n) (if (= n 0) 'done (loop (- n 1)))) (display (loop 1000))",
         b"done",
     ),
     (
@@ -34,8 +37,8 @@ const PROGRAMS: &[(&[u8], &[u8])] = &[
         b"(() (1) (1 2))6",
     ),
     (
-        b"(write (let* ((a 1) (b (+ a 1))) (let loop ((i 0) (l '())) (if (= i b) l (loop (+ i 1) (cons i l))))))",
-        b"(1 0)",
+        b"(write (let* ((a 1) (b (+ a 1))) (let loop ((i 0) (l '())) (if (= i b) l (loop (+ i 1) (cons i l)))))) (write (case 3 ((1 2) 'low) ((3 4) 'high) (else 'none))) (write (cond ((assv 2 '((1 . a) (2 . b)))) (else 0)))",
+        b"(1 0)high(2 . b)",
     ),
     (
         b"(define k #f) (define n 0) (display (+ 1 (call/cc (lambda (c) (set! k c) 1)))) (set! n (+ n 1)) (if (< n 3) (k n))",
@@ -50,40 +53,12 @@ const PROGRAMS: &[(&[u8], &[u8])] = &[
         b"(1 (2 5) quasiquote)(quasiquote 1 2)",
     ),
     (
-        b"(define v (make-vector 3 0)) (vector-set! v 1 'x) (write v) (write (vector-length v)) (write '#(1 (2)))",
-        b"#(0 x 0)3#(1 (2))",
-    ),
-    (
-        b"(write (string-append \"ab\" \"cd\")) (write (string->list \"xy\")) (write (substring \"hello\" 1 3))",
-        b"\"abcd\"(#\\x #\\y)\"el\"",
-    ),
-    (
-        b"(write (do ((i 0 (+ i 1)) (s 0 (+ s i))) ((= i 5) s)))",
-        b"10",
-    ),
-    (
-        b"(write (case 3 ((1 2) 'low) ((3 4) 'high) (else 'none))) (write (cond ((assv 2 '((1 . a) (2 . b)))) (else 0)))",
-        b"high(2 . b)",
+        b"(define v (make-vector 3 0)) (vector-set! v 1 'x) (write v) (write (vector-length v)) (write '#(1 (2))) (write (string-append \"ab\" \"cd\")) (write (string->list \"xy\")) (write (substring \"hello\" 1 3))",
+        b"#(0 x 0)3#(1 (2))\"abcd\"(#\\x #\\y)\"el\"",
     ),
     (
         b"(define (count) (define n 0) (lambda () (set! n (+ n 1)) n)) (define c (count)) (c) (display (c))",
         b"2",
-    ),
-    (
-        b"(write (list (quotient -7 2) (remainder -7 2) (modulo -7 2) (max 3 9 4) (number->string -120)))",
-        b"(-3 -1 1 9 \"-120\")",
-    ),
-    (
-        b"(write (letrec ((even (lambda (n) (if (= n 0) #t (odd (- n 1))))) (odd (lambda (n) (if (= n 0) #f (even (- n 1)))))) (even 10)))",
-        b"#t",
-    ),
-    (
-        b"(write (and 1 2)) (write (or #f 3)) (write (not 1)) (when #t (display 'w)) (unless #t (display 'u))",
-        b"23#fw",
-    ),
-    (
-        b"(write (equal? '(1 #(2) \"x\") (list 1 (vector 2) (string #\\x)))) (write (eq? 'a 'a)) (write (memq 'c '(a b c d)))",
-        b"#t#t(c d)",
     ),
     (
         b"(define (g k) (let ((r (call/cc (lambda (e) (for-each (lambda (x) (if (> x k) (e x))) '(1 5 9)) 'none)))) r)) (write (list (g 3) (g 20)))",
@@ -147,16 +122,12 @@ const PROGRAMS: &[(&[u8], &[u8])] = &[
         b"110",
     ),
     (
-        b"(write (list (char=? #\\a #\\a) (char<? #\\a #\\b #\\b) (make-string 2 #\\z) (string-length (make-string 3))))",
-        b"(#t #f \"zz\" 3)",
+        b"(write (list (char=? #\\a #\\a) (char<? #\\a #\\b #\\b) (make-string 2 #\\z) (string-length (make-string 3)))) (write (list (list? '(1 2)) (list? '(1 . 2)) (let ((c (list 1 2 3))) (set-cdr! (cddr c) c) (list? c))))",
+        b"(#t #f \"zz\" 3)(#t #f #f)",
     ),
     (
-        b"(write (list (list? '(1 2)) (list? '(1 . 2)) (let ((c (list 1 2 3))) (set-cdr! (cddr c) c) (list? c))))",
-        b"(#t #f #f)",
-    ),
-    (
-        b"(write (symbol->string 'abc)) (write (map symbol->string '(a if)))",
-        b"\"abc\"(\"a\" \"if\")",
+        b"(write (symbol->string 'abc)) (write (map symbol->string '(a if))) (write (equal? '(1 #(2) \"x\") (list 1 (vector 2) (string #\\x)))) (write (eq? 'a 'a)) (write (memq 'c '(a b c d)))",
+        b"\"abc\"(\"a\" \"if\")#t#t(c d)",
     ),
     (
         b"(define (when x) (* x 2)) (write (when 21)) (define (f) (define if 3) if) (write (if #t (f) 2))",
@@ -165,6 +136,18 @@ const PROGRAMS: &[(&[u8], &[u8])] = &[
     (
         b"(define quote 5) (write quote) (write (let ((quote -)) '5)) (write (and 1 2 3 (or #f #f 4)))",
         b"5-54",
+    ),
+    (
+        b"(write `#(1 2 unquote (list 3 4))) (define x 5) (write `#(1 unquote x)) (write `(a unquote 1 2))",
+        b"#(1 2 unquote (list 3 4))#(1 unquote x)(a unquote 1 2)",
+    ),
+    (
+        b"(define c (list 1 2)) (set-cdr! (cdr c) c) (display (car `(0 ,@c)))",
+        b"0",
+    ),
+    (
+        b"(write `(1 `(2 ,(3 ,(+ 1 3))))) (write `(1 `,@(2 ,@(list 1 2)))) (write `#(1 `(,2 ,,(+ 1 2))))",
+        b"(1 (quasiquote (2 (unquote (3 4)))))(1 (quasiquote (unquote-splicing (2 1 2))))#(1 (quasiquote ((unquote 2) (unquote 3))))",
     ),
     // A function that a name has for good is called directly, and no other is.
     (
@@ -181,12 +164,8 @@ const PROGRAMS: &[(&[u8], &[u8])] = &[
         b"1",
     ),
     (
-        b"(define (f x) (list (<= 3 x) (>= 3 x) (< 3 x) (> 3 x))) (display (map f '(2 3 4)))",
-        b"((#f #t #f #t) (#t #t #f #f) (#t #f #t #f))",
-    ),
-    (
-        b"(define (f x) (list (<= x 3) (>= x 3) (< x 3) (> x 3))) (display (map f '(2 3 4)))",
-        b"((#t #f #t #f) (#t #t #f #f) (#f #t #f #t))",
+        b"(define (f x) (list (<= 3 x) (>= 3 x) (< 3 x) (> 3 x))) (display (map f '(2 3 4))) (define (g x) (list (<= x 3) (>= x 3) (< x 3) (> x 3))) (display (map g '(2 3 4)))",
+        b"((#f #t #f #t) (#t #t #f #f) (#t #f #t #f))((#t #f #t #f) (#t #t #f #f) (#f #t #f #t))",
     ),
     (
         b"(define (f) 1) (display (f)) (define (f) 2) (display (f))",
@@ -211,6 +190,44 @@ const PROGRAMS: &[(&[u8], &[u8])] = &[
     ),
 ];
 
+/// Programs that make many more objects than the heap of one size has words, and what they print.
+const COLLECTED: &[(&[u8], &[u8])] = &[
+    (
+        b"(define (loop n) (if (= n 0) 'done (loop (- n 1)))) (display (loop 1500))",
+        b"done",
+    ),
+    // Deep calls, again and again.
+    (
+        b"(define (sum n) (if (= n 0) 0 (+ n (sum (- n 1))))) (define (again n s) (if (= n 0) s (again (- n 1) (+ s (sum 60))))) (write (again 20 0))",
+        b"36600",
+    ),
+    // Pairs that live, whose parts change.
+    (
+        b"(define l (list 1 2 3)) (define (turn n) (if (< 0 n) (begin (set-cdr! (cddr l) (list n)) (set! l (cdr l)) (turn (- n 1))))) (turn 300) (write l)",
+        b"(3 2 1)",
+    ),
+    // Closures, and what they set.
+    (
+        b"(define (count) (let ((n 0)) (lambda () (set! n (+ n 1)) n))) (define kept (count)) (define (next n) (if (= n 0) (kept) (begin (kept) ((count)) (next (- n 1))))) (write (next 150))",
+        b"151",
+    ),
+    // A continuation that is entered again and again.
+    (
+        b"(define k #f) (define n 0) (define (go) (let ((s (+ 1 (call/cc (lambda (c) (set! k c) 1))))) (set! n (+ n 1)) (if (< n 150) (k (car (list n n n n n n n n))) (list n s)))) (write (go))",
+        b"(150 150)",
+    ),
+    // Vectors and strings.
+    (
+        b"(define v (vector 0 \"\")) (define (fill n) (if (< 0 n) (begin (vector-set! v 0 (vector n n n n n)) (vector-set! v 1 (string #\\a #\\b)) (fill (- n 1))))) (fill 40) (write v)",
+        b"#(#(1 1 1 1 1) \"ab\")",
+    ),
+    // Lists of lists.
+    (
+        b"(define (twice l) `(,@(map (lambda (x) (* 2 x)) l) . end)) (define (next n l) (if (= n 0) l (next (- n 1) (twice '(1 2 3 4))))) (write (next 60 '()))",
+        b"(2 4 6 8 . end)",
+    ),
+];
+
 /// Programs that stop, and their messages.
 const STOPS: &[(&[u8], &[u8])] = &[
     (b"(car 5)", b"p:1:1: car: not a pair"),
@@ -230,7 +247,7 @@ const STOPS: &[(&[u8], &[u8])] = &[
     ),
     (b"(+ 1 'a)", b"p:1:1: +: not a number"),
     (b"(quotient 7 0)", b"p:1:1: quotient: division by zero"),
-    (b"(* 1073741824 1073741824)", b"p:1:1: overflow"),
+    (b"(* 1073741824 1073741824)", b"p:1:1: *: overflow"),
     (
         b"(vector-ref (vector 1 2) 2)",
         b"p:1:1: vector-ref: out of range",
@@ -247,7 +264,7 @@ const STOPS: &[(&[u8], &[u8])] = &[
     ),
     (b"(\"no procedure\" 1)", b"p:1:1: not a procedure"),
     (b"(make-vector -1 0)", b"p:1:1: make-vector: out of range"),
-    (b"(apply + 5)", b"p:1:1: apply: not a pair"),
+    (b"(apply + 5)", b"p:1:1: apply: not a list"),
     (
         b"(define c (list 1 2)) (set-cdr! (cdr c) c) (length c)",
         b"p:1:44: steps spent",
@@ -262,13 +279,13 @@ const STOPS: &[(&[u8], &[u8])] = &[
         b"(define (f . l) (define a b) (define b 1) a) (display (f 1 2 3))",
         b"p:1:27: b: unbound variable",
     ),
-    (b"(for-each display 5)", b"p:1:1: car: not a pair"),
-    (b"(list-tail '(1 2) 3)", b"p:1:1: cdr: not a pair"),
+    (b"(for-each display 5)", b"p:1:1: for-each: not a list"),
+    (b"(list-tail '(1 2) 3)", b"p:1:1: list-tail: out of range"),
     (
         b"(define (f x) (error \"bad:\" x 'y)) (display (f 1))",
         b"p:1:15: bad: 1 y",
     ),
-    (b"(+ 1 1152921504606846975 0)", b"p:1:1: overflow"),
+    (b"(+ 1 1152921504606846975 0)", b"p:1:1: +: overflow"),
     (
         b"(string-ref \"abc\" 3)",
         b"p:1:1: string-ref: out of range",
@@ -281,9 +298,73 @@ const STOPS: &[(&[u8], &[u8])] = &[
         b"(vector-ref (vector 1 2) -1)",
         b"p:1:1: vector-ref: out of range",
     ),
+    // What fails in a procedure of the language is told as that.
+    (b"(length 5)", b"p:1:1: length: not a list"),
+    (
+        b"(symbol->string 5)",
+        b"p:1:1: symbol->string: not a symbol",
+    ),
+    (b"(map car 5)", b"p:1:1: map: not a list"),
+    (b"(map car '(5))", b"p:1:1: car: not a pair"),
+    (b"(append 1 2)", b"p:1:1: append: not a list"),
+    (b"(string=? 'a \"b\")", b"p:1:1: string=?: not a string"),
+    (
+        b"(string-ci=? \"a\" 5)",
+        b"p:1:1: string-ci=?: not a string",
+    ),
+    (b"(expt 2 100)", b"p:1:1: expt: overflow"),
+    // The prelude has a difference at 1:29.
+    (
+        b"(abs 1)                     (+ 1152921504606846975 1)",
+        b"p:1:29: +: overflow",
+    ),
+    (
+        b"(map string-upcase '(5))",
+        b"p:1:1: string-upcase: not a string",
+    ),
+    (
+        b"(map symbol->string '(5))",
+        b"p:1:1: symbol->string: not a symbol",
+    ),
+    (
+        b"(map number->string '(a))",
+        b"p:1:1: number->string: not a number",
+    ),
+    (
+        b"(apply string-append '(1))",
+        b"p:1:1: string-append: not a string",
+    ),
+    (
+        b"(string-map (lambda (c) (digit-value c)) \"12\")",
+        b"p:1:25: string-map: not a character",
+    ),
+    (
+        b"(map (lambda (a b) (list a b)) '(1 2 . 3) '(4 5 6))",
+        b"p:1:20: map: not a list",
+    ),
+    (
+        b"((if #t list-tail car) '(1) 5)",
+        b"p:1:1: list-tail: out of range",
+    ),
+    // Of what fails in a part that procedures share, the name is that of the last call, if it has
+    // one.
+    (b"(map string=? '(a) '(\"a\"))", b"p:1:1: map: not a string"),
+    (b"((if #t substring car) \"abc\" 4)", b"p:1:1: out of range"),
+    (
+        b"(map abs '(-1152921504606846976))",
+        b"p:1:1: map: overflow",
+    ),
+    (
+        b"(write-string \"abc\" 4)",
+        b"p:1:1: write-string: out of range",
+    ),
     (
         b"(substring \"abc\" 2 1)",
         b"p:1:1: substring: out of range",
+    ),
+    (
+        b"(substring \"abc\" 0 1 2)",
+        b"p:1:1: wrong number of arguments",
     ),
     (
         b"(letrec ((a (lambda () b)) (b (a))) b)",
@@ -319,8 +400,73 @@ const FAULTS: &[(&[u8], &[u8])] = &[
     (b"(1 #;)", b"1:6: unexpected )"),
     (b"(cond (1 2) . 3)", b"1:1: bad form"),
     (b"(if)", b"1:1: bad form"),
-    (b"1 `(2 `(3 ,4))", b"1:3: bad form"),
-    (b"`#(1 `2)", b"1:1: bad form"),
+    (b"(lambda (x x) x)", b"1:1: bad form"),
+    (b"(lambda (x . x) x)", b"1:1: bad form"),
+    (b"(let ((x 1) (x 2)) x)", b"1:1: bad form"),
+    (b"(letrec ((x 1) (x 2)) x)", b"1:1: bad form"),
+    (b"(do ((x 1) (x 2)) (#t x))", b"1:1: bad form"),
+    (b"(cond (else))", b"1:1: bad form"),
+    (b"(cond (else 1) (#t 2))", b"1:1: bad form"),
+    (b"(case 1 ((1)))", b"1:1: bad form"),
+    (b"(list 1 ())", b"1:9: bad form"),
+    (b"(import (srfi 1))", b"1:1: import: not in this Scheme"),
+    (
+        b"(import (only (srfi 1) x))",
+        b"1:1: import: not in this Scheme",
+    ),
+    (
+        b"(import (prefix (scheme base) s:))",
+        b"1:1: import: not in this Scheme",
+    ),
+    (
+        b"(import (rename (scheme base) (car head)))",
+        b"1:1: import: not in this Scheme",
+    ),
+    (
+        b"1 (let-values (((a b) (f))) a)",
+        b"1:3: let-values: not in this Scheme",
+    ),
+    (
+        b"(define-syntax a (syntax-rules ()))",
+        b"1:1: define-syntax: not in this Scheme",
+    ),
+    (b"(guard (e (#t 1)) 2)", b"1:1: guard: not in this Scheme"),
+    (b"(let-syntax a)", b"1:1: let-syntax: not in this Scheme"),
+    (
+        b"(letrec-syntax a)",
+        b"1:1: letrec-syntax: not in this Scheme",
+    ),
+    (
+        b"(syntax-rules a)",
+        b"1:1: syntax-rules: not in this Scheme",
+    ),
+    (
+        b"(syntax-error a)",
+        b"1:1: syntax-error: not in this Scheme",
+    ),
+    (b"(let*-values a)", b"1:1: let*-values: not in this Scheme"),
+    (
+        b"(define-values a)",
+        b"1:1: define-values: not in this Scheme",
+    ),
+    (
+        b"(define-record-type a)",
+        b"1:1: define-record-type: not in this Scheme",
+    ),
+    (
+        b"(parameterize a)",
+        b"1:1: parameterize: not in this Scheme",
+    ),
+    (b"(delay a)", b"1:1: delay: not in this Scheme"),
+    (b"(delay-force a)", b"1:1: delay-force: not in this Scheme"),
+    (b"(case-lambda a)", b"1:1: case-lambda: not in this Scheme"),
+    (b"(include a)", b"1:1: include: not in this Scheme"),
+    (b"(include-ci a)", b"1:1: include-ci: not in this Scheme"),
+    (b"(cond-expand a)", b"1:1: cond-expand: not in this Scheme"),
+    (
+        b"(define-library a)",
+        b"1:1: define-library: not in this Scheme",
+    ),
     (b"(quote 1 2)", b"1:1: bad form"),
     (b"(define x 1 2)", b"1:1: bad form"),
     (b"(display (let ((x)) x))", b"1:10: bad form"),
@@ -328,9 +474,10 @@ const FAULTS: &[(&[u8], &[u8])] = &[
     (b"(lambda (x 1) x)", b"1:1: not a name"),
 ];
 
-/// About twice what lives in a program here.
+/// About twice what lives in a program here, and little more than the 2,669 words that a heap of
+/// `rheap lisp` has at least.
 const SIZES: Sizes = Sizes {
-    words: 10_000,
+    words: 3_000,
     biggest: 400,
     ratio: 32,
     owners: 2,
@@ -364,7 +511,7 @@ fn run_paced<A: Allocator + Copy>(program: &mut Program<A>, heap: &mut PacedHeap
 
 /// Runs a program on a new heap that grows.
 fn outcome_of<R: AllocGlobal + Abort>(rt: &R, program: &mut Program<Global>) -> Outcome {
-    let mut heap = growing_heap(rt, 20_000);
+    let mut heap = growing_heap(rt, 10_000);
     run_growing(program, &mut heap)
 }
 
@@ -390,7 +537,7 @@ pub fn expect_output<R: AllocGlobal + Abort>(rt: &R, program: &Program<Global>, 
 }
 
 /// Ends the test unless a program that ended so has this message.
-fn expect_message<R: AllocGlobal + Abort>(
+pub fn expect_message<R: AllocGlobal + Abort>(
     rt: &R,
     program: &Program<Global>,
     outcome: Outcome,
@@ -435,7 +582,7 @@ fn made<A: Allocator + Copy>(
 
 /// The program that a text is.
 fn program_of<R: AllocGlobal + Abort>(rt: &R, text: &[u8]) -> Program<Global> {
-    let program = made(rt.alloc(), text, 1_000, 400_000).ok();
+    let program = made(rt.alloc(), text, 1_000, 100_000).ok();
     program.expect(rt, "a program")
 }
 
@@ -453,20 +600,15 @@ fn fault_of<A: Allocator + Copy>(alloc: A, text: &[u8], most: u32, steps: u64) -
 }
 
 /// Runs each of these programs, and ends the test unless it prints what stands beside it.
-fn expect_runs<R: AllocGlobal + Abort>(rt: &R, programs: &[(&[u8], &[u8])]) {
+pub fn expect_runs<R: AllocGlobal + Abort>(rt: &R, programs: &[(&[u8], &[u8])]) {
     for (row, &(text, output)) in programs.iter().enumerate() {
         expect_run(&Row { rt, row }, text, Some(output), b"");
     }
 }
 
-/// The programs. Their table is named here alone, since a proof writes it out wherever it is named.
-fn programs() -> &'static [(&'static [u8], &'static [u8])] {
-    PROGRAMS
-}
-
 #[test]
 fn programs_print_what_another_scheme_prints(rt: HostRuntime) {
-    expect_runs(&rt, programs());
+    expect_runs(&rt, PROGRAMS);
 }
 
 #[test]
@@ -476,20 +618,17 @@ fn a_datum_of_each_kind_is_written_as_its_text(rt: HostRuntime) {
     }
 }
 
-/// The same on heaps of one size. Answers how often they collected.
-fn expect_runs_on_paced<R: AllocGlobal + Abort>(rt: &R, programs: &[(&[u8], &[u8])]) -> u64 {
-    let mut collected = 0u64;
+/// The same on heaps of one size, each of which has to collect twice.
+fn expect_runs_on_paced<R: AllocGlobal + Abort>(rt: &R, programs: &[(&[u8], &[u8])]) {
     for (row, &(text, output)) in programs.iter().enumerate() {
         let flips = expect_run_on_paced(&Row { rt, row }, text, output);
-        collected = collected.saturating_add(flips);
+        assert!(rt; 1 < flips, "row {row}: {flips} collections");
     }
-    collected
 }
 
 #[test]
 fn programs_print_the_same_where_the_heap_keeps_its_size(rt: HostRuntime) {
-    let collected = expect_runs_on_paced(&rt, programs());
-    assert!(rt; 0 < collected, "no heap collected");
+    expect_runs_on_paced(&rt, COLLECTED);
 }
 
 /// Runs each of these programs, and ends the test unless it has the message beside it.
@@ -572,5 +711,5 @@ fn allocations_are_refused_further_and_further_on(rt: HostRuntime) {
         }
         nth = nth.saturating_add(1 + nth / 16);
     }
-    assert!(rt; 1_000 < nth, "{nth} allocations");
+    assert!(rt; 200 < nth, "{nth} allocations");
 }

@@ -1,7 +1,7 @@
 //! Sessions: entries that are played one after the other on one heap.
 
 use crate::expectations::{Row, expect_bytes};
-use crate::programs::{expect_fault, expect_output, growing_heap, run_growing};
+use crate::programs::{expect_fault, expect_message, expect_output, growing_heap, run_growing};
 use refusing::RefusingAllocator;
 use rh_growing::GrowingHeap;
 use rh_lisp::{Fault, Program, Session, Typed};
@@ -25,15 +25,43 @@ const ENTRIES: &[(&[u8], &[u8])] = &[
     ),
     (b"(k 6)", b"7\n"),
     (b"(define (append a b) 'mine) (append 1 2)", b"mine\n"),
-    (b"(string-append \"a\" \"b\")", b"\"ab\"\n"),
-    (b"(define early 'early)", b""),
+    (
+        b"(define early 'early) (string-append \"a\" \"b\")",
+        b"\"ab\"\n",
+    ),
     (b"(symbol->string early)", b"\"early\"\n"),
-    (b"(define (name s) (symbol->string s))", b""),
+    (
+        b"(define (name s) (symbol->string s)) (define q '(1)) (define (p) '(2)) (define r (p))",
+        b"",
+    ),
     (b"(name 'late) (name early)", b"\"late\"\n\"early\"\n"),
-    (b"(define q '(1)) (define (p) '(2)) (define r (p))", b""),
     (b"'(3) (eq? r (p))", b"(3)\n#t\n"),
     (b"; nothing", b""),
     (b"(define (%tell x) 'mine) (g '7)", b"14\n"),
+];
+
+/// Entries that need what those before them made, wherever its code stands, and what each prints.
+const KEPT: &[(&[u8], &[u8])] = &[
+    (b"(define (f x) (* x 2)) (define (g x) (f x))", b""),
+    (
+        b"(define k #f) (+ 1 (call/cc (lambda (c) (set! k c) 1)))",
+        b"2\n",
+    ),
+    (b"(k 6)", b"7\n"),
+    (
+        b"(define (f x) (* x 3)) (define (p) '(2)) (define r (p))",
+        b"",
+    ),
+    (b"(list (eq? r (p)) (f 5) (g 5))", b"(#t 15 15)\n"),
+];
+
+/// Entries that each begin at 1:1, and the message of each.
+const TOLD: &[(&[u8], &[u8])] = &[
+    (b"(define (f x) (* x x))", b""),
+    (b"(f 1152921504606846975)", b"p:1:15: *: overflow"),
+    (b"(define (g x) (- x 1))", b""),
+    // It may be in f or in g now.
+    (b"(f 1152921504606846975)", b"p:1:15: overflow"),
 ];
 
 /// Texts, and what a session takes each for.
@@ -146,23 +174,48 @@ fn expect_each<R: AllocGlobal + Abort>(
     }
 }
 
-/// Ends the test unless each entry of a new session prints what is due. All programs are taken
-/// back, or each second one.
-fn expect_entries<R: AllocGlobal + Abort>(rt: &R, takes_all: bool) {
+/// Ends the test unless each of these entries of a new session prints what is due. All programs are
+/// taken back, or each second one.
+fn expect_entries<R: AllocGlobal + Abort>(rt: &R, entries: &[(&[u8], &[u8])], takes_all: bool) {
     let mut session = Session::new(rt.alloc());
     let mut heap = growing_heap(rt, 40_000);
     run_language(rt, &session, &mut heap);
-    expect_each(rt, &mut session, &mut heap, ENTRIES, takes_all);
+    expect_each(rt, &mut session, &mut heap, entries, takes_all);
 }
 
 #[test]
 fn entries_know_what_those_before_them_defined(rt: HostRuntime) {
-    expect_entries(&rt, true);
+    expect_entries(&rt, ENTRIES, true);
 }
 
 #[test]
 fn programs_need_not_be_taken_back(rt: HostRuntime) {
-    expect_entries(&rt, false);
+    expect_entries(&rt, KEPT, false);
+}
+
+/// Ends the test unless an entry ends with this message.
+fn expect_told<R: AllocGlobal + Abort>(
+    rt: &R,
+    session: &mut Session<Global>,
+    heap: &mut GrowingHeap<Global>,
+    (text, due): (&[u8], &[u8]),
+) {
+    let text = text.to_vec(rt.alloc()).expect(rt, "memory is ample");
+    let program = entry_of(session, text, 1_000).ok();
+    let mut program = program.expect(rt, "a program");
+    let outcome = run_growing(&mut program, heap);
+    expect_message(rt, &program, outcome, due);
+    session.take_back(program);
+}
+
+#[test]
+fn an_overflow_is_named_where_one_entry_alone_may_have_it(rt: HostRuntime) {
+    let mut session = Session::new(rt.alloc());
+    let mut heap = growing_heap(&rt, 40_000);
+    run_language(&rt, &session, &mut heap);
+    for (row, &entry) in TOLD.iter().enumerate() {
+        expect_told(&Row { rt: &rt, row }, &mut session, &mut heap, entry);
+    }
 }
 
 /// Ends the test unless the last entry is the one after a program that is taken back late.

@@ -331,7 +331,7 @@ fn allocations_of_a_program_are_refused_further_and_further_on(rt: HostRuntime) 
         }
         nth = nth.saturating_add(1 + nth / 16);
     }
-    assert!(rt; 1_000 < nth, "{nth} allocations");
+    assert!(rt; 600 < nth, "{nth} allocations");
 }
 
 /// The words of a session, what is typed, its status, what it prints, and what is told.
@@ -339,12 +339,11 @@ const SESSIONS: &[(&[&[u8]], &[u8], u8, &[u8], &[u8])] = &[
     (&[b"rheap", b"lisp"], b"", 0, b"", b""),
     (
         &[b"rheap", b"lisp"],
-        b"(define (f x) (* x x))\n(f 12) \"a\"\n",
+        b"(define (f x) (* x x))\n(f 12) \"a\"\n(+ 1\n 2)",
         0,
-        b"144\n\"a\"\n",
+        b"144\n\"a\"\n3\n",
         b"",
     ),
-    (&[b"rheap", b"lisp"], b"(+ 1\n 2)", 0, b"3\n", b""),
     // A program of standard input is no session: it writes what it displays alone.
     (
         &[b"rheap", b"lisp", b"-"],
@@ -361,13 +360,19 @@ const SESSIONS: &[(&[&[u8]], &[u8], u8, &[u8], &[u8])] = &[
         b"1\n2\n0\n",
         b"",
     ),
-    // An error leaves what was set and the session.
+];
+
+/// The same of sessions that go on after an error, or after a text that is no program.
+const STOPPED: &[(&[&[u8]], &[u8], u8, &[u8], &[u8])] = &[
+    // An error leaves what was set and the session. What fails in an earlier entry is told with its
+    // name.
     (
         &[b"rheap", b"lisp"],
-        b"(define x 1)\n(begin (set! x 2) (display \"a\") (car 5))\nx\n",
+        b"(define x 1)\n(begin (set! x 2) (display \"a\") (car 5))\nx\n\
+            (define (f x) (* x x))\n(define (g x) (- x 1))\n(f 1152921504606846975)\n",
         0,
         b"a2\n",
-        b"-:2:33: car: not a pair\n",
+        b"-:2:33: car: not a pair\n-:4:15: *: overflow\n",
     ),
     // Where an entry before stops no form is shown, since its text isn't kept.
     (
@@ -385,20 +390,18 @@ const SESSIONS: &[(&[&[u8]], &[u8], u8, &[u8], &[u8])] = &[
         b"4\n",
         b"-:1:14: bad form\n-:2:1: x: unbound variable\n-:3:1: unexpected )\n",
     ),
-    // A name of the language is the session's own from there on.
+];
+
+/// The same of names and continuations that a session keeps, and of sessions that are cut short.
+const NAMED: &[(&[&[u8]], &[u8], u8, &[u8], &[u8])] = &[
+    // A name of the language is the session's own from there on. A continuation of an earlier entry
+    // goes on behind the one that enters it.
     (
         &[b"rheap", b"lisp"],
-        b"(define (m) (car '(1 2)))\n(define (car l) 5)\n(car 4) (m)\n",
+        b"(define (m) (car '(1 2)))\n(define (car l) 5)\n(car 4) (m)\n\
+            (define k #f)\n(+ 1 (call/cc (lambda (c) (set! k c) 1)))\n(k 10)\n3\n",
         0,
-        b"5\n1\n",
-        b"",
-    ),
-    // A continuation of an earlier entry goes on behind the one that enters it.
-    (
-        &[b"rheap", b"lisp"],
-        b"(define k #f)\n(+ 1 (call/cc (lambda (c) (set! k c) 1)))\n(k 10)\n3\n",
-        0,
-        b"2\n11\n3\n",
+        b"5\n1\n2\n11\n3\n",
         b"",
     ),
     (
@@ -415,6 +418,10 @@ const SESSIONS: &[(&[&[u8]], &[u8], u8, &[u8], &[u8])] = &[
         b"1\n2\n",
         b"-:2:14: steps spent\n",
     ),
+];
+
+/// The same where the heap has too few words, or is filled.
+const FULL: &[(&[&[u8]], &[u8], u8, &[u8], &[u8])] = &[
     (
         &[b"rheap", b"lisp", b"--heap=100"],
         b"1\n",
@@ -485,6 +492,21 @@ fn sessions_print_and_tell_as_their_rows_say(rt: HostRuntime) {
 }
 
 #[test]
+fn sessions_go_on_after_what_stops(rt: HostRuntime) {
+    expect_sessions(&rt, &rt, STOPPED);
+}
+
+#[test]
+fn sessions_keep_names_and_continuations(rt: HostRuntime) {
+    expect_sessions(&rt, &rt, NAMED);
+}
+
+#[test]
+fn sessions_whose_heaps_are_full(rt: HostRuntime) {
+    expect_sessions(&rt, &rt, FULL);
+}
+
+#[test]
 fn a_session_at_a_terminal_shows_its_prompts(rt: HostRuntime) {
     let session: (&[&[u8]], &[u8], u8, &[u8], &[u8]) = (
         &[b"rheap", b"lisp"],
@@ -552,22 +574,21 @@ where
     memory.asked()
 }
 
-/// Entries, 20 and 40 of them.
-const TWENTY: &[u8] = b"1\n1\n1\n1\n1\n1\n1\n1\n1\n1\n1\n1\n1\n1\n1\n1\n1\n1\n1\n1\n";
+/// Entries, 5 and 10 of them.
+const FIVE: &[u8] = b"1\n1\n1\n1\n1\n";
 
-const FORTY: &[u8] = b"1\n1\n1\n1\n1\n1\n1\n1\n1\n1\n1\n1\n1\n1\n1\n1\n1\n1\n1\n1\n\
-    1\n1\n1\n1\n1\n1\n1\n1\n1\n1\n1\n1\n1\n1\n1\n1\n1\n1\n1\n1\n";
+const TEN: &[u8] = b"1\n1\n1\n1\n1\n1\n1\n1\n1\n1\n";
 
 /// The code of entries is kept: what is compiled once isn't compiled for a later entry.
 #[test]
 fn an_entry_asks_for_no_code_of_those_before_it(rt: HostRuntime) {
-    let language = asked_in_session(&rt, b"");
-    let twenty = asked_in_session(&rt, TWENTY);
-    let forty = asked_in_session(&rt, FORTY);
-    // Each of the last 20 would ask for at least as many as the language.
+    let five = asked_in_session(&rt, FIVE);
+    let ten = asked_in_session(&rt, TEN);
+    // If each entry compiled the language anew, the first session would do so 6 times, and the other
+    // one 11 times.
     assert!(rt;
-        forty < twenty.saturating_add(language),
-        "{language}, {twenty} and {forty} allocations"
+        ten < five.saturating_add(five / 2),
+        "{five} and {ten} allocations"
     );
 }
 
@@ -607,7 +628,7 @@ fn allocations_of_a_session_are_refused_further_and_further_on(rt: HostRuntime) 
         if !is_refused_in_session(&rt, (ENTRIES, b"123\n"), nth) {
             break;
         }
-        nth = nth.saturating_add(1 + nth / 4);
+        nth = nth.saturating_add(1 + nth / 2);
     }
     assert!(rt; 1_000 < nth, "{nth} allocations");
 }
