@@ -19,6 +19,7 @@ pub mod Watching
 pub mod RootRows
 pub mod ValueRows
 pub mod Shared
+pub mod RootWord
 pub mod Handle
 pub mod Grown
 pub mod GrownOpened

@@ -1,9 +1,9 @@
 //! The calls as a program in C makes them: on a heap of fixed sizes, or on one that grows.
 //!
 //! A root comes in one register. In the calls on one root or one field (objects, fields, reading,
-//! insisting) the function that a branch calls takes it by reference, as `&{ root }`: the copy is
-//! made in that branch. By value, its owner and its slot would be separated before the branch, and a
-//! call that is done in a few instructions would pay for that.
+//! insisting) the function that a branch calls takes it as one word, as `RootWord::of(root)`. As an
+//! owner and a slot it would be taken apart before the branch, and a call that is done in a few
+//! instructions would pay for that.
 
 pub mod collecting;
 pub mod fields;

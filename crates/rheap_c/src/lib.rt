@@ -23,6 +23,7 @@ pub mod laws;
 mod numbers;
 mod open_fault;
 mod parted;
+mod root_word;
 mod status;
 mod value;
 mod views;

@@ -1,7 +1,6 @@
 //! Roots and values as they cross to C.
 
 ghost use Rattle.std.specs.Prelude.{◌≡◌};
-ghost use Rattle.rheap_c.specs.Shared.{shared_root};
 ghost use Rattle.rheap_c.specs.Told.{no_value, root_of, same_told, told_value, value_of_reply};
 
 use rh_layout::{Refusal, Reply, RootId};
@@ -112,12 +111,4 @@ pub(crate) fn sameness(told: &Result<Reply, Refusal>) -> u8
         Ok(Reply::Same(true)) => 1,
         _ => 0,
     }
-}
-
-/// The root in a slot of owner 0, as C names it.
-#[inline(always)]
-pub(crate) fn crossing(slot: u32) -> RheapRoot
-    ensures { root_of result ≡ shared_root slot }
-{
-    RheapRoot { owner: 0, slot }
 }

@@ -11,6 +11,7 @@ ghost use Rattle.rheap_c.specs.Grown.{IsGrownDone, IsGrownLoaded};
 ghost use Rattle.rheap_c.specs.Handle.{Calls};
 
 use crate::handle::Rheap;
+use crate::root_word::RootWord;
 use crate::value::{RheapRoot, RheapValue};
 use crate::{fixed, growing};
 use std::alloc::Global;
@@ -37,8 +38,8 @@ pub extern "C" fn rheap_load(
             &mut heap.growing,
             alloc,
             owner,
-            &{ dst },
-            &{ src },
+            RootWord::of(dst),
+            RootWord::of(src),
             field,
             value,
         );
@@ -66,8 +67,8 @@ pub extern "C" fn rheap_load_untold(
             &mut heap.growing,
             alloc,
             owner,
-            &{ dst },
-            &{ src },
+            RootWord::of(dst),
+            RootWord::of(src),
             field,
         );
     }
@@ -89,7 +90,13 @@ pub extern "C" fn rheap_store_nil(
         result) heap.old heap.new }
 {
     if heap.fixed.is_empty() {
-        return growing::fields::store_nil(&mut heap.growing, alloc, owner, &{ object }, field);
+        return growing::fields::store_nil(
+            &mut heap.growing,
+            alloc,
+            owner,
+            RootWord::of(object),
+            field,
+        );
     }
     fixed::fields::store_nil(&mut heap.fixed, alloc, owner, object, field)
 }
@@ -115,7 +122,7 @@ pub extern "C" fn rheap_store_int(
             &mut heap.growing,
             alloc,
             owner,
-            &{ object },
+            RootWord::of(object),
             field,
             number,
         );
@@ -144,9 +151,9 @@ pub extern "C" fn rheap_store_root(
             &mut heap.growing,
             alloc,
             owner,
-            &{ object },
+            RootWord::of(object),
             field,
-            &{ src },
+            RootWord::of(src),
         );
     }
     fixed::fields::store_root(&mut heap.fixed, alloc, owner, object, field, src)

@@ -11,6 +11,7 @@ ghost use Rattle.rheap_c.specs.Grown.{IsGrownInsisted};
 ghost use Rattle.rheap_c.specs.Handle.{Calls};
 
 use crate::handle::Rheap;
+use crate::root_word::RootWord;
 use crate::value::RheapRoot;
 use crate::{fixed, growing};
 use std::alloc::Global;
@@ -31,7 +32,13 @@ pub extern "C" fn rheap_insist_alloc(
         heap.old heap.new }
 {
     if heap.fixed.is_empty() {
-        return growing::insisting::insist_alloc(&mut heap.growing, alloc, owner, &{ dst }, fields);
+        return growing::insisting::insist_alloc(
+            &mut heap.growing,
+            alloc,
+            owner,
+            RootWord::of(dst),
+            fields,
+        );
     }
     fixed::insisting::insist_alloc(&mut heap.fixed, alloc, owner, dst, fields)
 }
@@ -55,7 +62,7 @@ pub extern "C" fn rheap_insist_alloc_raw(
             &mut heap.growing,
             alloc,
             owner,
-            &{ dst },
+            RootWord::of(dst),
             fields,
         );
     }
@@ -82,7 +89,7 @@ pub extern "C" fn rheap_insist_store_nil(
             &mut heap.growing,
             alloc,
             owner,
-            &{ object },
+            RootWord::of(object),
             field,
         );
     }
@@ -110,7 +117,7 @@ pub extern "C" fn rheap_insist_store_int(
             &mut heap.growing,
             alloc,
             owner,
-            &{ object },
+            RootWord::of(object),
             field,
             number,
         );
@@ -139,9 +146,9 @@ pub extern "C" fn rheap_insist_store_root(
             &mut heap.growing,
             alloc,
             owner,
-            &{ object },
+            RootWord::of(object),
             field,
-            &{ src },
+            RootWord::of(src),
         );
     }
     fixed::insisting::insist_store_root(&mut heap.fixed, alloc, owner, object, field, src)

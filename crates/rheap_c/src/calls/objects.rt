@@ -11,6 +11,7 @@ ghost use Rattle.rheap_c.specs.Grown.{IsGrownCompared, IsGrownDone};
 ghost use Rattle.rheap_c.specs.Handle.{Calls};
 
 use crate::handle::Rheap;
+use crate::root_word::RootWord;
 use crate::value::RheapRoot;
 use crate::{fixed, growing};
 use std::alloc::Global;
@@ -29,7 +30,7 @@ pub extern "C" fn rheap_alloc(
         heap.new }
 {
     if heap.fixed.is_empty() {
-        return growing::objects::alloc(&mut heap.growing, alloc, owner, &{ dst }, fields);
+        return growing::objects::alloc(&mut heap.growing, alloc, owner, RootWord::of(dst), fields);
     }
     fixed::objects::alloc(&mut heap.fixed, alloc, owner, dst, fields)
 }
@@ -48,7 +49,13 @@ pub extern "C" fn rheap_alloc_raw(
         heap.new }
 {
     if heap.fixed.is_empty() {
-        return growing::objects::alloc_raw(&mut heap.growing, alloc, owner, &{ dst }, fields);
+        return growing::objects::alloc_raw(
+            &mut heap.growing,
+            alloc,
+            owner,
+            RootWord::of(dst),
+            fields,
+        );
     }
     fixed::objects::alloc_raw(&mut heap.fixed, alloc, owner, dst, fields)
 }
@@ -68,7 +75,13 @@ pub extern "C" fn rheap_copy(
         heap.old heap.new }
 {
     if heap.fixed.is_empty() {
-        return growing::objects::copy(&mut heap.growing, alloc, owner, &{ dst }, &{ src });
+        return growing::objects::copy(
+            &mut heap.growing,
+            alloc,
+            owner,
+            RootWord::of(dst),
+            RootWord::of(src),
+        );
     }
     fixed::objects::copy(&mut heap.fixed, owner, dst, src)
 }
@@ -81,7 +94,7 @@ pub extern "C" fn rheap_drop(heap: &mut Rheap, alloc: Global, owner: u32, root: 
         heap.new }
 {
     if heap.fixed.is_empty() {
-        return growing::objects::drop_root(&mut heap.growing, alloc, owner, &{ root });
+        return growing::objects::drop_root(&mut heap.growing, alloc, owner, RootWord::of(root));
     }
     fixed::objects::drop_root(&mut heap.fixed, owner, root)
 }
@@ -101,7 +114,14 @@ pub extern "C" fn rheap_same(
         heap.new }
 {
     if heap.fixed.is_empty() {
-        return growing::objects::same(&mut heap.growing, alloc, owner, &{ a }, &{ b }, same);
+        return growing::objects::same(
+            &mut heap.growing,
+            alloc,
+            owner,
+            RootWord::of(a),
+            RootWord::of(b),
+            same,
+        );
     }
     fixed::objects::same(&mut heap.fixed, owner, a, b, same)
 }

@@ -5,6 +5,7 @@ ghost use Rattle.rheap_c.specs.Told.{root_of};
 ghost use Rattle.rheap_c.specs.Grown.{CallsOnPaced};
 
 use crate::handle::Rheap;
+use crate::root_word::RootWord;
 use crate::value::{RheapRoot, RheapValue};
 use crate::{fixed, growing};
 use std::alloc::Global;
@@ -21,7 +22,7 @@ pub extern "C" fn rheap_root(
         value.new) heap.old heap.new }
 {
     if heap.fixed.is_empty() {
-        return growing::reading::root(&mut heap.growing, alloc, &{ root }, value);
+        return growing::reading::root(&mut heap.growing, alloc, RootWord::of(root), value);
     }
     fixed::reading::root(&mut heap.fixed, root, value)
 }
@@ -40,7 +41,7 @@ pub extern "C" fn rheap_field(
         result value.new) heap.old heap.new }
 {
     if heap.fixed.is_empty() {
-        return growing::reading::field(&mut heap.growing, alloc, &{ root }, field, value);
+        return growing::reading::field(&mut heap.growing, alloc, RootWord::of(root), field, value);
     }
     fixed::reading::field(&mut heap.fixed, root, field, value)
 }
@@ -60,7 +61,14 @@ pub extern "C" fn rheap_peek(
         new result value.new) heap.old heap.new }
 {
     if heap.fixed.is_empty() {
-        return growing::reading::peek(&mut heap.growing, alloc, owner, &{ src }, field, value);
+        return growing::reading::peek(
+            &mut heap.growing,
+            alloc,
+            owner,
+            RootWord::of(src),
+            field,
+            value,
+        );
     }
     fixed::reading::peek(&mut heap.fixed, owner, src, field, value)
 }
@@ -77,7 +85,7 @@ pub extern "C" fn rheap_fields(
         new result fields.new) heap.old heap.new }
 {
     if heap.fixed.is_empty() {
-        return growing::reading::fields(&mut heap.growing, alloc, &{ root }, fields);
+        return growing::reading::fields(&mut heap.growing, alloc, RootWord::of(root), fields);
     }
     fixed::reading::fields(&mut heap.fixed, alloc, root, fields)
 }

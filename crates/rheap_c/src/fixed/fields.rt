@@ -6,9 +6,11 @@
 ghost use Rattle.rh_layout.specs.declared.command.Command.TheVariants as commands;
 ghost use Rattle.rh_layout.specs.declared.command.Operand.TheVariants as operands;
 ghost use Rattle.rheap_c.specs.Called.{IsDone, IsLoaded};
+ghost use Rattle.rheap_c.specs.RootWord.{root_in};
 ghost use Rattle.rheap_c.specs.Told.{root_of};
 
 use crate::fixed_part::FixedPart;
+use crate::root_word::RootWord;
 use crate::status::{DONE, NOT_OPEN, answer_status};
 use crate::value::{RheapRoot, RheapValue};
 use rh_layout::Operand;
@@ -75,7 +77,7 @@ pub(crate) fn store_nil(
         .store_straight(owner, object.id(), field, Operand::Nil)
     {
         Some(_) => DONE,
-        None => store_nil_at_length(heap, alloc, owner, &{ object }, field),
+        None => store_nil_at_length(heap, alloc, owner, RootWord::of(object), field),
     }
 }
 
@@ -85,11 +87,11 @@ pub(crate) fn store_nil_at_length(
     heap: &mut FixedPart,
     alloc: Global,
     owner: u32,
-    object: &RheapRoot,
+    object: RootWord,
     field: u32,
 ) -> u8
     ensures { IsDone heap.old.state heap.new.state owner
-        (commands.Store (root_of object.now) field operands.Nil) result }
+        (commands.Store (root_in object) field operands.Nil) result }
 {
     match heap.take(alloc) {
         None => NOT_OPEN,
@@ -122,7 +124,7 @@ pub(crate) fn store_int(
         .store_straight(owner, object.id(), field, Operand::Int(number))
     {
         Some(_) => DONE,
-        None => store_int_at_length(heap, alloc, owner, &{ object }, field, number),
+        None => store_int_at_length(heap, alloc, owner, RootWord::of(object), field, number),
     }
 }
 
@@ -132,12 +134,12 @@ pub(crate) fn store_int_at_length(
     heap: &mut FixedPart,
     alloc: Global,
     owner: u32,
-    object: &RheapRoot,
+    object: RootWord,
     field: u32,
     number: i64,
 ) -> u8
     ensures { IsDone heap.old.state heap.new.state owner
-        (commands.Store (root_of object.now) field (operands.Int number)) result }
+        (commands.Store (root_in object) field (operands.Int number)) result }
 {
     match heap.take(alloc) {
         None => NOT_OPEN,
@@ -170,7 +172,14 @@ pub(crate) fn store_root(
         .store_straight(owner, object.id(), field, Operand::Root(src.id()))
     {
         Some(_) => DONE,
-        None => store_root_at_length(heap, alloc, owner, &{ object }, field, &{ src }),
+        None => store_root_at_length(
+            heap,
+            alloc,
+            owner,
+            RootWord::of(object),
+            field,
+            RootWord::of(src),
+        ),
     }
 }
 
@@ -180,12 +189,12 @@ pub(crate) fn store_root_at_length(
     heap: &mut FixedPart,
     alloc: Global,
     owner: u32,
-    object: &RheapRoot,
+    object: RootWord,
     field: u32,
-    src: &RheapRoot,
+    src: RootWord,
 ) -> u8
     ensures { IsDone heap.old.state heap.new.state owner
-        (commands.Store (root_of object.now) field (operands.Root (root_of src.now))) result }
+        (commands.Store (root_in object) field (operands.Root (root_in src))) result }
 {
     match heap.take(alloc) {
         None => NOT_OPEN,

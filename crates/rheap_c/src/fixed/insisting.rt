@@ -9,9 +9,11 @@ ghost use Rattle.rh_layout.specs.declared.command.Operand.TheVariants as operand
 ghost use Rattle.rh_pace.specs.Calls.{IsPacedCall};
 ghost use Rattle.rh_pace.specs.Paced.{PacedState};
 ghost use Rattle.rheap_c.specs.Insisted.{IsInsisted, IsInsistedCall};
+ghost use Rattle.rheap_c.specs.RootWord.{root_in};
 ghost use Rattle.rheap_c.specs.Told.{root_of};
 
 use crate::fixed_part::FixedPart;
+use crate::root_word::RootWord;
 use crate::status::{DONE, NOT_OPEN, answer_status};
 use crate::value::RheapRoot;
 use rh_layout::{Command, MAX_FIELDS, Operand, Refusal, Reply, RootId};
@@ -34,11 +36,11 @@ pub(crate) fn insist_alloc(
         return NOT_OPEN;
     }
     if fields > MAX_FIELDS {
-        return insist_alloc_at_length(heap, alloc, owner, &{ dst }, fields);
+        return insist_alloc_at_length(heap, alloc, owner, RootWord::of(dst), fields);
     }
     match heap.here().alloc_straight(owner, dst.id(), fields) {
         Some(_) => DONE,
-        None => insist_alloc_at_length(heap, alloc, owner, &{ dst }, fields),
+        None => insist_alloc_at_length(heap, alloc, owner, RootWord::of(dst), fields),
     }
 }
 
@@ -48,11 +50,11 @@ pub(crate) fn insist_alloc_at_length(
     heap: &mut FixedPart,
     alloc: Global,
     owner: u32,
-    dst: &RheapRoot,
+    dst: RootWord,
     fields: u32,
 ) -> u8
     ensures { IsInsisted heap.old.state heap.new.state owner
-        (commands.Alloc (root_of dst.now) fields) result }
+        (commands.Alloc (root_in dst) fields) result }
 {
     match heap.take(alloc) {
         None => NOT_OPEN,
@@ -82,11 +84,11 @@ pub(crate) fn insist_alloc_raw(
         return NOT_OPEN;
     }
     if fields > MAX_FIELDS {
-        return insist_alloc_raw_at_length(heap, alloc, owner, &{ dst }, fields);
+        return insist_alloc_raw_at_length(heap, alloc, owner, RootWord::of(dst), fields);
     }
     match heap.here().alloc_raw_straight(owner, dst.id(), fields) {
         Some(_) => DONE,
-        None => insist_alloc_raw_at_length(heap, alloc, owner, &{ dst }, fields),
+        None => insist_alloc_raw_at_length(heap, alloc, owner, RootWord::of(dst), fields),
     }
 }
 
@@ -96,11 +98,11 @@ pub(crate) fn insist_alloc_raw_at_length(
     heap: &mut FixedPart,
     alloc: Global,
     owner: u32,
-    dst: &RheapRoot,
+    dst: RootWord,
     fields: u32,
 ) -> u8
     ensures { IsInsisted heap.old.state heap.new.state owner
-        (commands.Raw (root_of dst.now) fields) result }
+        (commands.Raw (root_in dst) fields) result }
 {
     match heap.take(alloc) {
         None => NOT_OPEN,
@@ -134,7 +136,7 @@ pub(crate) fn insist_store_nil(
         .store_straight(owner, object.id(), field, Operand::Nil)
     {
         Some(_) => DONE,
-        None => insist_store_nil_at_length(heap, alloc, owner, &{ object }, field),
+        None => insist_store_nil_at_length(heap, alloc, owner, RootWord::of(object), field),
     }
 }
 
@@ -144,11 +146,11 @@ pub(crate) fn insist_store_nil_at_length(
     heap: &mut FixedPart,
     alloc: Global,
     owner: u32,
-    object: &RheapRoot,
+    object: RootWord,
     field: u32,
 ) -> u8
     ensures { IsInsisted heap.old.state heap.new.state owner
-        (commands.Store (root_of object.now) field operands.Nil) result }
+        (commands.Store (root_in object) field operands.Nil) result }
 {
     insist_store(heap, alloc, owner, object.id(), field, Operand::Nil)
 }
@@ -174,7 +176,7 @@ pub(crate) fn insist_store_int(
         .store_straight(owner, object.id(), field, Operand::Int(number))
     {
         Some(_) => DONE,
-        None => insist_store_int_at_length(heap, alloc, owner, &{ object }, field, number),
+        None => insist_store_int_at_length(heap, alloc, owner, RootWord::of(object), field, number),
     }
 }
 
@@ -184,12 +186,12 @@ pub(crate) fn insist_store_int_at_length(
     heap: &mut FixedPart,
     alloc: Global,
     owner: u32,
-    object: &RheapRoot,
+    object: RootWord,
     field: u32,
     number: i64,
 ) -> u8
     ensures { IsInsisted heap.old.state heap.new.state owner
-        (commands.Store (root_of object.now) field (operands.Int number)) result }
+        (commands.Store (root_in object) field (operands.Int number)) result }
 {
     insist_store(heap, alloc, owner, object.id(), field, Operand::Int(number))
 }
@@ -215,7 +217,14 @@ pub(crate) fn insist_store_root(
         .store_straight(owner, object.id(), field, Operand::Root(src.id()))
     {
         Some(_) => DONE,
-        None => insist_store_root_at_length(heap, alloc, owner, &{ object }, field, &{ src }),
+        None => insist_store_root_at_length(
+            heap,
+            alloc,
+            owner,
+            RootWord::of(object),
+            field,
+            RootWord::of(src),
+        ),
     }
 }
 
@@ -225,12 +234,12 @@ pub(crate) fn insist_store_root_at_length(
     heap: &mut FixedPart,
     alloc: Global,
     owner: u32,
-    object: &RheapRoot,
+    object: RootWord,
     field: u32,
-    src: &RheapRoot,
+    src: RootWord,
 ) -> u8
     ensures { IsInsisted heap.old.state heap.new.state owner
-        (commands.Store (root_of object.now) field (operands.Root (root_of src.now))) result }
+        (commands.Store (root_in object) field (operands.Root (root_in src))) result }
 {
     insist_store(
         heap,

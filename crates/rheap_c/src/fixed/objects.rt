@@ -7,9 +7,11 @@
 
 ghost use Rattle.rh_layout.specs.declared.command.Command.TheVariants as commands;
 ghost use Rattle.rheap_c.specs.Called.{IsCompared, IsDone};
+ghost use Rattle.rheap_c.specs.RootWord.{root_in};
 ghost use Rattle.rheap_c.specs.Told.{root_of};
 
 use crate::fixed_part::FixedPart;
+use crate::root_word::RootWord;
 use crate::status::{DONE, NOT_OPEN, answer_status};
 use crate::value::{RheapRoot, sameness};
 use rh_layout::MAX_FIELDS;
@@ -31,11 +33,11 @@ pub(crate) fn alloc(
         return NOT_OPEN;
     }
     if fields > MAX_FIELDS {
-        return alloc_at_length(heap, alloc, owner, &{ dst }, fields);
+        return alloc_at_length(heap, alloc, owner, RootWord::of(dst), fields);
     }
     match heap.here().alloc_straight(owner, dst.id(), fields) {
         Some(_) => DONE,
-        None => alloc_at_length(heap, alloc, owner, &{ dst }, fields),
+        None => alloc_at_length(heap, alloc, owner, RootWord::of(dst), fields),
     }
 }
 
@@ -45,10 +47,10 @@ pub(crate) fn alloc_at_length(
     heap: &mut FixedPart,
     alloc: Global,
     owner: u32,
-    dst: &RheapRoot,
+    dst: RootWord,
     fields: u32,
 ) -> u8
-    ensures { IsDone heap.old.state heap.new.state owner (commands.Alloc (root_of dst.now) fields)
+    ensures { IsDone heap.old.state heap.new.state owner (commands.Alloc (root_in dst) fields)
         result }
 {
     match heap.take(alloc) {
@@ -77,11 +79,11 @@ pub(crate) fn alloc_raw(
         return NOT_OPEN;
     }
     if fields > MAX_FIELDS {
-        return alloc_raw_at_length(heap, alloc, owner, &{ dst }, fields);
+        return alloc_raw_at_length(heap, alloc, owner, RootWord::of(dst), fields);
     }
     match heap.here().alloc_raw_straight(owner, dst.id(), fields) {
         Some(_) => DONE,
-        None => alloc_raw_at_length(heap, alloc, owner, &{ dst }, fields),
+        None => alloc_raw_at_length(heap, alloc, owner, RootWord::of(dst), fields),
     }
 }
 
@@ -91,10 +93,10 @@ pub(crate) fn alloc_raw_at_length(
     heap: &mut FixedPart,
     alloc: Global,
     owner: u32,
-    dst: &RheapRoot,
+    dst: RootWord,
     fields: u32,
 ) -> u8
-    ensures { IsDone heap.old.state heap.new.state owner (commands.Raw (root_of dst.now) fields)
+    ensures { IsDone heap.old.state heap.new.state owner (commands.Raw (root_in dst) fields)
         result }
 {
     match heap.take(alloc) {

@@ -14,8 +14,9 @@ ghost use Rattle.rheap_c.specs.Shared.{shared_root};
 
 use crate::fixed::{fields, insisting, objects};
 use crate::fixed_part::FixedPart;
+use crate::root_word::RootWord;
 use crate::status::{DONE, NOT_OPEN, answer_status};
-use crate::value::{RheapValue, crossing};
+use crate::value::RheapValue;
 use rh_layout::{Operand, Refusal, Reply, RootId};
 use rh_pace::PacedHeap;
 use std::alloc::Global;
@@ -308,7 +309,7 @@ fn alloc_at_length(heap: &mut FixedPart, alloc: Global, dst: u32, fields: u32) -
     ensures { IsDone heap.old.state heap.new.state 0 (commands.Alloc (shared_root dst) fields)
         result }
 {
-    objects::alloc_at_length(heap, alloc, 0, &crossing(dst), fields)
+    objects::alloc_at_length(heap, alloc, 0, RootWord::shared(dst), fields)
 }
 
 /// As `rheap_shared_alloc_raw`, also in a cycle, where one begins, and where it is refused.
@@ -317,7 +318,7 @@ fn alloc_raw_at_length(heap: &mut FixedPart, alloc: Global, dst: u32, fields: u3
     ensures { IsDone heap.old.state heap.new.state 0 (commands.Raw (shared_root dst) fields)
         result }
 {
-    objects::alloc_raw_at_length(heap, alloc, 0, &crossing(dst), fields)
+    objects::alloc_raw_at_length(heap, alloc, 0, RootWord::shared(dst), fields)
 }
 
 /// As `rheap_shared_store_nil`, also in a cycle, and where it is refused.
@@ -326,7 +327,7 @@ fn store_nil_at_length(heap: &mut FixedPart, alloc: Global, object: u32, field: 
     ensures { IsDone heap.old.state heap.new.state 0 (commands.Store (shared_root object) field
         operands.Nil) result }
 {
-    fields::store_nil_at_length(heap, alloc, 0, &crossing(object), field)
+    fields::store_nil_at_length(heap, alloc, 0, RootWord::shared(object), field)
 }
 
 /// As `rheap_shared_store_int`, also in a cycle, and where it is refused.
@@ -341,7 +342,7 @@ fn store_int_at_length(
     ensures { IsDone heap.old.state heap.new.state 0 (commands.Store (shared_root object) field
         (operands.Int number)) result }
 {
-    fields::store_int_at_length(heap, alloc, 0, &crossing(object), field, number)
+    fields::store_int_at_length(heap, alloc, 0, RootWord::shared(object), field, number)
 }
 
 /// As `rheap_shared_store_root`, also in a cycle, and where it is refused.
@@ -356,7 +357,14 @@ fn store_root_at_length(
     ensures { IsDone heap.old.state heap.new.state 0 (commands.Store (shared_root object) field
         (operands.Root (shared_root src))) result }
 {
-    fields::store_root_at_length(heap, alloc, 0, &crossing(object), field, &crossing(src))
+    fields::store_root_at_length(
+        heap,
+        alloc,
+        0,
+        RootWord::shared(object),
+        field,
+        RootWord::shared(src),
+    )
 }
 
 /// As `rheap_shared_insist_alloc`, also in a cycle, where one begins, and where it is refused.
@@ -365,7 +373,7 @@ fn insist_alloc_at_length(heap: &mut FixedPart, alloc: Global, dst: u32, fields:
     ensures { IsInsisted heap.old.state heap.new.state 0 (commands.Alloc (shared_root dst) fields)
         result }
 {
-    insisting::insist_alloc_at_length(heap, alloc, 0, &crossing(dst), fields)
+    insisting::insist_alloc_at_length(heap, alloc, 0, RootWord::shared(dst), fields)
 }
 
 /// As `rheap_shared_insist_alloc_raw`, also in a cycle, where one begins, and where it is refused.
@@ -374,7 +382,7 @@ fn insist_alloc_raw_at_length(heap: &mut FixedPart, alloc: Global, dst: u32, fie
     ensures { IsInsisted heap.old.state heap.new.state 0 (commands.Raw (shared_root dst) fields)
         result }
 {
-    insisting::insist_alloc_raw_at_length(heap, alloc, 0, &crossing(dst), fields)
+    insisting::insist_alloc_raw_at_length(heap, alloc, 0, RootWord::shared(dst), fields)
 }
 
 /// As `rheap_shared_insist_store_nil`, also in a cycle, and where it is refused.
@@ -383,7 +391,7 @@ fn insist_store_nil_at_length(heap: &mut FixedPart, alloc: Global, object: u32, 
     ensures { IsInsisted heap.old.state heap.new.state 0 (commands.Store (shared_root object) field
         operands.Nil) result }
 {
-    insisting::insist_store_nil_at_length(heap, alloc, 0, &crossing(object), field)
+    insisting::insist_store_nil_at_length(heap, alloc, 0, RootWord::shared(object), field)
 }
 
 /// As `rheap_shared_insist_store_int`, also in a cycle, and where it is refused.
@@ -398,7 +406,7 @@ fn insist_store_int_at_length(
     ensures { IsInsisted heap.old.state heap.new.state 0 (commands.Store (shared_root object) field
         (operands.Int number)) result }
 {
-    insisting::insist_store_int_at_length(heap, alloc, 0, &crossing(object), field, number)
+    insisting::insist_store_int_at_length(heap, alloc, 0, RootWord::shared(object), field, number)
 }
 
 /// As `rheap_shared_insist_store_root`, also in a cycle, and where it is refused.
@@ -413,5 +421,12 @@ fn insist_store_root_at_length(
     ensures { IsInsisted heap.old.state heap.new.state 0 (commands.Store (shared_root object) field
         (operands.Root (shared_root src))) result }
 {
-    insisting::insist_store_root_at_length(heap, alloc, 0, &crossing(object), field, &crossing(src))
+    insisting::insist_store_root_at_length(
+        heap,
+        alloc,
+        0,
+        RootWord::shared(object),
+        field,
+        RootWord::shared(src),
+    )
 }

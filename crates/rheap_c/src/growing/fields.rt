@@ -3,11 +3,12 @@
 ghost use Rattle.rh_layout.specs.declared.command.Command.TheVariants as commands;
 ghost use Rattle.rh_layout.specs.declared.command.Operand.TheVariants as operands;
 ghost use Rattle.rheap_c.specs.Grown.{IsGrownDone, IsGrownLoaded};
-ghost use Rattle.rheap_c.specs.Told.{root_of};
+ghost use Rattle.rheap_c.specs.RootWord.{root_in};
 
 use crate::growing_part::GrowingPart;
+use crate::root_word::RootWord;
 use crate::status::{NOT_OPEN, answer_status};
-use crate::value::{RheapRoot, RheapValue};
+use crate::value::RheapValue;
 use rh_layout::Operand;
 use std::alloc::Global;
 
@@ -17,12 +18,12 @@ pub(crate) fn load(
     heap: &mut GrowingPart,
     alloc: Global,
     owner: u32,
-    dst: &RheapRoot,
-    src: &RheapRoot,
+    dst: RootWord,
+    src: RootWord,
     field: u32,
     value: &mut RheapValue,
 ) -> u8
-    ensures { IsGrownLoaded heap.old.state heap.new.state owner (root_of dst.now) (root_of src.now)
+    ensures { IsGrownLoaded heap.old.state heap.new.state owner (root_in dst) (root_in src)
         field result value.new }
 {
     match heap.take(alloc) {
@@ -45,12 +46,12 @@ pub(crate) fn load_untold(
     heap: &mut GrowingPart,
     alloc: Global,
     owner: u32,
-    dst: &RheapRoot,
-    src: &RheapRoot,
+    dst: RootWord,
+    src: RootWord,
     field: u32,
 ) -> u8
-    ensures { IsGrownDone heap.old.state heap.new.state owner (commands.Load (root_of dst.now)
-        (root_of src.now) field) result }
+    ensures { IsGrownDone heap.old.state heap.new.state owner (commands.Load (root_in dst)
+        (root_in src) field) result }
 {
     match heap.take(alloc) {
         None => NOT_OPEN,
@@ -68,10 +69,10 @@ pub(crate) fn store_nil(
     heap: &mut GrowingPart,
     alloc: Global,
     owner: u32,
-    object: &RheapRoot,
+    object: RootWord,
     field: u32,
 ) -> u8
-    ensures { IsGrownDone heap.old.state heap.new.state owner (commands.Store (root_of object.now)
+    ensures { IsGrownDone heap.old.state heap.new.state owner (commands.Store (root_in object)
         field operands.Nil) result }
 {
     match heap.take(alloc) {
@@ -90,11 +91,11 @@ pub(crate) fn store_int(
     heap: &mut GrowingPart,
     alloc: Global,
     owner: u32,
-    object: &RheapRoot,
+    object: RootWord,
     field: u32,
     number: i64,
 ) -> u8
-    ensures { IsGrownDone heap.old.state heap.new.state owner (commands.Store (root_of object.now)
+    ensures { IsGrownDone heap.old.state heap.new.state owner (commands.Store (root_in object)
         field (operands.Int number)) result }
 {
     match heap.take(alloc) {
@@ -113,12 +114,12 @@ pub(crate) fn store_root(
     heap: &mut GrowingPart,
     alloc: Global,
     owner: u32,
-    object: &RheapRoot,
+    object: RootWord,
     field: u32,
-    src: &RheapRoot,
+    src: RootWord,
 ) -> u8
-    ensures { IsGrownDone heap.old.state heap.new.state owner (commands.Store (root_of object.now)
-        field (operands.Root (root_of src.now))) result }
+    ensures { IsGrownDone heap.old.state heap.new.state owner (commands.Store (root_in object)
+        field (operands.Root (root_in src))) result }
 {
     match heap.take(alloc) {
         None => NOT_OPEN,

@@ -3,11 +3,11 @@
 ghost use Rattle.rh_layout.specs.declared.command.Command.TheVariants as commands;
 ghost use Rattle.rh_layout.specs.declared.command.Operand.TheVariants as operands;
 ghost use Rattle.rheap_c.specs.Grown.{InsistsOnce, IsGrownInsisted};
-ghost use Rattle.rheap_c.specs.Told.{root_of};
+ghost use Rattle.rheap_c.specs.RootWord.{root_in};
 
 use crate::growing_part::GrowingPart;
+use crate::root_word::RootWord;
 use crate::status::{NOT_OPEN, answer_status};
-use crate::value::RheapRoot;
 use rh_growing::GrowingHeap;
 use rh_layout::{Command, Operand, Refusal, Reply, RootId};
 use std::alloc::Global;
@@ -18,10 +18,10 @@ pub(crate) fn insist_alloc(
     heap: &mut GrowingPart,
     alloc: Global,
     owner: u32,
-    dst: &RheapRoot,
+    dst: RootWord,
     fields: u32,
 ) -> u8
-    ensures { IsGrownInsisted heap.old.state heap.new.state owner (commands.Alloc (root_of dst.now)
+    ensures { IsGrownInsisted heap.old.state heap.new.state owner (commands.Alloc (root_in dst)
         fields) result }
 {
     match heap.take(alloc) {
@@ -40,10 +40,10 @@ pub(crate) fn insist_alloc_raw(
     heap: &mut GrowingPart,
     alloc: Global,
     owner: u32,
-    dst: &RheapRoot,
+    dst: RootWord,
     fields: u32,
 ) -> u8
-    ensures { IsGrownInsisted heap.old.state heap.new.state owner (commands.Raw (root_of dst.now)
+    ensures { IsGrownInsisted heap.old.state heap.new.state owner (commands.Raw (root_in dst)
         fields) result }
 {
     match heap.take(alloc) {
@@ -62,11 +62,10 @@ pub(crate) fn insist_store_nil(
     heap: &mut GrowingPart,
     alloc: Global,
     owner: u32,
-    object: &RheapRoot,
+    object: RootWord,
     field: u32,
 ) -> u8
-    ensures { IsGrownInsisted heap.old.state heap.new.state owner (commands.Store (root_of
-        object.now) field operands.Nil) result }
+    ensures { IsGrownInsisted heap.old.state heap.new.state owner (commands.Store (root_in object) field operands.Nil) result }
 {
     match heap.take(alloc) {
         None => NOT_OPEN,
@@ -84,12 +83,11 @@ pub(crate) fn insist_store_int(
     heap: &mut GrowingPart,
     alloc: Global,
     owner: u32,
-    object: &RheapRoot,
+    object: RootWord,
     field: u32,
     number: i64,
 ) -> u8
-    ensures { IsGrownInsisted heap.old.state heap.new.state owner (commands.Store (root_of
-        object.now) field (operands.Int number)) result }
+    ensures { IsGrownInsisted heap.old.state heap.new.state owner (commands.Store (root_in object) field (operands.Int number)) result }
 {
     match heap.take(alloc) {
         None => NOT_OPEN,
@@ -108,12 +106,11 @@ pub(crate) fn insist_store_root(
     heap: &mut GrowingPart,
     alloc: Global,
     owner: u32,
-    object: &RheapRoot,
+    object: RootWord,
     field: u32,
-    src: &RheapRoot,
+    src: RootWord,
 ) -> u8
-    ensures { IsGrownInsisted heap.old.state heap.new.state owner (commands.Store (root_of
-        object.now) field (operands.Root (root_of src.now))) result }
+    ensures { IsGrownInsisted heap.old.state heap.new.state owner (commands.Store (root_in object) field (operands.Root (root_in src))) result }
 {
     match heap.take(alloc) {
         None => NOT_OPEN,

@@ -2,11 +2,12 @@
 
 ghost use Rattle.rh_layout.specs.declared.command.Command.TheVariants as commands;
 ghost use Rattle.rheap_c.specs.Grown.{IsGrownCompared, IsGrownDone};
-ghost use Rattle.rheap_c.specs.Told.{root_of};
+ghost use Rattle.rheap_c.specs.RootWord.{root_in};
 
 use crate::growing_part::GrowingPart;
+use crate::root_word::RootWord;
 use crate::status::{NOT_OPEN, answer_status};
-use crate::value::{RheapRoot, sameness};
+use crate::value::sameness;
 use std::alloc::Global;
 
 /// `rheap_alloc`, on a heap that grows.
@@ -15,10 +16,10 @@ pub(crate) fn alloc(
     heap: &mut GrowingPart,
     alloc: Global,
     owner: u32,
-    dst: &RheapRoot,
+    dst: RootWord,
     fields: u32,
 ) -> u8
-    ensures { IsGrownDone heap.old.state heap.new.state owner (commands.Alloc (root_of dst.now)
+    ensures { IsGrownDone heap.old.state heap.new.state owner (commands.Alloc (root_in dst)
         fields) result }
 {
     match heap.take(alloc) {
@@ -37,10 +38,10 @@ pub(crate) fn alloc_raw(
     heap: &mut GrowingPart,
     alloc: Global,
     owner: u32,
-    dst: &RheapRoot,
+    dst: RootWord,
     fields: u32,
 ) -> u8
-    ensures { IsGrownDone heap.old.state heap.new.state owner (commands.Raw (root_of dst.now)
+    ensures { IsGrownDone heap.old.state heap.new.state owner (commands.Raw (root_in dst)
         fields) result }
 {
     match heap.take(alloc) {
@@ -59,11 +60,11 @@ pub(crate) fn copy(
     heap: &mut GrowingPart,
     alloc: Global,
     owner: u32,
-    dst: &RheapRoot,
-    src: &RheapRoot,
+    dst: RootWord,
+    src: RootWord,
 ) -> u8
-    ensures { IsGrownDone heap.old.state heap.new.state owner (commands.Copy (root_of dst.now)
-        (root_of src.now)) result }
+    ensures { IsGrownDone heap.old.state heap.new.state owner (commands.Copy (root_in dst)
+        (root_in src)) result }
 {
     match heap.take(alloc) {
         None => NOT_OPEN,
@@ -77,8 +78,8 @@ pub(crate) fn copy(
 
 /// `rheap_drop`, on a heap that grows.
 #[inline(never)]
-pub(crate) fn drop_root(heap: &mut GrowingPart, alloc: Global, owner: u32, root: &RheapRoot) -> u8
-    ensures { IsGrownDone heap.old.state heap.new.state owner (commands.Drop (root_of root.now))
+pub(crate) fn drop_root(heap: &mut GrowingPart, alloc: Global, owner: u32, root: RootWord) -> u8
+    ensures { IsGrownDone heap.old.state heap.new.state owner (commands.Drop (root_in root))
         result }
 {
     match heap.take(alloc) {
@@ -97,11 +98,11 @@ pub(crate) fn same(
     heap: &mut GrowingPart,
     alloc: Global,
     owner: u32,
-    a: &RheapRoot,
-    b: &RheapRoot,
+    a: RootWord,
+    b: RootWord,
     same: &mut u8,
 ) -> u8
-    ensures { IsGrownCompared heap.old.state heap.new.state owner (root_of a.now) (root_of b.now)
+    ensures { IsGrownCompared heap.old.state heap.new.state owner (root_in a) (root_in b)
         result same.new }
 {
     match heap.take(alloc) {

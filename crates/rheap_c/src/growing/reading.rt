@@ -2,12 +2,13 @@
 
 ghost use Rattle.rheap_c.specs.Grown.{OnPaced};
 ghost use Rattle.rheap_c.specs.Read.{IsAnswered, IsCounted, count_in, field_answer, peek_answer, root_answer};
-ghost use Rattle.rheap_c.specs.Told.{root_of};
+ghost use Rattle.rheap_c.specs.RootWord.{root_in};
 
 use crate::fixed::reading::{counted, told_of_field, told_of_peek, told_of_root};
 use crate::growing_part::GrowingPart;
+use crate::root_word::RootWord;
 use crate::status::{DONE, NOT_OPEN, answer_status};
-use crate::value::{RheapRoot, RheapValue};
+use crate::value::RheapValue;
 use std::alloc::Global;
 
 /// `rheap_root`, on a heap that grows.
@@ -15,10 +16,10 @@ use std::alloc::Global;
 pub(crate) fn root(
     heap: &mut GrowingPart,
     alloc: Global,
-    root: &RheapRoot,
+    root: RootWord,
     value: &mut RheapValue,
 ) -> u8
-    ensures { OnPaced (λ old new. IsAnswered (λ s. root_answer s (root_of root.now)) old new result
+    ensures { OnPaced (λ old new. IsAnswered (λ s. root_answer s (root_in root)) old new result
         value.new) heap.old.state heap.new.state }
 {
     match heap.take(alloc) {
@@ -40,11 +41,11 @@ pub(crate) fn root(
 pub(crate) fn field(
     heap: &mut GrowingPart,
     alloc: Global,
-    root: &RheapRoot,
+    root: RootWord,
     field: u32,
     value: &mut RheapValue,
 ) -> u8
-    ensures { OnPaced (λ old new. IsAnswered (λ s. field_answer s (root_of root.now) field) old new
+    ensures { OnPaced (λ old new. IsAnswered (λ s. field_answer s (root_in root) field) old new
         result value.new) heap.old.state heap.new.state }
 {
     match heap.take(alloc) {
@@ -67,11 +68,11 @@ pub(crate) fn peek(
     heap: &mut GrowingPart,
     alloc: Global,
     owner: u32,
-    src: &RheapRoot,
+    src: RootWord,
     field: u32,
     value: &mut RheapValue,
 ) -> u8
-    ensures { OnPaced (λ old new. IsAnswered (λ s. peek_answer s owner (root_of src.now) field) old
+    ensures { OnPaced (λ old new. IsAnswered (λ s. peek_answer s owner (root_in src) field) old
         new result value.new) heap.old.state heap.new.state }
 {
     match heap.take(alloc) {
@@ -90,13 +91,8 @@ pub(crate) fn peek(
 
 /// `rheap_fields`, on a heap that grows.
 #[inline(never)]
-pub(crate) fn fields(
-    heap: &mut GrowingPart,
-    alloc: Global,
-    root: &RheapRoot,
-    fields: &mut u32,
-) -> u8
-    ensures { OnPaced (λ old new. IsCounted (λ s. count_in (root_answer s (root_of root.now))) old
+pub(crate) fn fields(heap: &mut GrowingPart, alloc: Global, root: RootWord, fields: &mut u32) -> u8
+    ensures { OnPaced (λ old new. IsCounted (λ s. count_in (root_answer s (root_in root))) old
         new result fields.new) heap.old.state heap.new.state }
 {
     match heap.take(alloc) {

@@ -11,7 +11,8 @@ ghost use Rattle.rheap_c.specs.Shared.{shared_root};
 
 use crate::growing::{fields, insisting, objects, reading};
 use crate::growing_part::GrowingPart;
-use crate::value::{RheapValue, crossing};
+use crate::root_word::RootWord;
+use crate::value::RheapValue;
 use std::alloc::Global;
 
 /// `rheap_shared_alloc`, on a heap that grows.
@@ -20,7 +21,7 @@ pub(crate) fn alloc(heap: &mut GrowingPart, alloc: Global, dst: u32, fields: u32
     ensures { IsGrownDone heap.old.state heap.new.state 0 (commands.Alloc (shared_root dst) fields)
         result }
 {
-    objects::alloc(heap, alloc, 0, &crossing(dst), fields)
+    objects::alloc(heap, alloc, 0, RootWord::shared(dst), fields)
 }
 
 /// `rheap_shared_alloc_raw`, on a heap that grows.
@@ -29,7 +30,7 @@ pub(crate) fn alloc_raw(heap: &mut GrowingPart, alloc: Global, dst: u32, fields:
     ensures { IsGrownDone heap.old.state heap.new.state 0 (commands.Raw (shared_root dst) fields)
         result }
 {
-    objects::alloc_raw(heap, alloc, 0, &crossing(dst), fields)
+    objects::alloc_raw(heap, alloc, 0, RootWord::shared(dst), fields)
 }
 
 /// `rheap_shared_load`, on a heap that grows.
@@ -45,7 +46,15 @@ pub(crate) fn load(
     ensures { IsGrownLoaded heap.old.state heap.new.state 0 (shared_root dst) (shared_root src)
         field result value.new }
 {
-    fields::load(heap, alloc, 0, &crossing(dst), &crossing(src), field, value)
+    fields::load(
+        heap,
+        alloc,
+        0,
+        RootWord::shared(dst),
+        RootWord::shared(src),
+        field,
+        value,
+    )
 }
 
 /// `rheap_shared_load_untold`, on a heap that grows.
@@ -60,7 +69,14 @@ pub(crate) fn load_untold(
     ensures { IsGrownDone heap.old.state heap.new.state 0 (commands.Load (shared_root dst)
         (shared_root src) field) result }
 {
-    fields::load_untold(heap, alloc, 0, &crossing(dst), &crossing(src), field)
+    fields::load_untold(
+        heap,
+        alloc,
+        0,
+        RootWord::shared(dst),
+        RootWord::shared(src),
+        field,
+    )
 }
 
 /// `rheap_shared_peek`, on a heap that grows.
@@ -75,7 +91,7 @@ pub(crate) fn peek(
     ensures { OnPaced (λ old new. IsAnswered (λ s. peek_answer s 0 (shared_root src) field) old new
         result value.new) heap.old.state heap.new.state }
 {
-    reading::peek(heap, alloc, 0, &crossing(src), field, value)
+    reading::peek(heap, alloc, 0, RootWord::shared(src), field, value)
 }
 
 /// `rheap_shared_store_nil`, on a heap that grows.
@@ -84,7 +100,7 @@ pub(crate) fn store_nil(heap: &mut GrowingPart, alloc: Global, object: u32, fiel
     ensures { IsGrownDone heap.old.state heap.new.state 0 (commands.Store (shared_root object) field
         operands.Nil) result }
 {
-    fields::store_nil(heap, alloc, 0, &crossing(object), field)
+    fields::store_nil(heap, alloc, 0, RootWord::shared(object), field)
 }
 
 /// `rheap_shared_store_int`, on a heap that grows.
@@ -99,7 +115,7 @@ pub(crate) fn store_int(
     ensures { IsGrownDone heap.old.state heap.new.state 0 (commands.Store (shared_root object) field
         (operands.Int number)) result }
 {
-    fields::store_int(heap, alloc, 0, &crossing(object), field, number)
+    fields::store_int(heap, alloc, 0, RootWord::shared(object), field, number)
 }
 
 /// `rheap_shared_store_root`, on a heap that grows.
@@ -114,7 +130,14 @@ pub(crate) fn store_root(
     ensures { IsGrownDone heap.old.state heap.new.state 0 (commands.Store (shared_root object) field
         (operands.Root (shared_root src))) result }
 {
-    fields::store_root(heap, alloc, 0, &crossing(object), field, &crossing(src))
+    fields::store_root(
+        heap,
+        alloc,
+        0,
+        RootWord::shared(object),
+        field,
+        RootWord::shared(src),
+    )
 }
 
 /// `rheap_shared_copy`, on a heap that grows.
@@ -123,7 +146,7 @@ pub(crate) fn copy(heap: &mut GrowingPart, alloc: Global, dst: u32, src: u32) ->
     ensures { IsGrownDone heap.old.state heap.new.state 0 (commands.Copy (shared_root dst)
         (shared_root src)) result }
 {
-    objects::copy(heap, alloc, 0, &crossing(dst), &crossing(src))
+    objects::copy(heap, alloc, 0, RootWord::shared(dst), RootWord::shared(src))
 }
 
 /// `rheap_shared_drop`, on a heap that grows.
@@ -132,7 +155,7 @@ pub(crate) fn drop_root(heap: &mut GrowingPart, alloc: Global, root: u32) -> u8
     ensures { IsGrownDone heap.old.state heap.new.state 0 (commands.Drop (shared_root root))
         result }
 {
-    objects::drop_root(heap, alloc, 0, &crossing(root))
+    objects::drop_root(heap, alloc, 0, RootWord::shared(root))
 }
 
 /// `rheap_shared_insist_alloc`, on a heap that grows.
@@ -141,7 +164,7 @@ pub(crate) fn insist_alloc(heap: &mut GrowingPart, alloc: Global, dst: u32, fiel
     ensures { IsGrownInsisted heap.old.state heap.new.state 0 (commands.Alloc (shared_root dst)
         fields) result }
 {
-    insisting::insist_alloc(heap, alloc, 0, &crossing(dst), fields)
+    insisting::insist_alloc(heap, alloc, 0, RootWord::shared(dst), fields)
 }
 
 /// `rheap_shared_insist_alloc_raw`, on a heap that grows.
@@ -150,7 +173,7 @@ pub(crate) fn insist_alloc_raw(heap: &mut GrowingPart, alloc: Global, dst: u32, 
     ensures { IsGrownInsisted heap.old.state heap.new.state 0 (commands.Raw (shared_root dst)
         fields) result }
 {
-    insisting::insist_alloc_raw(heap, alloc, 0, &crossing(dst), fields)
+    insisting::insist_alloc_raw(heap, alloc, 0, RootWord::shared(dst), fields)
 }
 
 /// `rheap_shared_insist_store_nil`, on a heap that grows.
@@ -159,7 +182,7 @@ pub(crate) fn insist_store_nil(heap: &mut GrowingPart, alloc: Global, object: u3
     ensures { IsGrownInsisted heap.old.state heap.new.state 0 (commands.Store (shared_root object)
         field operands.Nil) result }
 {
-    insisting::insist_store_nil(heap, alloc, 0, &crossing(object), field)
+    insisting::insist_store_nil(heap, alloc, 0, RootWord::shared(object), field)
 }
 
 /// `rheap_shared_insist_store_int`, on a heap that grows.
@@ -174,7 +197,7 @@ pub(crate) fn insist_store_int(
     ensures { IsGrownInsisted heap.old.state heap.new.state 0 (commands.Store (shared_root object)
         field (operands.Int number)) result }
 {
-    insisting::insist_store_int(heap, alloc, 0, &crossing(object), field, number)
+    insisting::insist_store_int(heap, alloc, 0, RootWord::shared(object), field, number)
 }
 
 /// `rheap_shared_insist_store_root`, on a heap that grows.
@@ -189,5 +212,12 @@ pub(crate) fn insist_store_root(
     ensures { IsGrownInsisted heap.old.state heap.new.state 0 (commands.Store (shared_root object)
         field (operands.Root (shared_root src))) result }
 {
-    insisting::insist_store_root(heap, alloc, 0, &crossing(object), field, &crossing(src))
+    insisting::insist_store_root(
+        heap,
+        alloc,
+        0,
+        RootWord::shared(object),
+        field,
+        RootWord::shared(src),
+    )
 }

@@ -9,7 +9,7 @@ pub returns-then-is_empty : goal.returns-then-is_empty
 returns-then-is_empty c =
     let fits : FitsSigned w64 c.args.number = search rules in
     Calls-growing _ _ _ _ _ _ _ c.is_empty.ensures.empty c.if-is_empty.true c.is_empty.ensures.kept
-    (number-grown_insisted _ c.args.number (to_z-of_z w64 c.args.number fits) c.args.owner (root_of c.args.object) c.args.field c.insist_store_int.result _ _ c.insist_store_int.ensures)
+    (number-grown_insisted _ c.args.number (to_z-of_z w64 c.args.number fits) c.args.owner (root_of c.args.object) c.args.field c.insist_store_int.result _ _ (rw (c.of.ensures) at c.insist_store_int.ensures))
 
 pub returns : goal.returns
 returns c =

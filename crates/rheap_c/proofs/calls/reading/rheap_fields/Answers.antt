@@ -1,9 +1,13 @@
-use Rattle.std.proofs.Common.{refl}
+use Rattle.std.proofs.Common.{refl, subst}
+use Rattle.rh_layout.specs.declared.command.RootId.{RootId}
+use Rattle.rheap_c.specs.Grown.{OnPaced}
+use Rattle.rheap_c.specs.Read.{IsCounted, count_in, root_answer}
 use Rattle.rheap_c.proofs.Parts.{Calls-fixed, Calls-growing}
 use Rattle.rheap_c.proofs.calls.reading.rheap_fields.Goals as goal
 
 pub returns-then-is_empty : goal.returns-then-is_empty
-returns-then-is_empty c = Calls-growing _ _ _ _ _ _ _ c.is_empty.ensures.empty c.if-is_empty.true c.is_empty.ensures.kept c.fields.ensures
+returns-then-is_empty c = Calls-growing _ _ _ _ _ _ _ c.is_empty.ensures.empty c.if-is_empty.true c.is_empty.ensures.kept
+    (subst (λ (r : RootId). OnPaced (λ old new. IsCounted (λ s. count_in (root_answer s r)) old new c.fields.result c.fields.new.fields) c.args.heap.now.growing.state c.fields.new.heap.state) c.of.ensures c.fields.ensures)
 
 pub returns : goal.returns
 returns c = Calls-fixed _ _ _ _ _ _ _ _ c.is_empty.ensures.empty c.if-is_empty.false c.is_empty.ensures.kept c.fields-2.ensures refl

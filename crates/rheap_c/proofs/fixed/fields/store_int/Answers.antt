@@ -22,4 +22,4 @@ pub returns-in-None : goal.returns-in-None
 returns-in-None c =
     let fits : FitsSigned w64 c.args.number = search rules in
     subst (λ (n : ℤ). IsDone c.args.heap.now.state c.store_int_at_length.new.heap.state c.args.owner (Store (root_of c.args.object) c.args.field (Int n)) c.store_int_at_length.result) (to_z-of_z w64 c.args.number fits)
-    (again-done _ _ _ c.is_empty.ensures.kept c.here.ensures.value _ c.in-None.ensures.nothing _ _ _ _ c.store_int_at_length.ensures)
+    (again-done _ _ _ c.is_empty.ensures.kept c.here.ensures.value _ c.in-None.ensures.nothing _ _ _ _ (rw (c.of.ensures) at c.store_int_at_length.ensures))

@@ -14,4 +14,4 @@ pub returns-in-Some : goal.returns-in-Some
 returns-in-Some c = lent-done _ _ _ c.is_empty.ensures.kept c.here.ensures.value _ _ _ _ c.in-Some.ensures.done _ refl _ (λ k. Store (c.id.ensures k) c.args.field Nil)
 
 pub returns-in-None : goal.returns-in-None
-returns-in-None c = again-done _ _ _ c.is_empty.ensures.kept c.here.ensures.value _ c.in-None.ensures.nothing _ _ _ _ c.store_nil_at_length.ensures
+returns-in-None c = again-done _ _ _ c.is_empty.ensures.kept c.here.ensures.value _ c.in-None.ensures.nothing _ _ _ _ (rw (c.of.ensures) at c.store_nil_at_length.ensures)

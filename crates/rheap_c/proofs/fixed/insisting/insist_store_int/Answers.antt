@@ -22,4 +22,4 @@ pub returns-in-None : goal.returns-in-None
 returns-in-None c =
     let fits : FitsSigned w64 c.args.number = search rules in
     subst (λ (n : ℤ). IsInsisted c.args.heap.now.state c.insist_store_int_at_length.new.heap.state c.args.owner (Store (root_of c.args.object) c.args.field (Int n)) c.insist_store_int_at_length.result) (to_z-of_z w64 c.args.number fits)
-    (again-insisted _ _ _ c.is_empty.ensures.kept c.here.ensures.value _ c.in-None.ensures.nothing _ _ _ _ c.insist_store_int_at_length.ensures)
+    (again-insisted _ _ _ c.is_empty.ensures.kept c.here.ensures.value _ c.in-None.ensures.nothing _ _ _ _ (rw (c.of.ensures) at c.insist_store_int_at_length.ensures))

@@ -13,4 +13,4 @@ pub returns-in-Some : goal.returns-in-Some
 returns-in-Some c = lent-insisted _ _ _ c.is_empty.ensures.kept c.here.ensures.value _ _ _ _ c.in-Some.ensures.done _ (λ k. Store (c.id.ensures k) c.args.field Nil)
 
 pub returns-in-None : goal.returns-in-None
-returns-in-None c = again-insisted _ _ _ c.is_empty.ensures.kept c.here.ensures.value _ c.in-None.ensures.nothing _ _ _ _ c.insist_store_nil_at_length.ensures
+returns-in-None c = again-insisted _ _ _ c.is_empty.ensures.kept c.here.ensures.value _ c.in-None.ensures.nothing _ _ _ _ (rw (c.of.ensures) at c.insist_store_nil_at_length.ensures)

@@ -4,4 +4,4 @@ use Rattle.rheap_c.proofs.SharedSlots.{shared-insisted}
 use Rattle.rheap_c.proofs.fixed.shared.insist_store_nil_at_length.Goals as goal
 
 pub returns : goal.returns
-returns c = shared-insisted _ _ (λ k. Store (c.crossing.ensures k) c.args.field Nil) _ _ _ c.insist_store_nil_at_length.ensures
+returns c = shared-insisted _ _ (λ k. Store (c.shared.ensures k) c.args.field Nil) _ _ _ c.insist_store_nil_at_length.ensures

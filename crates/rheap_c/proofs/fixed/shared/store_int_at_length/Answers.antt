@@ -8,4 +8,4 @@ use Rattle.rheap_c.proofs.fixed.shared.store_int_at_length.Goals as goal
 pub returns : goal.returns
 returns c =
     let fits : FitsSigned w64 c.args.number = search rules in
-    shared-done _ _ (λ k. Store (c.crossing.ensures k) c.args.field (Int (to_z-of_z w64 c.args.number fits k))) _ _ _ c.store_int_at_length.ensures
+    shared-done _ _ (λ k. Store (c.shared.ensures k) c.args.field (Int (to_z-of_z w64 c.args.number fits k))) _ _ _ c.store_int_at_length.ensures

@@ -4,4 +4,4 @@ use Rattle.rheap_c.proofs.SharedSlots.{shared-done}
 use Rattle.rheap_c.proofs.fixed.shared.store_root_at_length.Goals as goal
 
 pub returns : goal.returns
-returns c = shared-done _ _ (λ k. Store (c.crossing.ensures k) c.args.field (Root (c.crossing-2.ensures k))) _ _ _ c.store_root_at_length.ensures
+returns c = shared-done _ _ (λ k. Store (c.shared.ensures k) c.args.field (Root (c.shared-2.ensures k))) _ _ _ c.store_root_at_length.ensures

@@ -3,4 +3,4 @@ use Rattle.rheap_c.proofs.SharedSlots.{shared-grown_done}
 use Rattle.rheap_c.proofs.growing.shared.drop_root.Goals as goal
 
 pub returns : goal.returns
-returns c = shared-grown_done _ _ (λ k. Drop (c.crossing.ensures k)) _ _ _ c.drop_root.ensures
+returns c = shared-grown_done _ _ (λ k. Drop (c.shared.ensures k)) _ _ _ c.drop_root.ensures

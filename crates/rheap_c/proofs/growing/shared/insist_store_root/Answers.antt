@@ -4,4 +4,4 @@ use Rattle.rheap_c.proofs.SharedSlots.{shared-grown_insisted}
 use Rattle.rheap_c.proofs.growing.shared.insist_store_root.Goals as goal
 
 pub returns : goal.returns
-returns c = shared-grown_insisted _ _ (λ k. Store (c.crossing.ensures k) c.args.field (Root (c.crossing-2.ensures k))) _ _ _ c.insist_store_root.ensures
+returns c = shared-grown_insisted _ _ (λ k. Store (c.shared.ensures k) c.args.field (Root (c.shared-2.ensures k))) _ _ _ c.insist_store_root.ensures

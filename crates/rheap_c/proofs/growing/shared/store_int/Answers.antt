@@ -8,4 +8,4 @@ use Rattle.rheap_c.proofs.growing.shared.store_int.Goals as goal
 pub returns : goal.returns
 returns c =
     let fits : FitsSigned w64 c.args.number = search rules in
-    shared-grown_done _ _ (λ k. Store (c.crossing.ensures k) c.args.field (Int (to_z-of_z w64 c.args.number fits k))) _ _ _ c.store_int.ensures
+    shared-grown_done _ _ (λ k. Store (c.shared.ensures k) c.args.field (Int (to_z-of_z w64 c.args.number fits k))) _ _ _ c.store_int.ensures

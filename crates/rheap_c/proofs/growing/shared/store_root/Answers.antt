@@ -4,4 +4,4 @@ use Rattle.rheap_c.proofs.SharedSlots.{shared-grown_done}
 use Rattle.rheap_c.proofs.growing.shared.store_root.Goals as goal
 
 pub returns : goal.returns
-returns c = shared-grown_done _ _ (λ k. Store (c.crossing.ensures k) c.args.field (Root (c.crossing-2.ensures k))) _ _ _ c.store_root.ensures
+returns c = shared-grown_done _ _ (λ k. Store (c.shared.ensures k) c.args.field (Root (c.shared-2.ensures k))) _ _ _ c.store_root.ensures
