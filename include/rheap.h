@@ -39,9 +39,9 @@
  *   store_int            58     peek, field       60, 56       insist_store_roots     401
  *   store_nil            51     root, room        59, 22       drop_roots              88
  *   copy, drop       41, 30     same                  45     load_path, 3 fields      247
- *   143 numbers: store_ints  2,927, load_ints  2,373     watch and unwatch            114
+ *   143 numbers: store_ints  2,999, load_ints  2,373     watch and unwatch            114
  *   1,000 bytes: store_text  2,775, load_text  3,727     next_gone, none gone          26
- *   make of 2 values, 6 values    193, 339               store_row of 4 values        407
+ *   make of 2 values, 6 values    188, 330               store_row of 4 values        407
  *   by number, rheap_shared_*: alloc 72, load 58 to 61, load_untold 42, stores 41 to 52, copy 27,
  *     drop 19, peek 49
  *   resize, resize_sized          231, 242, where they ask for no memory
