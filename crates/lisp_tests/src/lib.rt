@@ -10,4 +10,6 @@ mod programs;
 #[cfg(test)]
 mod sessions;
 #[cfg(test)]
+mod several;
+#[cfg(test)]
 mod texts;

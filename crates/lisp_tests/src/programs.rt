@@ -423,10 +423,6 @@ const FAULTS: &[(&[u8], &[u8])] = &[
         b"1:1: import: not in this Scheme",
     ),
     (
-        b"1 (let-values (((a b) (f))) a)",
-        b"1:3: let-values: not in this Scheme",
-    ),
-    (
         b"(define-syntax a (syntax-rules ()))",
         b"1:1: define-syntax: not in this Scheme",
     ),
@@ -443,11 +439,6 @@ const FAULTS: &[(&[u8], &[u8])] = &[
     (
         b"(syntax-error a)",
         b"1:1: syntax-error: not in this Scheme",
-    ),
-    (b"(let*-values a)", b"1:1: let*-values: not in this Scheme"),
-    (
-        b"(define-values a)",
-        b"1:1: define-values: not in this Scheme",
     ),
     (
         b"(define-record-type a)",
@@ -632,7 +623,7 @@ fn programs_print_the_same_where_the_heap_keeps_its_size(rt: HostRuntime) {
 }
 
 /// Runs each of these programs, and ends the test unless it has the message beside it.
-fn expect_stops<R: AllocGlobal + Abort>(rt: &R, programs: &[(&[u8], &[u8])]) {
+pub fn expect_stops<R: AllocGlobal + Abort>(rt: &R, programs: &[(&[u8], &[u8])]) {
     for (row, &(text, due)) in programs.iter().enumerate() {
         expect_run(&Row { rt, row }, text, None, due);
     }
@@ -644,7 +635,7 @@ fn programs_stop_where_their_messages_say(rt: HostRuntime) {
 }
 
 /// Ends the test unless each of these texts has the fault beside it.
-fn expect_faults<R: AllocGlobal + Abort>(rt: &R, texts: &[(&[u8], &[u8])]) {
+pub fn expect_faults<R: AllocGlobal + Abort>(rt: &R, texts: &[(&[u8], &[u8])]) {
     for (row, &(text, due)) in texts.iter().enumerate() {
         let rt = Row { rt, row };
         let fault = fault_of(rt.alloc(), text, 1_000, 400_000);

@@ -87,6 +87,8 @@ fn of_failure(why: Why) -> &'static str {
         Why::User => "the program ended by error",
         Why::List => "a list is due here, as (list 1 2)",
         Why::Symbol => "a symbol is due here, as 'a",
+        Why::Record => "a record is due here, of the type to which the procedure belongs",
+        Why::Values => "the form takes more values, or fewer",
     }
 }
 
