@@ -444,13 +444,6 @@ const FAULTS: &[(&[u8], &[u8])] = &[
         b"(define-record-type a)",
         b"1:1: define-record-type: not in this Scheme",
     ),
-    (
-        b"(parameterize a)",
-        b"1:1: parameterize: not in this Scheme",
-    ),
-    (b"(delay a)", b"1:1: delay: not in this Scheme"),
-    (b"(delay-force a)", b"1:1: delay-force: not in this Scheme"),
-    (b"(case-lambda a)", b"1:1: case-lambda: not in this Scheme"),
     (b"(include a)", b"1:1: include: not in this Scheme"),
     (b"(include-ci a)", b"1:1: include-ci: not in this Scheme"),
     (b"(cond-expand a)", b"1:1: cond-expand: not in this Scheme"),

@@ -89,6 +89,7 @@ fn of_failure(why: Why) -> &'static str {
         Why::Symbol => "a symbol is due here, as 'a",
         Why::Record => "a record is due here, of the type to which the procedure belongs",
         Why::Values => "the form takes more values, or fewer",
+        Why::Parameter => "a parameter is due here: make-parameter makes one",
     }
 }
 
