@@ -440,10 +440,6 @@ const FAULTS: &[(&[u8], &[u8])] = &[
         b"(syntax-error a)",
         b"1:1: syntax-error: not in this Scheme",
     ),
-    (
-        b"(define-record-type a)",
-        b"1:1: define-record-type: not in this Scheme",
-    ),
     (b"(include a)", b"1:1: include: not in this Scheme"),
     (b"(include-ci a)", b"1:1: include-ci: not in this Scheme"),
     (b"(cond-expand a)", b"1:1: cond-expand: not in this Scheme"),
