@@ -10,6 +10,8 @@ mod procedures;
 #[cfg(test)]
 mod programs;
 #[cfg(test)]
+mod raising;
+#[cfg(test)]
 mod records;
 #[cfg(test)]
 mod sessions;

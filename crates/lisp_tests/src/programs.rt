@@ -426,7 +426,6 @@ const FAULTS: &[(&[u8], &[u8])] = &[
         b"(define-syntax a (syntax-rules ()))",
         b"1:1: define-syntax: not in this Scheme",
     ),
-    (b"(guard (e (#t 1)) 2)", b"1:1: guard: not in this Scheme"),
     (b"(let-syntax a)", b"1:1: let-syntax: not in this Scheme"),
     (
         b"(letrec-syntax a)",
