@@ -379,8 +379,8 @@ Procedures  of R7RS small those on whole numbers, booleans, pairs and lists, sym
             values
 
 What differs from R7RS: numbers are whole, and what passes them is an error. Vectors and strings
-have at most 4094 elements. There are no macros, no ports and no dynamic-wind. A continuation that
-is entered again finds the variables of its function as they are. docs/lisp.md has the rest.
+have at most 4094 elements. There are no macros, no ports and no dynamic-wind. docs/lisp.md has the
+rest.
 
 What the program prints is written once it has ended, at most 1048576 characters and names. It has
 no input. A name that it defines or sets is its own, and the procedures of the language go on
