@@ -280,6 +280,10 @@ static void mistakes(rheap *heap) {
     IS(rheap_alloc_raw(heap, 1, mine, 4096), FIELDS_RANGE);
     IS(rheap_insist_alloc(heap, 1, mine, 4096), FIELDS_RANGE);
     IS(rheap_insist_alloc_raw(heap, 1, mine, UINT32_MAX), FIELDS_RANGE);
+    IS(rheap_shared_alloc(heap, 0, 4096), FIELDS_RANGE);
+    IS(rheap_shared_alloc_raw(heap, 0, 4096), FIELDS_RANGE);
+    IS(rheap_shared_insist_alloc(heap, 0, 4096), FIELDS_RANGE);
+    IS(rheap_shared_insist_alloc_raw(heap, 0, UINT32_MAX), FIELDS_RANGE);
     IS(rheap_alloc(heap, 1, no_slot, 4096), NO_ROOT);
     IS(rheap_alloc_raw(heap, 1, theirs, 4096), NOT_YOURS);
     IS(rheap_insist_alloc(heap, 1, theirs, 4096), NOT_YOURS);
@@ -352,6 +356,9 @@ static void mistakes_in_a_row(rheap *heap) {
     rheap_stats after;
     int64_t numbers[4] = {1, 2, 3, 4};
     int64_t bad[3] = {1, RHEAP_MAX_INT + 1, 3};
+    uint32_t steps[2] = {3, 0};
+    size_t done = 7;
+    rheap_value value = junk_value();
     uint32_t count = 7;
 
     IS(rheap_drop(heap, 1, mine), DONE);
@@ -366,6 +373,13 @@ static void mistakes_in_a_row(rheap *heap) {
     READS_NOTHING(1, theirs, 0, 2, NOT_YOURS);
     IS(rheap_store_ints(heap, 1, mine, 0, numbers, 2), NOT_OBJECT);
     IS(rheap_insist_store_ints(heap, 1, mine, 0, numbers, 2), NOT_OBJECT);
+    IS(rheap_insist_store_text(heap, 1, no_slot, 0, "a", 1), NO_ROOT);
+    IS(rheap_insist_store_text(heap, 1, theirs, 0, "a", 1), NOT_YOURS);
+    IS(rheap_insist_store_text(heap, 1, mine, 0, "a", 1), NOT_OBJECT);
+    IS(rheap_store_roots(heap, 1, theirs, 0, mine, 1, &done), NOT_YOURS);
+    IS(rheap_store_roots(heap, 1, mine, 0, mine, 1, &done), NOT_OBJECT);
+    IS(rheap_insist_store_roots(heap, 1, no_slot, 0, mine, 1, &done), NO_ROOT);
+    IS(rheap_insist_store_roots(heap, 1, mine, 0, mine, 1, &done), NOT_OBJECT);
     IS(rheap_store_ints(heap, 1, mine, 0, bad + 1, 1), NOT_OBJECT);
     READS_NOTHING(1, mine, 0, 2, NOT_OBJECT);
     READS_NOTHING(1, mine, 0, RHEAP_MAX_FIELDS + 2, NOT_OBJECT);
@@ -378,6 +392,10 @@ static void mistakes_in_a_row(rheap *heap) {
     /* Past the last field, of an object and of a raw one. Of two mistakes the first field's comes. */
     IS(rheap_alloc(heap, 1, mine, 3), DONE);
     IS(rheap_alloc_raw(heap, 1, raw, 3), DONE);
+    IS(rheap_insist_store_roots(heap, 1, raw, 0, mine, 1, &done), RAW_FIELD);
+    IS(rheap_load_path(heap, 1, raw, mine, steps, 2, &done, &value), NO_FIELD);
+    EQUALS(done, 0);
+    TELLS(value, RHEAP_NIL, 0, 0);
     IS(rheap_store_ints(heap, 1, mine, 0, numbers, 4), NO_FIELD);
     IS(rheap_insist_store_ints(heap, 1, mine, 0, numbers, 4), NO_FIELD);
     IS(rheap_store_ints(heap, 1, mine, 3, numbers, 1), NO_FIELD);
@@ -653,9 +671,11 @@ static void limits(void) {
     rheap_root_id cell = rheap_slot(0, 1);
     rheap_stats stats;
     rheap_words words;
+    rheap_init values[1];
     uint8_t status;
     int n;
 
+    values[0] = rheap_of_int(1);
     /* 1,000 words at the lowest ratio, of which 10 were to live: a list of cells of 4 words. */
     IS(rheap_open(&heap, 1000, 10, 4, 4, 1, 2), DONE);
     if (heap.at == NULL) {
@@ -666,6 +686,11 @@ static void limits(void) {
     fill_log(&heap, list, cell);
     IS(rheap_store_nil(&heap, 0, list, 0), LOG_FULL);
     IS(rheap_store_root(&heap, 0, list, 0, list), LOG_FULL);
+    IS(rheap_shared_store_nil(&heap, 0, 0), LOG_FULL);
+    IS(rheap_shared_store_int(&heap, 0, 0, 1), LOG_FULL);
+    IS(rheap_shared_store_root(&heap, 0, 0, 0), LOG_FULL);
+    IS(rheap_make(&heap, 0, cell, 2, values, 1), LOG_FULL);
+    IS(rheap_make_raw(&heap, 0, cell, 2, values, 1), LOG_FULL);
     IS(rheap_insist_store_int(&heap, 0, list, 0, 1), DONE);
     fill_log(&heap, list, cell);
     IS(rheap_insist_store_nil(&heap, 0, list, 0), DONE);
@@ -693,6 +718,8 @@ static void limits(void) {
     IS(rheap_alloc(&heap, 0, cell, 2), SPACE_FULL);
     IS(rheap_alloc_raw(&heap, 0, cell, 2), SPACE_FULL);
     IS(rheap_insist_alloc_raw(&heap, 0, cell, 2), SPACE_FULL);
+    IS(rheap_shared_insist_alloc_raw(&heap, 1, 2), SPACE_FULL);
+    IS(rheap_make_raw(&heap, 0, cell, 2, values, 1), SPACE_FULL);
 
     /* Once the list is let go there is room again. */
     IS(rheap_drop(&heap, 0, list), DONE);
