@@ -188,6 +188,32 @@ const PROGRAMS: &[(&[u8], &[u8])] = &[
         b"(define (f x) (define (g) (define x 3) (let* ((x 4) (x (+ x 1))) (display x)) x) (list x (g) x)) (display (f 1))",
         b"5(1 3 1)",
     ),
+    // A continuation that is entered again finds what was there before: operands, variables, and boxes of those that are set.
+    (
+        b"(define n 0) (define (put c) (display c) (set! n (+ n 1))) (call/cc (lambda (end) (let* ((yin ((lambda (c) (if (> n 17) (end 0)) (put #\\@) c) (call/cc (lambda (c) c)))) (yang ((lambda (c) (put #\\*) c) (call/cc (lambda (c) c))))) (yin yang))))",
+        b"@*@**@***@****@*****",
+    ),
+    (
+        b"(define kept '()) (define (choose l) (call/cc (lambda (k) (for-each (lambda (x) (set! kept (append kept (list (lambda () (k x)))))) (cdr l)) (car l)))) (define all '()) (define (go) (let* ((a (choose '(1 2))) (b (choose '(a b)))) (set! all (cons (list a b) all)) (if (pair? kept) (let ((next (car kept))) (set! kept (cdr kept)) (next))) (reverse all))) (write (go))",
+        b"((1 a) (2 a) (1 b) (2 b))",
+    ),
+    (
+        b"(define k #f) (define fs '()) (define (go) (let ((x (call/cc (lambda (c) (set! k c) 1)))) (set! fs (cons (lambda () x) fs)) (if (null? (cdr fs)) (k 2)) (map (lambda (f) (f)) fs))) (write (go))",
+        b"(2 1)",
+    ),
+    (
+        b"(define k #f) (define (go) (let ((turns 0)) (let ((a 1) (b (call/cc (lambda (c) (set! k c) 1)))) (set! a (+ a 1)) (set! turns (+ turns 1)) (write (list a b turns)) (if (< turns 3) (k (+ b 10))) turns))) (write (go))",
+        b"(2 1 1)(2 11 2)(2 21 3)3",
+    ),
+    (
+        b"(define (go) (define (g) (h)) (define x (call/cc (lambda (c) c))) (define (h) (if (procedure? x) 'first x)) (write (g)) (if (procedure? x) (x 5) 'done)) (write (go))",
+        b"first5done",
+    ),
+    // What was read before is written where one is entered again: it goes on with a copy.
+    (
+        b"(define k #f) (define n 0) (define (id x) x) (define (two a b) (+ (id (+ a n)) (id (* b 10)))) (define (go) (let ((x (id 3))) (let ((y (+ (id x) (call/cc (lambda (c) (set! k c) 1))))) (set! n (+ n 1)) (write (list x y (two x y) (two y x)))) (let ((z (two x 2)) (w (id 7))) (if (< n 3) (k n)) (list x z w)))) (write (go))",
+        b"(3 4 44 35)(3 4 45 36)(3 5 56 38)(3 26 7)",
+    ),
 ];
 
 /// Programs that make many more objects than the heap of one size has words, and what they print.
@@ -215,32 +241,6 @@ const COLLECTED: &[(&[u8], &[u8])] = &[
     (
         b"(define k #f) (define n 0) (define (go) (let ((s (+ 1 (call/cc (lambda (c) (set! k c) 1))))) (set! n (+ n 1)) (if (< n 150) (k (car (list n n n n n n n n))) (list n s)))) (write (go))",
         b"(150 150)",
-    ),
-    // It finds what was there before: operands, variables, and boxes of those that are set.
-    (
-        b"(define n 0) (define (put c) (display c) (set! n (+ n 1))) (call/cc (lambda (end) (let* ((yin ((lambda (c) (if (> n 17) (end 0)) (put #\\@) c) (call/cc (lambda (c) c)))) (yang ((lambda (c) (put #\\*) c) (call/cc (lambda (c) c))))) (yin yang))))",
-        b"@*@**@***@****@*****",
-    ),
-    (
-        b"(define kept '()) (define (choose l) (call/cc (lambda (k) (for-each (lambda (x) (set! kept (append kept (list (lambda () (k x)))))) (cdr l)) (car l)))) (define all '()) (define (go) (let* ((a (choose '(1 2))) (b (choose '(a b)))) (set! all (cons (list a b) all)) (if (pair? kept) (let ((next (car kept))) (set! kept (cdr kept)) (next))) (reverse all))) (write (go))",
-        b"((1 a) (1 b) (2 a) (2 b))",
-    ),
-    (
-        b"(define k #f) (define fs '()) (define (go) (let ((x (call/cc (lambda (c) (set! k c) 1)))) (set! fs (cons (lambda () x) fs)) (if (null? (cdr fs)) (k 2)) (map (lambda (f) (f)) fs))) (write (go))",
-        b"(2 1)",
-    ),
-    (
-        b"(define k #f) (define (go) (let ((turns 0)) (let ((a 1) (b (call/cc (lambda (c) (set! k c) 1)))) (set! a (+ a 1)) (set! turns (+ turns 1)) (write (list a b turns)) (if (< turns 3) (k (+ b 10))) turns))) (write (go))",
-        b"(2 1 1)(2 11 2)(2 21 3)3",
-    ),
-    (
-        b"(define (go) (define (g) (h)) (define x (call/cc (lambda (c) c))) (define (h) (if (procedure? x) 'first x)) (write (g)) (if (procedure? x) (x 5) 'done)) (write (go))",
-        b"first5done",
-    ),
-    // What was read before is written where it is entered again: it goes on with a copy.
-    (
-        b"(define k #f) (define n 0) (define (id x) x) (define (two a b) (+ (id (+ a n)) (id (* b 10)))) (define (go) (let ((x (id 3))) (let ((y (+ (id x) (call/cc (lambda (c) (set! k c) 1))))) (set! n (+ n 1)) (write (list x y (two x y) (two y x)))) (let ((z (two x 2)) (w (id 7))) (if (< n 3) (k n)) (list x z w)))) (write (go))",
-        b"(3 4 44 35)(3 4 45 36)(3 5 56 38)(3 26 7)",
     ),
     // Vectors and strings.
     (
