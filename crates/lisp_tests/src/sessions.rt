@@ -38,6 +38,18 @@ const ENTRIES: &[(&[u8], &[u8])] = &[
     (b"'(3) (eq? r (p))", b"(3)\n#t\n"),
     (b"; nothing", b""),
     (b"(define (%tell x) 'mine) (g '7)", b"14\n"),
+    (
+        b"(define p (make-parameter 1)) (define-values (x y) (values 2 3))",
+        b"",
+    ),
+    (
+        b"(define-record-type cell (make-cell v) cell? (v value)) (define c (make-cell x))",
+        b"",
+    ),
+    (
+        b"(list (value c) (cell? 5) c) (guard (e (#t e)) (raise y))",
+        b"(2 #f #<cell>)\n3\n",
+    ),
 ];
 
 /// Entries that need what those before them made, wherever its code stands, and what each prints.
@@ -62,6 +74,19 @@ const TOLD: &[(&[u8], &[u8])] = &[
     (b"(define (g x) (- x 1))", b""),
     // It may be in f or in g now.
     (b"(f 1152921504606846975)", b"p:1:15: overflow"),
+    (b"(define p (make-parameter 1))", b""),
+    (
+        b"(parameterize ((p 2)) (dynamic-wind list (lambda () (with-exception-handler list (lambda () (car 5)))) (lambda () (error \"after\"))))",
+        b"p:1:93: car: not a pair",
+    ),
+    // The entry that stopped has left neither handlers nor the values of parameters.
+    (b"(error \"p\" (p))", b"p:1:1: p 1"),
+    (b"(define k #f) (call/cc (lambda (c) (set! k c)))", b""),
+    (
+        b"(dynamic-wind list (lambda () (car 5)) car)",
+        b"p:1:31: car: not a pair",
+    ),
+    (b"(k 1)", b""),
 ];
 
 /// Texts, and what a session takes each for.

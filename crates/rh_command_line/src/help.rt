@@ -369,18 +369,20 @@ The file is a program of a small Scheme, a part of R7RS. It runs on a heap that 
 and prints the same on each heap that is large enough.
 
 Values      whole numbers from -2^60 to 2^60 - 1, booleans, characters of a byte, symbols, pairs,
-            strings, vectors, procedures
+            strings, vectors, procedures, records, promises
 Forms       define lambda if cond case and or when unless let, named let, let* letrec letrec* do
-            begin set! quote quasiquote import
+            begin set! quote quasiquote import let-values let*-values define-values case-lambda
+            delay delay-force parameterize guard define-record-type
 Procedures  of R7RS small those on whole numbers, booleans, pairs and lists, symbols, characters,
             strings and vectors, but for / and what else may give a fraction, as sqrt; eq? eqv?
-            equal? procedure? apply map for-each call/cc, display write newline write-char
-            write-string write-simple and error. Not string->symbol, nor what makes or takes several
-            values
+            equal? procedure? apply map for-each call/cc, values call-with-values dynamic-wind exit
+            emergency-exit, force make-promise promise? make-parameter, raise raise-continuable
+            with-exception-handler error and error-object?, with its -message and -irritants,
+            display write newline write-char write-string write-simple. Not string->symbol
 
 What differs from R7RS: numbers are whole, and what passes them is an error. Vectors and strings
-have at most 4094 elements. There are no macros, no ports and no dynamic-wind. docs/lisp.md has the
-rest.
+have at most 4094 elements. There are no macros and no ports. What the language itself finds wrong
+isn't raised, so no handler hears of it. docs/lisp.md has the rest.
 
 What the program prints is written once it has ended, at most 1048576 characters and names. It has
 no input. A name that it defines or sets is its own, and the procedures of the language go on
@@ -422,16 +424,17 @@ always on a terminal, the line of the program comes after it, carets under the f
 stand there. So are told
 
   unbound variable, not a pair, not a list, not a number, not a procedure, not a vector,
-  not a string, not a character, not a symbol, wrong number of arguments, too many arguments,
-  out of range, division by zero, overflow, heap exhausted, steps spent, too much output, and the
-  text that `error` was given
+  not a string, not a character, not a symbol, not a parameter, not such a record, wrong number of
+  arguments, wrong number of values, too many arguments, out of range, division by zero, overflow,
+  heap exhausted, steps spent, too much output, the text that `error` was given, and `uncaught:`
+  with what else was raised
 
 A text that is no program is told in the same way, before anything runs:
 
   unexpected ), unfinished, misplaced dot, number out of range, no such number, no such name,
   no such escape, no such datum, bad form, not a name, too many globals, too many variables,
-  too many elements, program too long, and `guard: not in this Scheme` of a form of R7RS that isn't
-  there
+  too many elements, program too long, and `define-syntax: not in this Scheme` of a form of R7RS
+  that isn't there
 
 On other failures standard error has one line, as `rheap: open failed`, or `rheap: OUT is ..` where
 OUT is FILE or where standard output or error goes, by another name; of the heap
