@@ -110,6 +110,18 @@ const PROGRAMS: &[(&[u8], &[u8])] = &[
         b"\"tab\\tline\\nquote\\\"back\\\\slashAend\"8",
     ),
     (
+        b"(write '(#XFF #x-ff #b-101 #B11 #o17 #O7 #d10 #D+10 #T #F #TRUE #False #\\X41 #\\|))",
+        b"(255 -255 -5 3 15 7 10 10 #t #f #t #f #\\A #\\|)",
+    ),
+    (
+        b"(write \"bar\\|\\X41;on \\ \t\n \t over \\\r\n and \\\r over\")",
+        b"\"bar|Aon over and over\"",
+    ),
+    (
+        b"(define |a b| 1) (write (+ |a b| 1)) (write (eq? '|a\\x62;c| 'abc)) (display '(|a;(\\|\"| a|b|c ||))",
+        b"2#t(a;(|\" a b c )",
+    ),
+    (
         b"(define x 5) (write `(1 #(2 ,x ,@(list 3 4)) ,@'() . ,x)) (write `#(,x))",
         b"(1 #(2 5 3 4) . 5)#(5)",
     ),
@@ -418,7 +430,13 @@ const FAULTS: &[(&[u8], &[u8])] = &[
     (b"(+ -.5 1)", b"1:4: no such number"),
     (b"#xg", b"1:1: no such number"),
     (b"#x1000000000000000", b"1:1: number out of range"),
-    (b"(car |a b|)", b"1:6: no such name"),
+    (b"#b102", b"1:1: no such number"),
+    (b"#o8", b"1:1: no such number"),
+    (b"(write #b)", b"1:8: no such number"),
+    (b"#trues", b"1:1: no such datum"),
+    (b" |a b", b"1:2: unfinished"),
+    (b"'|a\\qb|", b"1:2: no such escape"),
+    (b"\"a\\ b\"", b"1:1: no such escape"),
     (b"#\\nosuch", b"1:1: no such datum"),
     (b"\"a\\qb\"", b"1:1: no such escape"),
     (b"\"a\\x41\"", b"1:1: no such escape"),

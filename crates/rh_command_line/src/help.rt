@@ -431,10 +431,9 @@ stand there. So are told
 
 A text that is no program is told in the same way, before anything runs:
 
-  unexpected ), unfinished, misplaced dot, number out of range, no such number, no such name,
-  no such escape, no such datum, bad form, not a name, too many globals, too many variables,
-  too many elements, program too long, and `define-syntax: not in this Scheme` of a form of R7RS
-  that isn't there
+  unexpected ), unfinished, misplaced dot, number out of range, no such number, no such escape,
+  no such datum, bad form, not a name, too many globals, too many variables, too many elements,
+  program too long, and `define-syntax: not in this Scheme` of a form of R7RS that isn't there
 
 On other failures standard error has one line, as `rheap: open failed`, or `rheap: OUT is ..` where
 OUT is FILE or where standard output or error goes, by another name; of the heap

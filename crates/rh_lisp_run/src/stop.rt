@@ -113,8 +113,8 @@ fn of_reading(kind: ReadKind) -> &'static str {
         ReadKind::Dot => "a dot stands before the last datum of a list, as (1 . 2)",
         ReadKind::Range => "numbers are from -2^60 to 2^60 - 1",
         ReadKind::Number => "numbers are whole: digits, after one sign at most",
-        ReadKind::Name => "a name has no |",
-        ReadKind::Escape => "after \\ in a string stands n, t, r, a, b, \", \\, x41; or a line end",
+        ReadKind::Escape =>
+            "after \\ in a string stands n, t, r, a, b, \", \\, |, x41; or a line end",
         ReadKind::Datum => "after # stands t, f, a vector as (1 2), or a character as \\a",
         ReadKind::Long | ReadKind::OutOfMemory => "the text is too long",
     }

@@ -205,7 +205,7 @@ const EXPLAINED: &[(&[u8], &[u8])] = &[
     ),
     (
         b"(list 1 \"\\q\"nosuch)",
-        b"p:1:9: no such escape\n1 | (list 1 \"\\q\"nosuch)\n            ^^^^\nafter \\ in a string stands n, t, r, a, b, \", \\, x41; or a line end\n",
+        b"p:1:9: no such escape\n1 | (list 1 \"\\q\"nosuch)\n            ^^^^\nafter \\ in a string stands n, t, r, a, b, \", \\, |, x41; or a line end\n",
     ),
 ];
 
