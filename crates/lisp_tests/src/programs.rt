@@ -210,6 +210,10 @@ const PROGRAMS: &[(&[u8], &[u8])] = &[
         b"((1 a) (2 a) (1 b) (2 b))",
     ),
     (
+        b"(define kept '()) (define (keep k) (set! kept (append kept (list k)))) (define (next) (let ((k (car kept))) (set! kept (cdr kept)) (k))) (define all '()) (define (choose l) (call/cc (lambda (k) (for-each (lambda (x) (keep (lambda () (k x)))) l) (next)))) (define (go) (let* ((a (choose '(1 2))) (b (choose '(a b)))) (set! all (cons (list a b) all)) (if (pair? kept) (next)) (reverse all))) (write (go))",
+        b"((1 a) (1 b) (2 a) (2 b))",
+    ),
+    (
         b"(define k #f) (define fs '()) (define (go) (let ((x (call/cc (lambda (c) (set! k c) 1)))) (set! fs (cons (lambda () x) fs)) (if (null? (cdr fs)) (k 2)) (map (lambda (f) (f)) fs))) (write (go))",
         b"(2 1)",
     ),
