@@ -96,6 +96,7 @@ const FAULTS: &[(&[u8], &[u8])] = &[
     (b"(case-lambda ((a a) 1))", b"1:1: bad form"),
     (b"(delay)", b"1:1: bad form"),
     (b"(delay 1 2)", b"1:1: bad form"),
+    (b"(delay (define x 1))", b"1:8: bad form"),
     (b"(delay-force)", b"1:1: bad form"),
     (b"(parameterize)", b"1:1: bad form"),
     (b"(parameterize ((a)) 1)", b"1:1: bad form"),
