@@ -4,6 +4,8 @@
 #[cfg(test)]
 mod expectations;
 #[cfg(test)]
+mod handed_back;
+#[cfg(test)]
 mod later;
 #[cfg(test)]
 mod procedures;

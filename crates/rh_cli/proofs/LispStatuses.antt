@@ -7,7 +7,7 @@ use Rattle.rh_machine.specs.declared.ending.Ending.TheVariants.{Halted}
 use Rattle.rh_lisp.specs.declared.outcome.Outcome.{Outcome}
 use Rattle.rh_lisp.specs.declared.outcome.Outcome.TheVariants.{Finished, Stopped}
 use Rattle.rh_lisp_run.specs.Cycling.{LispCyclesEnd, RunsWithCycles}
-use Rattle.rh_lisp_run.specs.Run.{IsNewMachine, IsRun, LispEnds}
+use Rattle.rh_lisp_run.specs.Run.{IsRun, LispEnds, as_new}
 use Rattle.rh_lisp_run.specs.Session.{GoesOn, SessionEnds}
 use Rattle.rh_lisp_run.specs.declared.fault.LispFault.{LispFault}
 use Rattle.rh_lisp_run.specs.declared.fault.LispFault.TheVariants as lisp_faults
@@ -36,18 +36,18 @@ lisp_is_0_1_or_3 (Err fault) status is = inr (rw is (lisp_fault_is_1_or_3 fault)
 pub lisp_fault_is_not_0 : (fault : LispFault) → 0 ≡ lisp_status fault → ⊥
 lisp_fault_is_not_0 fault is = elim (lisp_fault_is_1_or_3 fault) [ inl one ↦ omega (arith, is ∙ one) | inr three ↦ omega (arith, is ∙ three) ]
 
-pub lisp_is_0 : (outcome : Result Outcome LispFault) (steps : ℕ) (input : List ℕ) (old new : Option (List ℕ)) → LispEnds (λ o. o) steps input outcome old new → IsLispStatus outcome 0
-    → (begun : ProgramState) × (ended : ProgramState) × IsNewMachine steps begun.machine × IsRun begun ended × (ended.machine.ended ≡ Some Halted) × Appends old new (output_text ended)
-lisp_is_0 (Ok Finished) steps input old new ends is =
+pub lisp_is_0 : (ran : Result (Outcome × ProgramState) LispFault) (steps : ℕ) (input : List ℕ) (old new : Option (List ℕ)) → LispEnds (λ r. r) steps input ran old new → IsLispStatus (outcome_in (λ r. r.0) ran) 0
+    → (program : ProgramState) × IsRun (as_new steps program) program × (program.machine.ended ≡ Some Halted) × Appends old new (output_text program)
+lisp_is_0 (Ok (Finished, program)) steps input old new ends is =
     let run = ends.1 in
-    (run.0, run.1, run.2, run.3.0, run.3.1.0.0 refl, run.3.2)
-lisp_is_0 (Ok (Stopped problem source position)) steps input old new ends is = absurd (omega (arith, is))
+    (program, run.0, run.1.0.0 refl, run.2)
+lisp_is_0 (Ok (Stopped problem source position, program)) steps input old new ends is = absurd (omega (arith, is))
 lisp_is_0 (Err fault) steps input old new ends is = absurd (lisp_fault_is_not_0 fault is)
 
 -- where memory was refused, nothing was written
-pub lisp_is_3 : (outcome : Result Outcome LispFault) (steps : ℕ) (input : List ℕ) (old new : Option (List ℕ)) → LispEnds (λ o. o) steps input outcome old new → IsLispStatus outcome 3 → Keeps old new
-lisp_is_3 (Ok Finished) steps input old new ends is = absurd (omega (arith, is))
-lisp_is_3 (Ok (Stopped problem source position)) steps input old new ends is = absurd (omega (arith, is))
+pub lisp_is_3 : (ran : Result (Outcome × ProgramState) LispFault) (steps : ℕ) (input : List ℕ) (old new : Option (List ℕ)) → LispEnds (λ r. r) steps input ran old new → IsLispStatus (outcome_in (λ r. r.0) ran) 3 → Keeps old new
+lisp_is_3 (Ok (Finished, program)) steps input old new ends is = absurd (omega (arith, is))
+lisp_is_3 (Ok (Stopped problem source position, program)) steps input old new ends is = absurd (omega (arith, is))
 lisp_is_3 (Err lisp_faults.Read) steps input old new ends is = absurd (omega (arith, is))
 lisp_is_3 (Err lisp_faults.Long) steps input old new ends is = absurd (omega (arith, is))
 lisp_is_3 (Err (lisp_faults.Text fault)) steps input old new ends is = absurd (omega (arith, is))
@@ -57,50 +57,60 @@ lisp_is_3 (Err (lisp_faults.Heap fault)) steps input old new ends is = absurd (o
 lisp_is_3 (Err lisp_faults.Write) steps input old new ends is = absurd (omega (arith, is))
 lisp_is_3 (Err lisp_faults.OutOfMemory) steps input old new ends is = ends
 
-ends_as_outcome : {X : Type 0} (outcome_of : X → Outcome) (steps : ℕ) (input : List ℕ) (r : Result X LispFault) (old new : Option (List ℕ))
-    → LispEnds outcome_of steps input r old new → LispEnds (λ o. o) steps input (outcome_in outcome_of r) old new
-ends_as_outcome outcome_of steps input (Ok x) old new ends = ends
-ends_as_outcome outcome_of steps input (Err lisp_faults.Read) old new ends = ends
-ends_as_outcome outcome_of steps input (Err lisp_faults.Long) old new ends = ends
-ends_as_outcome outcome_of steps input (Err (lisp_faults.Text fault)) old new ends = ends
-ends_as_outcome outcome_of steps input (Err lisp_faults.Limits) old new ends = ends
-ends_as_outcome outcome_of steps input (Err (lisp_faults.Pace why)) old new ends = ends
-ends_as_outcome outcome_of steps input (Err (lisp_faults.Heap fault)) old new ends = ends
-ends_as_outcome outcome_of steps input (Err lisp_faults.Write) old new ends = ends
-ends_as_outcome outcome_of steps input (Err lisp_faults.OutOfMemory) old new ends = ends
+-- how a run ended and its program, of which more is known
+abbrev ran_in : {X : Type 0} → (X → Outcome × ProgramState) → Result X LispFault → Result (Outcome × ProgramState) LispFault
+ran_in ran_of (Ok x) = Ok (ran_of x)
+ran_in ran_of (Err fault) = Err fault
+
+status_as_outcome : {X : Type 0} (ran_of : X → Outcome × ProgramState) (r : Result X LispFault) (status : ℕ) → IsLispStatus (outcome_in (λ x. (ran_of x).0) r) status → IsLispStatus (outcome_in (λ p. p.0) (ran_in ran_of r)) status
+status_as_outcome ran_of (Ok x) status is = is
+status_as_outcome ran_of (Err fault) status is = is
+
+ends_as_outcome : {X : Type 0} (ran_of : X → Outcome × ProgramState) (steps : ℕ) (input : List ℕ) (r : Result X LispFault) (old new : Option (List ℕ))
+    → LispEnds ran_of steps input r old new → LispEnds (λ (p : Outcome × ProgramState). p) steps input (ran_in ran_of r) old new
+ends_as_outcome ran_of steps input (Ok x) old new ends = ends
+ends_as_outcome ran_of steps input (Err lisp_faults.Read) old new ends = ends
+ends_as_outcome ran_of steps input (Err lisp_faults.Long) old new ends = ends
+ends_as_outcome ran_of steps input (Err (lisp_faults.Text fault)) old new ends = ends
+ends_as_outcome ran_of steps input (Err lisp_faults.Limits) old new ends = ends
+ends_as_outcome ran_of steps input (Err (lisp_faults.Pace why)) old new ends = ends
+ends_as_outcome ran_of steps input (Err (lisp_faults.Heap fault)) old new ends = ends
+ends_as_outcome ran_of steps input (Err lisp_faults.Write) old new ends = ends
+ends_as_outcome ran_of steps input (Err lisp_faults.OutOfMemory) old new ends = ends
 
 -- a run with this status concludes so
-pub lisp_concludes : {X : Type 0} (outcome_of : X → Outcome) (steps : ℕ) (r : Result X LispFault) (status : ℕ) (old new : Option (List ℕ)) → IsLispStatus (outcome_in outcome_of r) status
-    → (input : List ℕ) → LispEnds outcome_of steps input r old new → ConcludesLisp steps input status old new
-lisp_concludes outcome_of steps r status old new is input ends = (outcome_in outcome_of r, ends_as_outcome outcome_of steps input r old new ends, is)
+pub lisp_concludes : {X : Type 0} (ran_of : X → Outcome × ProgramState) (steps : ℕ) (r : Result X LispFault) (status : ℕ) (old new : Option (List ℕ)) → IsLispStatus (outcome_in (λ x. (ran_of x).0) r) status
+    → (input : List ℕ) → LispEnds ran_of steps input r old new → ConcludesLisp steps input status old new
+lisp_concludes ran_of steps r status old new is input ends = (ran_in ran_of r, ends_as_outcome ran_of steps input r old new ends, status_as_outcome ran_of r status is)
 
-cycles_end_as_outcome : {X : Type 0} (outcome_of : X → Outcome) (limits : Limits) (r : Result X LispFault) (old new before after : Option (List ℕ))
-    → LispCyclesEnd outcome_of limits r old new before after → LispCyclesEnd (λ o. o) limits (outcome_in outcome_of r) old new before after
-cycles_end_as_outcome outcome_of limits (Ok x) old new before after ends = ends
-cycles_end_as_outcome outcome_of limits (Err lisp_faults.Read) old new before after ends = ends
-cycles_end_as_outcome outcome_of limits (Err lisp_faults.Long) old new before after ends = ends
-cycles_end_as_outcome outcome_of limits (Err (lisp_faults.Text fault)) old new before after ends = ends
-cycles_end_as_outcome outcome_of limits (Err lisp_faults.Limits) old new before after ends = ends
-cycles_end_as_outcome outcome_of limits (Err (lisp_faults.Pace why)) old new before after ends = ends
-cycles_end_as_outcome outcome_of limits (Err (lisp_faults.Heap fault)) old new before after ends = ends
-cycles_end_as_outcome outcome_of limits (Err lisp_faults.Write) old new before after ends = ends
-cycles_end_as_outcome outcome_of limits (Err lisp_faults.OutOfMemory) old new before after ends = ends
+cycles_end_as_outcome : {X : Type 0} (ran_of : X → Outcome × ProgramState) (limits : Limits) (r : Result X LispFault) (old new before after : Option (List ℕ))
+    → LispCyclesEnd ran_of limits r old new before after → LispCyclesEnd (λ (p : Outcome × ProgramState). p) limits (ran_in ran_of r) old new before after
+cycles_end_as_outcome ran_of limits (Ok x) old new before after ends = ends
+cycles_end_as_outcome ran_of limits (Err lisp_faults.Read) old new before after ends = ends
+cycles_end_as_outcome ran_of limits (Err lisp_faults.Long) old new before after ends = ends
+cycles_end_as_outcome ran_of limits (Err (lisp_faults.Text fault)) old new before after ends = ends
+cycles_end_as_outcome ran_of limits (Err lisp_faults.Limits) old new before after ends = ends
+cycles_end_as_outcome ran_of limits (Err (lisp_faults.Pace why)) old new before after ends = ends
+cycles_end_as_outcome ran_of limits (Err (lisp_faults.Heap fault)) old new before after ends = ends
+cycles_end_as_outcome ran_of limits (Err lisp_faults.Write) old new before after ends = ends
+cycles_end_as_outcome ran_of limits (Err lisp_faults.OutOfMemory) old new before after ends = ends
 
 -- and so does one whose cycles are written
-pub lisp_cycles_conclude : {X : Type 0} (outcome_of : X → Outcome) (limits : Limits) (r : Result X LispFault) (status : ℕ) (old new before after : Option (List ℕ)) → IsLispStatus (outcome_in outcome_of r) status
-    → LispCyclesEnd outcome_of limits r old new before after
-    → (input : List ℕ) → LispEnds outcome_of limits.steps input r old new → ConcludesLispCycles limits input status old new before after
-lisp_cycles_conclude outcome_of limits r status old new before after is cycles input ends =
-    (outcome_in outcome_of r, ends_as_outcome outcome_of limits.steps input r old new ends, cycles_end_as_outcome outcome_of limits r old new before after cycles, is)
+pub lisp_cycles_conclude : {X : Type 0} (ran_of : X → Outcome × ProgramState) (limits : Limits) (r : Result X LispFault) (status : ℕ) (old new before after : Option (List ℕ)) → IsLispStatus (outcome_in (λ x. (ran_of x).0) r) status
+    → LispCyclesEnd ran_of limits r old new before after
+    → (input : List ℕ) → LispEnds ran_of limits.steps input r old new → ConcludesLispCycles limits input status old new before after
+lisp_cycles_conclude ran_of limits r status old new before after is cycles input ends =
+    (ran_in ran_of r, ends_as_outcome ran_of limits.steps input r old new ends, cycles_end_as_outcome ran_of limits r old new before after cycles, status_as_outcome ran_of r status is)
 
 -- where its status is 0, the program finished, and all lines of its cycles are written
-lisp_cycles_of_0 : (limits : Limits) (outcome : Result Outcome LispFault) (old new before after : Option (List ℕ)) → LispCyclesEnd (λ o. o) limits outcome old new before after → IsLispStatus outcome 0
-    → RunsWithCycles (λ o. o) limits (Ok Finished) old new before after
-lisp_cycles_of_0 limits (Ok Finished) old new before after ends is = ends
-lisp_cycles_of_0 limits (Ok (Stopped problem source position)) old new before after ends is = absurd (omega (arith, is))
+lisp_cycles_of_0 : (limits : Limits) (ran : Result (Outcome × ProgramState) LispFault) (old new before after : Option (List ℕ)) → LispCyclesEnd (λ r. r) limits ran old new before after → IsLispStatus (outcome_in (λ r. r.0) ran) 0
+    → (program : ProgramState) × RunsWithCycles (λ r. r) limits (Ok (Finished, program)) old new before after
+lisp_cycles_of_0 limits (Ok (Finished, program)) old new before after ends is = (program, ends)
+lisp_cycles_of_0 limits (Ok (Stopped problem source position, program)) old new before after ends is = absurd (omega (arith, is))
 lisp_cycles_of_0 limits (Err fault) old new before after ends is = absurd (lisp_fault_is_not_0 fault is)
 
-pub lisp_cycles_is_0 : (limits : Limits) (input : List ℕ) (old new before after : Option (List ℕ)) → ConcludesLispCycles limits input 0 old new before after → RunsWithCycles (λ o. o) limits (Ok Finished) old new before after
+pub lisp_cycles_is_0 : (limits : Limits) (input : List ℕ) (old new before after : Option (List ℕ)) → ConcludesLispCycles limits input 0 old new before after
+    → (program : ProgramState) × RunsWithCycles (λ r. r) limits (Ok (Finished, program)) old new before after
 lisp_cycles_is_0 limits input old new before after c = lisp_cycles_of_0 limits c.0 old new before after c.2 c.3
 
 -- its status is one of those that come once the command line is understood

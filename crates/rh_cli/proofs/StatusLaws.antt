@@ -44,8 +44,9 @@ use Rattle.rh_paced_trace.specs.Run.{CommandsEnd, Ends as PacedEnds, HasNoPace, 
 use Rattle.rh_paced_trace.specs.Growing.{EndsGrowing, HasNoGrowth, IsGrowingRun, growing_text_of, growth_of}
 use Rattle.rh_paced_trace.specs.declared.fault.Unpaced.{Unpaced}
 use Rattle.rh_paced_trace.specs.declared.fault.Unpaced.TheVariants as unpaced
+use Rattle.rh_cli.specs.Lisp.{outcome_in}
 use Rattle.rh_cli.proofs.LispStatuses.{lisp_is_0, lisp_is_0_1_or_3, lisp_is_3, lisp_session_is_0_1_or_3}
-use Rattle.rh_lisp_run.specs.Run.{IsNewMachine, IsRun as IsLispRun}
+use Rattle.rh_lisp_run.specs.Run.{IsRun as IsLispRun, as_new}
 use Rattle.rh_choices.specs.declared.limits.Limits.{Limits}
 use Rattle.rh_lisp.specs.Printed.{output_text}
 use Rattle.rh_lisp.specs.Program.{ProgramState}
@@ -442,7 +443,7 @@ pub concludes_session_0 : (input : List ℕ) (old new : Option (List ℕ)) → C
 concludes_session_0 input old new c = session_is_0 c.0 input old new c.1 c.2
 
 pub concludes_lisp_0 : (limits : Limits) (input : List ℕ) (old new : Option (List ℕ)) → Concludes (Lisp limits) input 0 old new
-    → (begun : ProgramState) × (ended : ProgramState) × IsNewMachine limits.steps begun.machine × IsLispRun begun ended × (ended.machine.ended ≡ Some Halted) × Appends old new (output_text ended)
+    → (program : ProgramState) × IsLispRun (as_new limits.steps program) program × (program.machine.ended ≡ Some Halted) × Appends old new (output_text program)
 concludes_lisp_0 limits input old new c = lisp_is_0 c.0 limits.steps input old new c.1 c.2
 
 pub concludes_lisp_3 : (limits : Limits) (input : List ℕ) (old new : Option (List ℕ)) → Concludes (Lisp limits) input 3 old new → Keeps old new
@@ -459,7 +460,7 @@ concludes_late Dot input status old new c = late_of_three status (count_is_0_1_o
 concludes_late Snapshot input status old new c = late_of_three status (count_is_0_1_or_3 snapshot_text input c.0 status old new c.1 c.2)
 concludes_late (Why object) input status old new c = late_of_three status (count_is_0_1_or_3 (why_text object) input c.0 status old new c.1 c.2)
 concludes_late Session input status old new c = late_of_three status (session_is_0_1_or_3 c.0 status c.2)
-concludes_late (Lisp limits) input status old new c = late_of_three status (lisp_is_0_1_or_3 c.0 status c.2)
+concludes_late (Lisp limits) input status old new c = late_of_three status (lisp_is_0_1_or_3 (outcome_in (λ r. r.0) c.0) status c.2)
 concludes_late (LispSession limits) input status old new c = late_of_three status (lisp_session_is_0_1_or_3 c.0 status c.2)
 concludes_late (Completions shell) input status old new c = late_of_three status (sent_is_0_1_or_3 c.0 status c.2)
 concludes_late (Draw line) input status old new c = late_of_three status (draw_is_0_1_or_3 c.0 status old new c.1 c.2)
@@ -515,7 +516,7 @@ concludes_4 Dot input old new c = absurd (not_2_or_4 4 4 (inr refl) (count_is_0_
 concludes_4 Snapshot input old new c = absurd (not_2_or_4 4 4 (inr refl) (count_is_0_1_or_3 snapshot_text input c.0 4 old new c.1 c.2) refl)
 concludes_4 (Why object) input old new c = absurd (not_2_or_4 4 4 (inr refl) (count_is_0_1_or_3 (why_text object) input c.0 4 old new c.1 c.2) refl)
 concludes_4 Session input old new c = absurd (not_2_or_4 4 4 (inr refl) (session_is_0_1_or_3 c.0 4 c.2) refl)
-concludes_4 (Lisp limits) input old new c = absurd (not_2_or_4 4 4 (inr refl) (lisp_is_0_1_or_3 c.0 4 c.2) refl)
+concludes_4 (Lisp limits) input old new c = absurd (not_2_or_4 4 4 (inr refl) (lisp_is_0_1_or_3 (outcome_in (λ r. r.0) c.0) 4 c.2) refl)
 concludes_4 (LispSession limits) input old new c = absurd (not_2_or_4 4 4 (inr refl) (lisp_session_is_0_1_or_3 c.0 4 c.2) refl)
 concludes_4 (Completions shell) input old new c = absurd (not_2_or_4 4 4 (inr refl) (sent_is_0_1_or_3 c.0 4 c.2) refl)
 concludes_4 (Draw line) input old new c = absurd (not_2_or_4 4 4 (inr refl) (draw_is_0_1_or_3 c.0 4 old new c.1 c.2) refl)

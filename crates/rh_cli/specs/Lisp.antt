@@ -2,6 +2,7 @@
 use Rattle.std.specs.Prelude.{◌≡◌, ℕ, Bool, true, false, Option, List, Result, Ok, Err}
 use Rattle.rh_lisp.specs.declared.outcome.Outcome.{Outcome}
 use Rattle.rh_lisp.specs.declared.outcome.Outcome.TheVariants.{Finished, Stopped}
+use Rattle.rh_lisp.specs.Program.{ProgramState}
 use Rattle.rh_lisp_run.specs.Cycling.{LispCyclesEnd}
 use Rattle.rh_lisp_run.specs.Run.{LispEnds}
 use Rattle.rh_lisp_run.specs.Session.{SessionEnds}
@@ -45,18 +46,20 @@ outcome_in outcome_of (Ok x) = Ok (outcome_of x)
 outcome_in outcome_of (Err fault) = Err fault
 
 -- a program with so many steps was run in a way that fits its text and what was written, and the
--- status is that ending's
+-- status is that ending's; it is handed back within the run, and a status alone can't name it
 abbrev pub ConcludesLisp : ℕ → List ℕ → ℕ → Option (List ℕ) → Option (List ℕ) → Type 0
 ConcludesLisp steps input status old new =
-    (outcome : Result Outcome LispFault) × LispEnds (λ o. o) steps input outcome old new
-    × IsLispStatus outcome status
+    (ran : Result (Outcome × ProgramState) LispFault) × LispEnds (λ r. r) steps input ran old new
+    × IsLispStatus (outcome_in (λ r. r.0) ran) status
 
 -- such a run whose cycles are written, too, in a way that fits what was written of them
 abbrev pub ConcludesLispCycles : Limits → List ℕ → ℕ → Option (List ℕ) → Option (List ℕ)
     → Option (List ℕ) → Option (List ℕ) → Type 0
 ConcludesLispCycles limits input status old new before after =
-    (outcome : Result Outcome LispFault) × LispEnds (λ o. o) limits.steps input outcome old new
-    × LispCyclesEnd (λ o. o) limits outcome old new before after × IsLispStatus outcome status
+    (ran : Result (Outcome × ProgramState) LispFault)
+    × LispEnds (λ r. r) limits.steps input ran old new
+    × LispCyclesEnd (λ r. r) limits ran old new before after
+    × IsLispStatus (outcome_in (λ r. r.0) ran) status
 
 -- the status after a session: 0 where its input came to the end, and 1 where the language had no room
 abbrev pub IsLispSessionStatus : Result Bool LispFault → ℕ → Type 0

@@ -56,7 +56,7 @@ ghost use Rattle.rh_lisp.specs.Program.{ProgramState};
 ghost use Rattle.rh_machine.specs.declared.ending.Ending.TheVariants.{Halted};
 ghost use Rattle.rh_lisp.specs.declared.outcome.Outcome.TheVariants.{Finished};
 ghost use Rattle.rh_lisp_run.specs.Cycling.{RunsWithCycles};
-ghost use Rattle.rh_lisp_run.specs.Run.{IsNewMachine, IsRun as IsLispRun};
+ghost use Rattle.rh_lisp_run.specs.Run.{IsRun as IsLispRun, as_new};
 ghost use Rattle.rh_lisp_run.specs.Session.{GoesOn};
 ghost use Rattle.rh_choices.specs.declared.limits.Limits.{Limits as LimitsOf};
 ghost use Rattle.rh_command_line.specs.declared.ask.Shell.{Shell as ShellOf};
@@ -127,13 +127,13 @@ pub fn status_0_says_done()
         × Appends old new text }
     ensures lisp { (limits : LimitsOf) (input : List ℕ) (old new : Option (List ℕ))
         → Concludes (SubcommandOf.Lisp limits) input 0 old new
-        → (begun : ProgramState) × (ended : ProgramState)
-        × IsNewMachine limits.steps begun.machine × IsLispRun begun ended
-        × (ended.machine.ended ≡ Some Halted) × Appends old new (lisp_text ended) }
+        → (program : ProgramState) × IsLispRun (as_new limits.steps program) program
+        × (program.machine.ended ≡ Some Halted) × Appends old new (lisp_text program) }
     ensures lisp_cycles { (limits : LimitsOf) (input : List ℕ)
         (old new before after : Option (List ℕ))
         → ConcludesLispCycles limits input 0 old new before after
-        → RunsWithCycles (λ o. o) limits (Ok Finished) old new before after }
+        → (program : ProgramState)
+        × RunsWithCycles (λ r. r) limits (Ok (Finished, program)) old new before after }
     ensures lisp_session { (limits : LimitsOf) (input : List ℕ) (old new : Option (List ℕ))
         → Concludes (SubcommandOf.LispSession limits) input 0 old new
         → GoesOn limits.heap limits.steps (Ok true) old new }

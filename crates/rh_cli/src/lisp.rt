@@ -10,7 +10,7 @@ use crate::lisp_explaining::show_kept;
 use crate::program::{gathering, is_standard_input, kept_if, opened};
 use rh_choices::Limits;
 use rh_commands::{Ending, LineFault, tell};
-use rh_lisp_run::{Ended, Fault, LispFault, Outcome, Source, Stop, run_lisp};
+use rh_lisp_run::{Ended, Fault, LispFault, Outcome, Ran, Source, Stop, run_lisp};
 use std::alloc::Allocator;
 use std::io::{self, Read, Write};
 use std::rt::Files;
@@ -45,16 +45,16 @@ pub fn drive_lisp<A: Allocator + Copy, R: Read, O: Write, E: Write>(
 /// shown in the text, if that was kept.
 pub(crate) fn tell_run<A: Allocator, E: Write>(
     file: &str,
-    ran: Result<Ended<A>, LispFault>,
+    ran: Result<Ran<A>, LispFault>,
     text: Option<&[u8]>,
     err: &mut E,
 ) -> u8
-    ensures status { IsLispStatus (outcome_in (λ e. e.outcome) ran) result }
+    ensures status { IsLispStatus (outcome_in (λ r. r.ended.outcome) ran) result }
     ensures quiet { result ≡ 0 → Keeps (E.contents err.old) (E.contents err.new) }
     ensures late { IsLateStatus result }
 {
     match ran {
-        Ok(ended) => tell_end(&ended, text, err),
+        Ok(ran) => tell_end(&ran.ended, text, err),
         Err(fault) => tell_fault(file, fault, text, err),
     }
 }
@@ -121,7 +121,7 @@ pub(crate) fn run_program<A: Allocator + Copy, R: Read, O: Write>(
     ensures late { IfErr result (λ fault. IsUsualFault fault) }
 {
     match run_lisp(alloc, b"-", limits, reader, out) {
-        Ok(ended) => ending_of(ended.outcome),
+        Ok(ran) => ending_of(ran.ended.outcome),
         Err(fault) => Err(fault_of_lisp(fault)),
     }
 }

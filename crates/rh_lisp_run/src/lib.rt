@@ -21,7 +21,7 @@ pub use fault::LispFault;
 pub use limits::{MAX_OUTPUT, MAX_TEXT_BYTES};
 pub use rh_choices::{HeapWords, Limits, MOST_STEPS};
 pub use rh_lisp::{Fault, FaultKind, Outcome, Program, Source};
-pub use running::{Ended, program_of, run_lisp, run_lisp_logged, run_program};
+pub use running::{Ended, Ran, program_of, run_lisp, run_lisp_logged, run_program};
 pub use session::run_session;
 pub use stop::{Cause, Stop};
 pub use with_cycles::{run_lisp_with_cycles, run_program_with_cycles};

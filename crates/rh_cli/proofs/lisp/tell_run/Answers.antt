@@ -6,7 +6,7 @@ pub returns-in-Ok-clause-status : goal.returns-in-Ok-clause-status
 returns-in-Ok-clause-status g c = rw c.in-Ok.is c.tell_end.ensures.status
 
 pub returns-in-Ok-clause-late : goal.returns-in-Ok-clause-late
-returns-in-Ok-clause-late g c = lisp_late (Ok c.in-Ok.ended.outcome) c.tell_end.result c.tell_end.ensures.status
+returns-in-Ok-clause-late g c = lisp_late (Ok c.in-Ok.ran.ended.outcome) c.tell_end.result c.tell_end.ensures.status
 
 pub returns-in-Err-clause-status : goal.returns-in-Err-clause-status
 returns-in-Err-clause-status g c = rw c.in-Err.is c.tell_fault.ensures
