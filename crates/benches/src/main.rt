@@ -13,6 +13,7 @@ mod keeps_up;
 mod latency;
 mod mutators;
 mod place;
+mod rattle_calls;
 mod resizes;
 mod setting;
 mod spaces;
@@ -44,6 +45,7 @@ fn run_each(rt: &(impl Print + Input + Clock + CpuClock + AllocGlobal)) -> Optio
     run_each_of_trees(rt)?;
     growing::run(rt, 40_000, 20_000, false)?;
     resizes::run(rt, 131_072, false)?;
+    rattle_calls::run(rt, "make_pair", 100)?;
     let names = [
         "list",
         "queue",
@@ -110,6 +112,7 @@ fn run_one(
         "keeps-up" => keeps_up::run(rt, first?, asked_of(second, third, fourth)?),
         "growing" => growing::run(rt, number(first)?, number(second)?, true),
         "resizes" => resizes::run(rt, number(first)?, true),
+        "calls" => rattle_calls::run(rt, first?, number(second)?),
         _ => None,
     }
 }
