@@ -225,6 +225,16 @@ const PROGRAMS: &[(&[u8], &[u8])] = &[
         b"(define (go) (define (g) (h)) (define x (call/cc (lambda (c) c))) (define (h) (if (procedure? x) 'first x)) (write (g)) (if (procedure? x) (x 5) 'done)) (write (go))",
         b"first5done",
     ),
+    // A variable that is set once a call has read it, and is read no more.
+    (
+        b"(define (f x) x) (call/cc (lambda (k) 1)) (let ((a 2)) (set! a (f a)) (display 7)) (define (skip l n) (if (< 0 n) (set! l (f (cdr l))) #f) n) (display (skip '(1 2) 3)) (let-values (((b c) (values 1 2))) (set! b (f b)) (set! c (f (+ c b))) (display 5)) (guard (e (#t 0)) (let ((a 2)) (set! a (f a)) (display 4)))",
+        b"7354",
+    ),
+    // A letrec whose value's continuation is entered again sets the same variable.
+    (
+        b"(write (letrec ((x (call/cc (lambda (c) (list #t c))))) (if (car x) ((cadr x) (list #f (lambda () x))) (eq? x ((cadr x))))))",
+        b"#t",
+    ),
     // What was read before is written where one is entered again: it goes on with a copy.
     (
         b"(define k #f) (define n 0) (define (id x) x) (define (two a b) (+ (id (+ a n)) (id (* b 10)))) (define (go) (let ((x (id 3))) (let ((y (+ (id x) (call/cc (lambda (c) (set! k c) 1))))) (set! n (+ n 1)) (write (list x y (two x y) (two y x)))) (let ((z (two x 2)) (w (id 7))) (if (< n 3) (k n)) (list x z w)))) (write (go))",
