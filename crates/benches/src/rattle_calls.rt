@@ -63,15 +63,6 @@ fn load(heap: &mut PacedHeap, field: u32, times: u32) -> Option<i64> {
     Some(sum)
 }
 
-/// Peeks at a number so often; the sum of what that told, or nothing where it was refused.
-fn peek(heap: &PacedHeap, times: u32) -> Option<i64> {
-    let mut sum = 0i64;
-    for _ in 0..times {
-        sum = sum.wrapping_add(told(heap.peek(OWNER, OBJECT, 1).ok()?));
-    }
-    Some(sum)
-}
-
 /// Stores this so often; nothing where that was refused.
 fn store(heap: &mut PacedHeap, operand: Operand, times: u32) -> Option<()> {
     for _ in 0..times {
@@ -111,7 +102,6 @@ pub fn run(rt: &(impl Print + AllocGlobal), name: &str, times: u32) -> Option<()
                 heap.drop(OWNER, FREE).ok()?;
             }
         }
-        "peek" => sum = peek(&heap, times)?,
         "load_root" => sum = load(&mut heap, 0, times)?,
         "load_int" => sum = load(&mut heap, 1, times)?,
         "load_nil" => sum = load(&mut heap, 3, times)?,
