@@ -424,10 +424,10 @@ always on a terminal, the line of the program comes after it, carets under the f
 stand there. So are told
 
   unbound variable, not a pair, not a list, not a number, not a procedure, not a vector,
-  not a string, not a character, not a symbol, not a parameter, not such a record, wrong number of
-  arguments, wrong number of values, too many arguments, out of range, division by zero, overflow,
-  heap exhausted, steps spent, too much output, the text that `error` was given, and `uncaught:`
-  with what else was raised
+  not a string, not a character, not a symbol, not a parameter, not such a record,
+  wrong number of arguments, wrong number of values, too many arguments, out of range,
+  division by zero, overflow, heap exhausted, steps spent, too much output, and the text that
+  `error` was given, or `uncaught:` with what else was raised
 
 A text that is no program is told in the same way, before anything runs:
 
