@@ -9,7 +9,7 @@ import struct
 import subprocess
 import tempfile
 
-from workshop import ENDING, say
+from workshop import SIGNALS, say
 
 
 def functions(file):
@@ -56,7 +56,7 @@ def run(file, given):
         options = [it for it in [os.environ.get("ASAN_OPTIONS")] if it]
         env = {**os.environ, "ASAN_OPTIONS": ":".join([*options, f"log_path='{aside}/report'"])}
         running = subprocess.Popen([str(file), *given], env=env)
-        for it in ENDING:
+        for it in SIGNALS:
             if signal.getsignal(it) is not signal.SIG_IGN:
                 signal.signal(it, lambda number, _: running.send_signal(number))
         status = running.wait()

@@ -16,7 +16,7 @@ import time
 from tree import TOP
 
 OUT = TOP / "out"
-ENDING = (signal.SIGINT, signal.SIGTERM, signal.SIGHUP)
+SIGNALS = (signal.SIGINT, signal.SIGTERM, signal.SIGHUP)
 DISK_IS_FULL = "the disk is full: building needs {} MB below {}"
 # How long a command that is ended may take to end what it started, and to remove what it made for a while: a busy machine gives it
 # little time.
@@ -221,12 +221,14 @@ class Workshop:
         return [it.result() for it in futures]
 
     def all_of(self, tick, *works):
-        """As `each_of`, on the main thread: calls `tick` some times a second meanwhile, and ends all once one has failed."""
-        with concurrent.futures.ThreadPoolExecutor(max(len(works), 1)) as pool:
+        """As `each_of`, on the main thread: calls `tick` some times a second meanwhile, and ends all once one has failed, or a signal
+        came."""
+        with ENDING.put_off(), concurrent.futures.ThreadPoolExecutor(max(len(works), 1)) as pool:
             try:
                 futures = left = [pool.submit(work) for work in works]
                 while left:
                     done, left = concurrent.futures.wait(left, 0.3, concurrent.futures.FIRST_COMPLETED)
+                    ENDING.look()
                     for it in done:
                         it.result()
                     tick()
@@ -238,18 +240,45 @@ class Workshop:
 
 def ignore_signals():
     """Lets what is in hand be done, whatever signal comes."""
-    for it in ENDING:
+    for it in SIGNALS:
         signal.signal(it, signal.SIG_IGN)
 
 
-def end_by_signals():
-    """Has the signals that end a program stop the work in hand, which is cleared away then. One that is ignored, as under nohup,
-    stays so."""
+class Ending:
+    """What a signal that ends a program does here: it stops the work in hand, which is cleared away then. While the main thread shares
+    locks with others the signal is only noted, since what it raises between taking a lock and letting go of it would leave them waiting
+    for good."""
 
-    def stop(*_):
+    def __init__(self):
+        self.came = self.is_put_off = False
+
+    def take(self, *_):
         ignore_signals()
-        raise Stopped()
+        self.came = True
+        if not self.is_put_off:
+            raise Stopped()
 
-    for it in ENDING:
+    def look(self):
+        """Stops the work if a signal came."""
+        if self.came:
+            raise Stopped()
+
+    @contextlib.contextmanager
+    def put_off(self):
+        """Signals are noted, until `look` or the end of this."""
+        self.is_put_off = True
+        try:
+            yield
+        finally:
+            self.is_put_off = False
+        self.look()
+
+
+ENDING = Ending()
+
+
+def end_by_signals():
+    """Has the signals that end a program stop the work in hand. One that is ignored, as under nohup, stays so."""
+    for it in SIGNALS:
         if signal.getsignal(it) is not signal.SIG_IGN:
-            signal.signal(it, stop)
+            signal.signal(it, ENDING.take)
