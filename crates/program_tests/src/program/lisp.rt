@@ -437,15 +437,15 @@ const FULL: &[(&[&[u8]], &[u8], u8, &[u8], &[u8])] = &[
         b"3\n",
         b"-:2:34: heap exhausted\n",
     ),
-    // A heap that is full to the last words refuses each entry that is written. What lets go of what
-    // fills it is done all the same.
+    // A heap that is full to the last words refuses each entry that writes something, and no entry that
+    // lets go of what fills it.
     (
         &[b"rheap", b"lisp", b"--heap=8001"],
         b"(define l '())\n(define (f n) (set! l (cons n l)) (f (+ n 1)))\n(f 0)\n(+ 1 2)\n\
             (+ 1 2)\n(set! l '())\n(+ 1 2)\n",
         0,
         b"3\n",
-        b"-:2:35: heap exhausted\n-:4:1: heap exhausted\n-:5:1: heap exhausted\n-:6:1: heap exhausted\n",
+        b"-:2:35: heap exhausted\n-:4:1: heap exhausted\n-:5:1: heap exhausted\n",
     ),
     // The procedures of the language have no room.
     (
