@@ -1,7 +1,9 @@
 //! Programs at the edges of what the language's procedures and forms do: signs, ends, nothing, and the
 //! greatest that there may be.
 
-use crate::programs::{expect_faults, expect_runs, expect_stops};
+use crate::programs::{expect_faults, expect_run, expect_runs, expect_stops, fault_of};
+use samples::texts::repeated;
+use std::process::Abort;
 use std::rt::HostRuntime;
 
 /// Programs, and what they print: what another Scheme prints.
@@ -142,4 +144,24 @@ fn programs_that_pass_an_edge_stop(rt: HostRuntime) {
 #[test]
 fn texts_with_a_fault_behind_a_line_or_a_tab(rt: HostRuntime) {
     expect_faults(&rt, FAULTS);
+}
+
+/// A program in which a call waits while so many variables are in use, of which the last is needed
+/// behind it.
+fn waiting<R: AllocGlobal + Abort>(rt: &R, variables: u32) -> Vec<u8> {
+    let begun = b"(define (f) 2) (write (let* (";
+    let text = repeated(rt, begun, b"(a 1)", variables);
+    let mut text = text.expect(rt, "memory is ample");
+    let ended = text.extend_from_slice(b") (+ a (f))))");
+    ended.expect(rt, "memory is ample");
+    text
+}
+
+#[test]
+fn a_call_waits_while_many_variables_are_in_use(rt: HostRuntime) {
+    for variables in [1_023, 1_024, 1_025, 4_000] {
+        expect_run(&rt, &waiting(&rt, variables), Some(b"3"), b"");
+    }
+    let fault = fault_of(rt.alloc(), &waiting(&rt, 4_095), 9, 9);
+    assert!(&rt; fault.is_some());
 }

@@ -587,7 +587,7 @@ pub fn expect_message<R: AllocGlobal + Abort>(
 
 /// Runs the program that the text is on a heap that grows, and ends the test unless it prints this,
 /// where something is due, and has this message.
-fn expect_run<R: AllocGlobal + Abort>(rt: &R, text: &[u8], output: Option<&[u8]>, due: &[u8]) {
+pub fn expect_run<R: AllocGlobal + Abort>(rt: &R, text: &[u8], output: Option<&[u8]>, due: &[u8]) {
     let mut program = program_of(rt, text);
     let outcome = outcome_of(rt, &mut program);
     expect_message(rt, &program, outcome, due);
@@ -632,7 +632,12 @@ pub fn expect_fault<R: AllocGlobal + Abort>(rt: &R, fault: Fault, due: &[u8]) {
 }
 
 /// The fault of a text, if it has one.
-fn fault_of<A: Allocator + Copy>(alloc: A, text: &[u8], most: u32, steps: u64) -> Option<Fault> {
+pub fn fault_of<A: Allocator + Copy>(
+    alloc: A,
+    text: &[u8],
+    most: u32,
+    steps: u64,
+) -> Option<Fault> {
     made(alloc, text, most, steps).err()
 }
 

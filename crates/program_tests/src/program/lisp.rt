@@ -447,6 +447,17 @@ const FULL: &[(&[&[u8]], &[u8], u8, &[u8], &[u8])] = &[
         b"3\n",
         b"-:2:35: heap exhausted\n-:4:1: heap exhausted\n-:5:1: heap exhausted\n",
     ),
+    // What one entry made isn't kept for the next: two of these lists have no room.
+    (
+        &[b"rheap", b"lisp", b"--heap=16000"],
+        b"(define (count n l) (if (= n 0) l (count (- n 1) (cons n l))))\n\
+            (define (kept l) (lambda () l))\n\
+            (kept (count 1800 '()))\n(kept (count 1800 '()))\n\
+            (define a (count 1800 '()))\n(define b (count 1800 '()))\n",
+        0,
+        b"#<procedure>\n#<procedure>\n",
+        b"-:1:50: heap exhausted\n",
+    ),
     // The procedures of the language have no room.
     (
         &[b"rheap", b"lisp", b"--heap=3000"],
