@@ -8,6 +8,8 @@ mod expectations;
 #[cfg(test)]
 mod handed_back;
 #[cfg(test)]
+mod hidden;
+#[cfg(test)]
 mod later;
 #[cfg(test)]
 mod procedures;
