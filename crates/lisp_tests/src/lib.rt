@@ -20,6 +20,8 @@ mod raising;
 #[cfg(test)]
 mod records;
 #[cfg(test)]
+mod recursive;
+#[cfg(test)]
 mod sessions;
 #[cfg(test)]
 mod several;
