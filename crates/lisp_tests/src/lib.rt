@@ -26,4 +26,6 @@ mod sessions;
 #[cfg(test)]
 mod several;
 #[cfg(test)]
+mod symbols;
+#[cfg(test)]
 mod texts;

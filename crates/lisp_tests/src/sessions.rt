@@ -50,6 +50,19 @@ const ENTRIES: &[(&[u8], &[u8])] = &[
         b"(list (value c) (cell? 5) c) (guard (e (#t e)) (raise y))",
         b"(2 #f #<cell>)\n3\n",
     ),
+    (
+        b"(define s (string->symbol \"made\")) (list s (eq? s (string->symbol \"made\")))",
+        b"(made #t)\n",
+    ),
+    (
+        b"(list (string->symbol \"e f\") (symbol->string s))",
+        b"(|e f| \"made\")\n",
+    ),
+    (
+        b"(list (eq? s (string->symbol \"made\")) (eq? 'late (string->symbol \"late\")))",
+        b"(#t #t)\n",
+    ),
+    (b"(define (%%show x w) 1) (%%show 1 2)", b"1\n"),
 ];
 
 /// Entries that need what those before them made, wherever its code stands, and what each prints.

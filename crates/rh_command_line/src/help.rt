@@ -378,7 +378,7 @@ Procedures  of R7RS small those on whole numbers, booleans, pairs and lists, sym
             equal? procedure? apply map for-each call/cc, values call-with-values dynamic-wind exit
             emergency-exit, force make-promise promise? make-parameter, raise raise-continuable
             with-exception-handler error and error-object?, with its -message and -irritants,
-            display write newline write-char write-string write-simple. Not string->symbol
+            display write newline write-char write-string write-simple
 
 What differs from R7RS: numbers are whole, and what passes them is an error. Vectors and strings
 have at most 4094 elements. There are no macros and no ports. What the language itself finds wrong
