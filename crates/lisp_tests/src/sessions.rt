@@ -50,17 +50,18 @@ const ENTRIES: &[(&[u8], &[u8])] = &[
         b"(list (value c) (cell? 5) c) (guard (e (#t e)) (raise y))",
         b"(2 #f #<cell>)\n3\n",
     ),
+    (b"(define b '|a b|) b", b"|a b|\n"),
     (
         b"(define s (string->symbol \"made\")) (list s (eq? s (string->symbol \"made\")))",
         b"(made #t)\n",
     ),
     (
-        b"(list (string->symbol \"e f\") (symbol->string s))",
-        b"(|e f| \"made\")\n",
+        b"(list '|c d| b (string->symbol \"e f\") (symbol->string s))",
+        b"(|c d| |a b| |e f| \"made\")\n",
     ),
     (
-        b"(list (eq? s (string->symbol \"made\")) (eq? 'late (string->symbol \"late\")))",
-        b"(#t #t)\n",
+        b"(list b (eq? s (string->symbol \"made\")) (eq? 'late (string->symbol \"late\")))",
+        b"(|a b| #t #t)\n",
     ),
     (b"(define (%%show x w) 1) (%%show 1 2)", b"1\n"),
 ];

@@ -1,4 +1,4 @@
-//! Symbols that a program makes.
+//! Symbols that a program makes, and names in bars.
 
 use crate::programs::{expect_runs, expect_stops};
 use std::rt::HostRuntime;
@@ -69,6 +69,24 @@ const STOPS: &[(&[u8], &[u8])] = &[
     (b"(raise (string->symbol \"new\"))", b"p:1:1: uncaught: new"),
 ];
 
+/// Programs that write names in bars, and what they print.
+const BARS: &[(&[u8], &[u8])] = &[
+    (b"(write '|a b|) (display '|a b|)", b"|a b|a b"),
+    (
+        b"(write '(|a| || |1| |a\\|b| |a\\\\b| |#a| |.| |-1| |+.5| |+| |-| |...| |a;b| |(| |\"| |'| |`| |,| |a\\nb| |a\\tb| |A| |a\\x20;|))",
+        b"(a || |1| |a\\|b| a\\b |#a| |.| |-1| |+.5| + - ... |a;b| |(| |\"| |'| |`| |,| |a\\nb| |a\\tb| A |a |)",
+    ),
+    (
+        b"(write (list (vector '|x y| \"|\" #\\|) (symbol->string '|x y|) 'z)) (write-simple '|x y|) (display (list '|x y| 'z))",
+        b"(#(|x y| \"|\" #\\|) \"x y\" z)|x y|(x y z)",
+    ),
+    (b"#| a |# (write 'a) (define |b c| 1) (write |b c|)", b"a1"),
+    (
+        b"(define-record-type |a b| (|make it|) it?) (write (|make it|)) (write (it? '|make it|))",
+        b"#<a b>#f",
+    ),
+];
+
 #[test]
 fn programs_make_symbols(rt: HostRuntime) {
     expect_runs(&rt, MAKERS);
@@ -77,4 +95,9 @@ fn programs_make_symbols(rt: HostRuntime) {
 #[test]
 fn what_makes_no_symbol_stops_a_program(rt: HostRuntime) {
     expect_stops(&rt, STOPS);
+}
+
+#[test]
+fn names_are_written_in_bars_where_they_need_them(rt: HostRuntime) {
+    expect_runs(&rt, BARS);
 }
