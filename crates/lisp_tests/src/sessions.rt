@@ -283,6 +283,91 @@ fn a_program_of_an_earlier_entry_is_not_taken_for_the_last(rt: HostRuntime) {
     expect_answer(&rt, &mut session, &mut heap, last, true);
 }
 
+/// How many entries the long session has, and how many names each defines. With those of the
+/// language they have several pages of globals.
+const LONG: (u32, u32) = (40, 120);
+
+/// The text that defines names that begin so, from one number on, as these numbers.
+fn definitions<A: Allocator + Copy>(
+    alloc: A,
+    name: &str,
+    first: u32,
+    count: u32,
+) -> Option<Vec<u8, A>> {
+    let mut text = String::new(alloc);
+    for number in first..first.saturating_add(count) {
+        let line = format!(in alloc; "(define {name}{number} {number})").ok()?;
+        text.push_str(line.as_str()).ok()?;
+    }
+    text.as_bytes().to_vec(alloc).ok()
+}
+
+/// Entries after the long one: they read, set and define what is in the first and the last page, by
+/// a function and a continuation of an entry before too, and an own name of the language.
+const AFTER: &[(&[u8], &[u8])] = &[
+    (b"(list x0 x3000 x4000 x4799)", b"(0 3000 4000 4799)\n"),
+    (b"(define (f) (+ x0 x4799)) (set! x4799 5) (f)", b"5\n"),
+    (
+        b"(set! x0 '(1 \"a\")) (define x3600 'far) x0 x3600",
+        b"(1 \"a\")\nfar\n",
+    ),
+    (b"(set! x0 7) (f)", b"12\n"),
+    (
+        b"(define (car x) 'mine) (list (car x0) (cadr '(1 2)))",
+        b"(mine 2)\n",
+    ),
+    (
+        b"(define k #f) (+ x4799 (call/cc (lambda (c) (set! k c) 1)))",
+        b"6\n",
+    ),
+    (b"(k 10)", b"15\n"),
+    (b"(if)", b"1:1: bad form"),
+    (b"(list x4798 (f) (car 1))", b"(4798 12 mine)\n"),
+];
+
+/// Ends the test unless an entry that needs another page has too few steps to make it.
+fn stop_early<R: AllocGlobal + Abort>(
+    rt: &R,
+    session: &mut Session<Global>,
+    heap: &mut GrowingHeap<Global>,
+) {
+    let text = definitions(rt.alloc(), "y", 0, 520);
+    let program = session
+        .entry(text.expect(rt, "memory is ample"), 9, 10)
+        .ok();
+    let mut program = program.expect(rt, "a program");
+    let outcome = run_growing(&mut program, heap);
+    expect_message(rt, &program, outcome, b"p:1:1: steps spent");
+    session.take_back(program);
+}
+
+#[test]
+fn a_session_has_more_globals_than_an_object_has_fields(rt: HostRuntime) {
+    let mut session = Session::new(rt.alloc());
+    let mut heap = growing_heap(&rt, 100_000);
+    run_language(&rt, &session, &mut heap);
+    let (entries, names) = LONG;
+    for entry in 0..entries {
+        let text = definitions(rt.alloc(), "x", entry.saturating_mul(names), names);
+        let text = text.expect(&rt, "memory is ample");
+        let row = entry as usize;
+        expect_answer(
+            &Row { rt: &rt, row },
+            &mut session,
+            &mut heap,
+            (&text, b""),
+            true,
+        );
+    }
+    expect_each(&rt, &mut session, &mut heap, AFTER, true);
+    stop_early(&rt, &mut session, &mut heap);
+    let next = (
+        b"(define y519 'there) y519".as_slice(),
+        b"there\n".as_slice(),
+    );
+    expect_answer(&rt, &mut session, &mut heap, next, true);
+}
+
 /// What a text is taken for; nothing where memory was refused. No test needs what is promised of
 /// that.
 fn typed<A: Allocator + Copy>(alloc: A, text: &[u8]) -> Option<Typed> {

@@ -127,7 +127,7 @@ fn of_fault(kind: FaultKind) -> &'static str {
             "only (scheme ..) can be imported, by its own names: (import (scheme base))",
         FaultKind::Missing(_) => "rheap lisp --help has the forms that are there",
         FaultKind::Name => "a name is due here",
-        FaultKind::Globals => "names, quoted lists and strings are 4095 at most in all",
+        FaultKind::Globals => "names, quoted lists and strings are 134399 at most in all",
         FaultKind::Variables =>
             "a procedure has some 4090 variables and waiting operands at most, and a call so many operands",
         FaultKind::Elements => "a vector or a string has 4094 elements at most",
