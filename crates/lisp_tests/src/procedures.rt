@@ -69,6 +69,26 @@ const PROCEDURES: &[(&[u8], &[u8])] = &[
         b"(write (list (memv 2 '(1 2 3)) (list->vector '(1 2)) (vector-copy #(1 2 3) 1 2) (call-with-current-continuation procedure?) (boolean? 0) (expt -1 -4) (expt 0 0))) (write-simple \"a\")",
         b"((2 3) #(1 2) #(2) #t #f 1 1)\"a\"",
     ),
+    (
+        b"(define (text n) (if (= n 0) \"\" (string-append (text (- n 1)) (string (integer->char (+ 96 n)))))) (for-each (lambda (n) (let ((s (text n))) (write (list (string-length s) s (string-append s \"-\" s s) (substring s (quotient n 2)) (substring s (quotient n 3) (- n (quotient n 3))) (string=? s (string-copy s)))))) '(0 6 7 8 13 14 15))",
+        b"(0 \"\" \"-\" \"\" \"\" #t)(6 \"abcdef\" \"abcdef-abcdefabcdef\" \"def\" \"cd\" #t)(7 \"abcdefg\" \"abcdefg-abcdefgabcdefg\" \"defg\" \"cde\" #t)(8 \"abcdefgh\" \"abcdefgh-abcdefghabcdefgh\" \"efgh\" \"cdef\" #t)(13 \"abcdefghijklm\" \"abcdefghijklm-abcdefghijklmabcdefghijklm\" \"ghijklm\" \"efghi\" #t)(14 \"abcdefghijklmn\" \"abcdefghijklmn-abcdefghijklmnabcdefghijklmn\" \"hijklmn\" \"efghij\" #t)(15 \"abcdefghijklmno\" \"abcdefghijklmno-abcdefghijklmnoabcdefghijklmno\" \"hijklmno\" \"fghij\" #t)",
+    ),
+    (
+        b"(define (text n) (if (= n 0) \"\" (string-append (text (- n 1)) (string (integer->char (+ 96 n)))))) (define (moved at from end) (let ((s (text 24))) (string-copy! s at s from end) s)) (write (list (moved 0 1 24) (moved 1 0 23) (moved 7 0 14) (moved 0 7 21) (moved 3 10 24) (moved 10 3 17) (moved 8 8 8) (moved 5 6 9)))",
+        b"(\"bcdefghijklmnopqrstuvwxx\" \"aabcdefghijklmnopqrstuvw\" \"abcdefgabcdefghijklmnvwx\" \"hijklmnopqrstuopqrstuvwx\" \"abcklmnopqrstuvwxrstuvwx\" \"abcdefghijdefghijklmnopq\" \"abcdefghijklmnopqrstuvwx\" \"abcdeghiijklmnopqrstuvwx\")",
+    ),
+    (
+        b"(define s (make-string 256 #\\null)) (define (each f) (let next ((i 0)) (if (< i 256) (begin (f i) (next (+ i 1)))))) (each (lambda (i) (string-set! s i (integer->char i)))) (define t (string-append \"abc\" (substring s 1) s)) (each (lambda (i) (if (not (= i (char->integer (string-ref s i)))) (write i)) (if (not (eq? (string-ref s i) (string-ref t (+ i 258)))) (write (list i 't))))) (each (lambda (i) (string-set! s (- 255 i) (integer->char i)))) (each (lambda (i) (if (not (= i (char->integer (string-ref s (- 255 i))))) (write i)))) (write (string-length t))",
+        b"514",
+    ),
+    (
+        b"(define s (make-string 4094 #\\a)) (string-set! s 4093 #\\b) (define t (string-append (substring s 0 4090) \"aaab\")) (write (list (string-length t) (string=? s t) (string-ref t 4093) (string-ref s 4092) (string-copy t 4087))) (string-fill! t #\\c) (write (list (string<? s t) (string-copy t 4090))) (string-fill! t #\\d 3 4091) (write (list (string-copy t 0 5) (string-copy t 4088)))",
+        b"(4094 #t #\\b #\\a \"aaaaaab\")(#t \"cccc\")(\"cccdd\" \"dddccc\")",
+    ),
+    (
+        b"(define z (string #\\a (integer->char 0))) (define y (string #\\a (integer->char 255))) (write (list (string<? \"a\" z) (string<? z \"a\") (string=? \"a\" z) (string<? z y) (string<? \"b\" y) (string<? \"aaaaaaa\" \"aaaaaaab\") (string<? \"aaaaaaab\" \"aaaaaaa\") (string<? \"aaaaaabz\" \"aaaaaaca\") (string=? \"\" \"\") (string<? \"\" z) (equal? \"1234567\" \"1234567\")))",
+        b"(#t #f #f #t #f #t #f #t #t #t #t)",
+    ),
 ];
 
 /// Programs, and what they print here: another Scheme has greater numbers, and ports.
