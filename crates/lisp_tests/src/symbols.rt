@@ -60,7 +60,7 @@ const STOPS: &[(&[u8], &[u8])] = &[
     ),
     (
         b"(string->symbol)",
-        b"p:1:1: string->symbol: wrong number of arguments",
+        b"p:1:1: wrong number of arguments",
     ),
     (
         b"(error (string->symbol \"a b\") (string->symbol \"c d\"))",
