@@ -82,8 +82,12 @@ const PROCEDURES: &[(&[u8], &[u8])] = &[
         b"514",
     ),
     (
-        b"(define s (make-string 4094 #\\a)) (string-set! s 4093 #\\b) (define t (string-append (substring s 0 4090) \"aaab\")) (write (list (string-length t) (string=? s t) (string-ref t 4093) (string-ref s 4092) (string-copy t 4087))) (string-fill! t #\\c) (write (list (string<? s t) (string-copy t 4090))) (string-fill! t #\\d 3 4091) (write (list (string-copy t 0 5) (string-copy t 4088)))",
-        b"(4094 #t #\\b #\\a \"aaaaaab\")(#t \"cccc\")(\"cccdd\" \"dddccc\")",
+        b"(define s (make-string 4094 #\\a)) (string-set! s 4093 #\\b) (define t (string-append (substring s 0 4090) \"aaab\")) (write (list (string-length t) (string=? s t) (string-ref t 4093) (string-ref s 4092) (string-copy t 4087)))",
+        b"(4094 #t #\\b #\\a \"aaaaaab\")",
+    ),
+    (
+        b"(define s (make-string 4094 #\\a)) (define t (make-string 4094 #\\c)) (write (list (string<? s t) (string-copy t 4090))) (string-fill! t #\\d 3 4091) (write (list (string-copy t 0 5) (string-copy t 4088))) (string-fill! t #\\e) (write (string-ref t 4093))",
+        b"(#t \"cccc\")(\"cccdd\" \"dddccc\")#\\e",
     ),
     (
         b"(define z (string #\\a (integer->char 0))) (define y (string #\\a (integer->char 255))) (write (list (string<? \"a\" z) (string<? z \"a\") (string=? \"a\" z) (string<? z y) (string<? \"b\" y) (string<? \"aaaaaaa\" \"aaaaaaab\") (string<? \"aaaaaaab\" \"aaaaaaa\") (string<? \"aaaaaabz\" \"aaaaaaca\") (string=? \"\" \"\") (string<? \"\" z) (equal? \"1234567\" \"1234567\")))",
