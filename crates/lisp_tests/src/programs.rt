@@ -619,7 +619,7 @@ fn made<A: Allocator + Copy>(
 
 /// The program that a text is.
 fn program_of<R: AllocGlobal + Abort>(rt: &R, text: &[u8]) -> Program<Global> {
-    let program = made(rt.alloc(), text, 1_000, 100_000).ok();
+    let program = made(rt.alloc(), text, 1_000, 400_000).ok();
     program.expect(rt, "a program")
 }
 
