@@ -1,15 +1,24 @@
 /* Plays commands of a trace by the calls of rheap.h, and prints what `rheap run` prints of them:
    examples/c/differ compares the two. Beside each command it looks whether the readers agree with
-   it, and tells on standard error where they don't. Stores of numbers to one field after the other,
-   line by line, are one call of rheap_store_ints; where that is refused, they are calls of their own.
-   So loads into one slot after the other, stores of one after the other, and drops are one call of
-   rheap_load_roots, rheap_store_roots or rheap_drop_roots; where one of them is refused, those behind
-   it are calls of their own. An object that is made in the first slot, stores to its first fields, a copy
-   of it and the drop of that slot are one call of rheap_make; where it is refused, they are calls of their
-   own, and so they are where it doesn't insist and a cycle is on or would begin, since the collector then
-   works at other times. Some of the new objects get tickets. No ticket may be told while the root
-   holds its object by which it was taken, and each is told once: at the end all roots are dropped. Where
-   calls insist it prints the dump of the heap after the last command, by rheap_dump.
+   it, and reports on standard error where they don't.
+
+   Lines that one call stands for are played by it:
+     - stores of numbers to one field after the other by rheap_store_ints, or by rheap_store_text where
+       the numbers are those of bytes; where that is refused, they are calls of their own;
+     - other stores to one field after the other by rheap_store_row;
+     - loads into one slot after the other, stores of one after the other, and drops by rheap_load_roots,
+       rheap_load_roots_untold, rheap_store_roots or rheap_drop_roots;
+     - loads into one slot, each from what the one before it loaded, by rheap_load_path. What these loads
+       answer is found by loads of their own into a spare slot;
+     - an object that is made in the spare slot, stores to its first fields, a copy of it and the drop of
+       that slot by rheap_make; where it is refused, they are calls of their own, and so they are where it
+       doesn't insist and a cycle is on or would begin, since the collector then works at other times.
+   Where one command of a row or of a path is refused, those behind it are one more call. Of the commands
+   of owner 0 on its own slots, two of three are calls by number.
+
+   Some of the new objects get tickets. No ticket may be told while the root holds its object by which it
+   was taken, and each is told once: at the end all roots are dropped. Where calls insist it prints the
+   dump of the heap after the last command, by rheap_dump.
 
    Usage: differ pace WORDS LIVE BIGGEST RATIO OWNERS SLOTS
             prints the mark and the log's limit
@@ -18,9 +27,13 @@
           differ insist WORDS LIVE BIGGEST RATIO OWNERS SLOTS PLAYED
             plays it by the calls that insist, and where LIVE is 0 collects between them. The file
             PLAYED gets the commands but for those that found no room, which aren't answered
+          differ resize WORDS LIVE BIGGEST RATIO OWNERS SLOTS PLAYED
+            does the same, and gives the heap other words now and then
           differ grow WORDS MOST BIGGEST RATIO OWNERS SLOTS
             plays standard input by the calls that don't insist, on a heap that grows from WORDS to MOST
-            words. It grows after a row of stores, and not within one, so each store is a call of its own
+            words. It grows after a row of numbers, and not within one, so these are stored as any row is
+          differ outgrow WORDS MOST BIGGEST RATIO OWNERS SLOTS PLAYED
+            plays it by the calls that insist, on such a heap
    LIVE 0 opens a heap of which no bound is known of what lives. */
 #include "rheap.h"
 #include <inttypes.h>
@@ -30,13 +43,19 @@
 
 /* The most stores that are made by one call. */
 #define ROW 64
+/* The slot of each owner that no command names but those that make an object with its values. */
+#define SPARE 0
 
 static rheap heap = RHEAP_INIT;
+/* The sizes with which it was opened. */
+static uint32_t size[6];
 static int insisting = 0;
 /* Whether the heap grows. */
 static int growing = 0;
 /* Whether it collects between commands. */
 static int collecting = 0;
+/* Whether it is given other words between commands. */
+static int resizing = 0;
 static int wrong = 0;
 static uint64_t commands = 0;
 static uint64_t refused = 0;
@@ -46,9 +65,21 @@ static uint64_t rows = 0;
 static uint64_t done_rows = 0;
 static uint64_t rows_in_cycles = 0;
 static uint64_t limited_rows = 0;
+/* Those of them that were texts, and were done. */
+static uint64_t texts = 0;
 /* The calls on roots in a row: all, and the commands that were done by them. */
 static uint64_t root_rows = 0;
 static uint64_t root_commands = 0;
+/* The calls of rheap_store_row and of rheap_load_path: all, and the commands that were done by them. */
+static uint64_t value_rows = 0;
+static uint64_t value_commands = 0;
+static uint64_t paths = 0;
+static uint64_t path_commands = 0;
+/* The calls by number. */
+static uint64_t calls_by_number = 0;
+/* The resizes that were done, and those that were refused. */
+static uint64_t resizes = 0;
+static uint64_t refused_resizes = 0;
 
 /* The calls of rheap_make and its kin: all, those that were done, and those of them in a cycle. */
 static uint64_t makes = 0;
@@ -185,6 +216,10 @@ static rheap_value stored(uint32_t owner, rheap_root_id object, uint32_t field) 
     must(rheap_field(&heap, object, field, &value));
     must(rheap_peek(&heap, owner, object, field, &peeked));
     agree(are_equal(value, peeked), "rheap_peek");
+    if (object.owner == 0) {
+        must(rheap_shared_peek(&heap, object.slot, field, &peeked));
+        agree(are_equal(value, peeked), "rheap_shared_peek");
+    }
     return value;
 }
 
@@ -243,15 +278,44 @@ static uint32_t number_of(const char *text) {
     return (uint32_t)strtoul(text, NULL, 10);
 }
 
-/* After an insisting call found no room: too few words are free, and each that is used is reached. */
+/* After an insisting call found no room: too few words are free, and each that is used is reached. A heap
+   that grows has the most words that it may have. */
 static void is_full(rheap_words words) {
     rheap_stats before;
     rheap_stats after;
+    uint8_t is;
+    must(rheap_short(&heap, &is));
+    agree(is == (growing ? RHEAP_AT_MOST : RHEAP_AMPLE), "rheap_short");
     must(rheap_stat(&heap, &before));
     must(rheap_collect(&heap));
     must(rheap_stat(&heap, &after));
     agree(words.free < words.need && words.free == before.free, "rheap_room");
     agree(after.used == before.used, "what is left");
+}
+
+/* Whether the call is made by the numbers of the slots. */
+static int is_by_number(uint32_t owner, rheap_root_id a, rheap_root_id b) {
+    if (owner != 0 || a.owner != 0 || b.owner != 0 || commands % 3 == 0) {
+        return 0;
+    }
+    calls_by_number++;
+    return 1;
+}
+
+static uint8_t call_alloc(uint32_t owner, rheap_root_id dst, uint32_t fields, int raw) {
+    if (is_by_number(owner, dst, dst)) {
+        if (insisting) {
+            return raw ? rheap_shared_insist_alloc_raw(&heap, dst.slot, fields)
+                       : rheap_shared_insist_alloc(&heap, dst.slot, fields);
+        }
+        return raw ? rheap_shared_alloc_raw(&heap, dst.slot, fields)
+                   : rheap_shared_alloc(&heap, dst.slot, fields);
+    }
+    if (insisting) {
+        return raw ? rheap_insist_alloc_raw(&heap, owner, dst, fields)
+                   : rheap_insist_alloc(&heap, owner, dst, fields);
+    }
+    return raw ? rheap_alloc_raw(&heap, owner, dst, fields) : rheap_alloc(&heap, owner, dst, fields);
 }
 
 /* Whether the command is answered: not where an insisting one found no room. */
@@ -262,16 +326,11 @@ static int alloc(uint32_t owner, rheap_root_id dst, uint32_t fields, int raw) {
     uint8_t status;
     memset(&value, 0, sizeof value);
     must(rheap_room(&heap, fields, &before));
-    if (insisting) {
-        status = raw ? rheap_insist_alloc_raw(&heap, owner, dst, fields)
-                     : rheap_insist_alloc(&heap, owner, dst, fields);
-    } else {
-        status = raw ? rheap_alloc_raw(&heap, owner, dst, fields)
-                     : rheap_alloc(&heap, owner, dst, fields);
-        agree(status == RHEAP_SPACE_FULL ? before.need > before.free
-                                         : status != RHEAP_DONE || before.need <= before.free,
-              "rheap_room");
-    }
+    status = call_alloc(owner, dst, fields, raw);
+    agree(insisting || (status == RHEAP_SPACE_FULL
+                            ? before.need > before.free
+                            : status != RHEAP_DONE || before.need <= before.free),
+          "rheap_room");
     must(rheap_room(&heap, fields, &after));
     agree(before.need == (uint64_t)fields + 2 && after.need == before.need, "what is needed");
     if (status == RHEAP_DONE) {
@@ -330,6 +389,24 @@ static void read_in_a_row(uint32_t owner, rheap_root_id src, uint32_t from, uint
     agree(status == first && count == (first == RHEAP_DONE ? due : 0), "rheap_load_ints");
 }
 
+/* Every other load is made by the call that returns no value, which is read from the root then. */
+static uint8_t call_load(uint32_t owner, rheap_root_id dst, rheap_root_id src, uint32_t field,
+                         rheap_value *value) {
+    uint8_t status;
+    int by_number = is_by_number(owner, dst, src);
+    if (commands % 2 == 0) {
+        return by_number ? rheap_shared_load(&heap, dst.slot, src.slot, field, value)
+                         : rheap_load(&heap, owner, dst, src, field, value);
+    }
+    status = by_number ? rheap_shared_load_untold(&heap, dst.slot, src.slot, field)
+                       : rheap_load_untold(&heap, owner, dst, src, field);
+    memset(value, 0, sizeof *value);
+    if (status == RHEAP_DONE) {
+        *value = held(dst);
+    }
+    return status;
+}
+
 static void load(uint32_t owner, rheap_root_id dst, rheap_root_id src, uint32_t field) {
     rheap_value peeked;
     rheap_value read;
@@ -342,16 +419,7 @@ static void load(uint32_t owner, rheap_root_id dst, rheap_root_id src, uint32_t 
               : status == peek && are_equal(read, peeked),
           "rheap_field");
     read_in_a_row(owner, src, field, (uint32_t)(commands % 5));
-    /* Every other load is done by the call that tells no value: what the root holds then is told. */
-    if (commands % 2 == 0) {
-        status = rheap_load(&heap, owner, dst, src, field, &value);
-    } else {
-        status = rheap_load_untold(&heap, owner, dst, src, field);
-        memset(&value, 0, sizeof value);
-        if (status == RHEAP_DONE) {
-            value = held(dst);
-        }
-    }
+    status = call_load(owner, dst, src, field, &value);
     /* A load is also refused for its `dst`. */
     agree(status == peek ? are_equal(value, peeked)
                          : status == RHEAP_NO_ROOT || status == RHEAP_NOT_YOURS,
@@ -363,28 +431,62 @@ static void load(uint32_t owner, rheap_root_id dst, rheap_root_id src, uint32_t 
     tell(status, value);
 }
 
-static uint8_t store(uint32_t owner, rheap_root_id object, uint32_t field, const char *operand) {
-    uint8_t status;
+/* The value that a store names, or a value of rheap_make. */
+static rheap_init operand_of(const char *text) {
+    if (strcmp(text, "nil") == 0) {
+        return rheap_of_nil();
+    }
+    return strchr(text, '.') != NULL ? rheap_of_root(root_of(text))
+                                     : rheap_of_int((int64_t)strtoll(text, NULL, 10));
+}
+
+/* What a root or a field holds that took this value. */
+static rheap_value taken_from(rheap_init operand) {
     rheap_value value;
     memset(&value, 0, sizeof value);
-    if (strcmp(operand, "nil") == 0) {
-        status = insisting ? rheap_insist_store_nil(&heap, owner, object, field)
-                           : rheap_store_nil(&heap, owner, object, field);
-    } else if (strchr(operand, '.') != NULL) {
-        rheap_root_id src = root_of(operand);
-        status = insisting ? rheap_insist_store_root(&heap, owner, object, field, src)
-                           : rheap_store_root(&heap, owner, object, field, src);
-        if (status == RHEAP_DONE) {
-            value = held(src);
-        }
-    } else {
+    if (operand.kind == RHEAP_NUMBER) {
         value.kind = RHEAP_NUMBER;
-        value.number = (int64_t)strtoll(operand, NULL, 10);
-        status = insisting ? rheap_insist_store_int(&heap, owner, object, field, value.number)
-                           : rheap_store_int(&heap, owner, object, field, value.number);
+        value.number = operand.number;
+    } else if (operand.kind != RHEAP_NIL) {
+        (void)rheap_root(&heap, operand.root, &value);
     }
+    return value;
+}
+
+/* The store by the number of the object's slot, and where it is a root's value, of the root's. */
+static uint8_t call_store_by_number(uint32_t object, uint32_t field, rheap_init operand) {
+    if (operand.kind == RHEAP_NIL) {
+        return insisting ? rheap_shared_insist_store_nil(&heap, object, field)
+                         : rheap_shared_store_nil(&heap, object, field);
+    }
+    if (operand.kind == RHEAP_NUMBER) {
+        return insisting ? rheap_shared_insist_store_int(&heap, object, field, operand.number)
+                         : rheap_shared_store_int(&heap, object, field, operand.number);
+    }
+    return insisting ? rheap_shared_insist_store_root(&heap, object, field, operand.root.slot)
+                     : rheap_shared_store_root(&heap, object, field, operand.root.slot);
+}
+
+static uint8_t call_store(uint32_t owner, rheap_root_id object, uint32_t field, rheap_init operand) {
+    if (is_by_number(owner, object, operand.root)) {
+        return call_store_by_number(object.slot, field, operand);
+    }
+    if (operand.kind == RHEAP_NIL) {
+        return insisting ? rheap_insist_store_nil(&heap, owner, object, field)
+                         : rheap_store_nil(&heap, owner, object, field);
+    }
+    if (operand.kind == RHEAP_NUMBER) {
+        return insisting ? rheap_insist_store_int(&heap, owner, object, field, operand.number)
+                         : rheap_store_int(&heap, owner, object, field, operand.number);
+    }
+    return insisting ? rheap_insist_store_root(&heap, owner, object, field, operand.root)
+                     : rheap_store_root(&heap, owner, object, field, operand.root);
+}
+
+static uint8_t store(uint32_t owner, rheap_root_id object, uint32_t field, rheap_init operand) {
+    uint8_t status = call_store(owner, object, field, operand);
     if (status == RHEAP_DONE) {
-        agree(are_equal(value, stored(owner, object, field)), "rheap_field");
+        agree(are_equal(taken_from(operand), stored(owner, object, field)), "rheap_field");
     }
     agree(!insisting || status != RHEAP_LOG_FULL, "a store that insists");
     tell_done(status);
@@ -392,7 +494,8 @@ static uint8_t store(uint32_t owner, rheap_root_id object, uint32_t field, const
 }
 
 static void copy(uint32_t owner, rheap_root_id dst, rheap_root_id src) {
-    uint8_t status = rheap_copy(&heap, owner, dst, src);
+    uint8_t status = is_by_number(owner, dst, src) ? rheap_shared_copy(&heap, dst.slot, src.slot)
+                                                   : rheap_copy(&heap, owner, dst, src);
     uint8_t same;
     rheap_value value;
     memset(&value, 0, sizeof value);
@@ -418,7 +521,8 @@ static void compare(uint32_t owner, rheap_root_id a, rheap_root_id b) {
 }
 
 static void drop(uint32_t owner, rheap_root_id root) {
-    uint8_t status = rheap_drop(&heap, owner, root);
+    uint8_t status = is_by_number(owner, root, root) ? rheap_shared_drop(&heap, root.slot)
+                                                     : rheap_drop(&heap, owner, root);
     if (status == RHEAP_DONE) {
         written(root);
         agree(held(root).kind == RHEAP_NIL, "rheap_root");
@@ -426,8 +530,42 @@ static void drop(uint32_t owner, rheap_root_id root) {
     tell_done(status);
 }
 
-/* The work of the collector between commands, where there is some. */
+static int are_same_stats(rheap_stats a, rheap_stats b) {
+    return memcmp(&a, &b, offsetof(rheap_stats, cycle)) == 0 && a.cycle == b.cycle;
+}
+
+/* Gives the heap other words, sometimes fewer than are used. A heap that grows refuses that. */
+static void resize(void) {
+    rheap_stats before;
+    rheap_stats after;
+    uint32_t words;
+    uint8_t status;
+    must(rheap_stat(&heap, &before));
+    words = (uint32_t)before.used + (uint32_t)(commands * 7 % 400) - (uint32_t)(commands % 2 * 8);
+    status = size[1] == 0 || (growing && commands % 2 == 0)
+                 ? rheap_resize_sized(&heap, words, size[2])
+                 : rheap_resize(&heap, words, size[1], size[2]);
+    must(rheap_stat(&heap, &after));
+    if (status == RHEAP_DONE) {
+        agree(!growing && after.free == words - before.used, "the words of rheap_resize");
+        after.free = before.free;
+        resizes++;
+    } else {
+        agree(growing ? status == RHEAP_GROWS
+                      : status == RHEAP_NO_PACE ||
+                            (status == RHEAP_BAD_SIZES && words - 8 > RHEAP_MAX_WORDS - 8) ||
+                            (status == RHEAP_IN_USE && (words < before.used || before.log > 0)),
+              "rheap_resize");
+        refused_resizes++;
+    }
+    agree(are_same_stats(before, after), "the heap after rheap_resize");
+}
+
+/* The work between commands, where there is some. */
 static void between_commands(void) {
+    if ((resizing || growing) && commands % 13 == 0) {
+        resize();
+    }
     if (collecting && commands % 11 == 0) {
         must(rheap_increment(&heap));
     }
@@ -436,98 +574,182 @@ static void between_commands(void) {
     }
 }
 
-/* Stores of numbers, each to the field after that of the one before. */
+/* Stores, each to the field after that of the one before. */
 typedef struct {
-    char line[ROW][128];
+    const char *line[ROW];
+    rheap_init values[ROW];
     int64_t numbers[ROW];
-    char owner[12];
-    char object[24];
+    uint32_t owner;
+    rheap_root_id object;
     uint32_t from;
     uint32_t length;
 } row;
 
+static int is_same_root(rheap_root_id a, rheap_root_id b) {
+    return a.owner == b.owner && a.slot == b.slot;
+}
+
 /* Whether the line is one more store of the row, which it is put into then. */
 static int goes_on(row *stores, const char *line) {
-    char owner[12];
     char object[24];
     char operand[24];
+    uint32_t owner;
     uint32_t field;
-    if (growing || stores->length == ROW ||
-        sscanf(line, "%11s store %23s %" SCNu32 " %23s", owner, object, &field, operand) != 4 ||
-        strcmp(operand, "nil") == 0 || strchr(operand, '.') != NULL) {
+    if (stores->length == ROW || sscanf(line, "%" SCNu32 " store %23s %" SCNu32 " %23s", &owner, object,
+                                        &field, operand) != 4) {
         return 0;
     }
     if (stores->length == 0) {
-        strcpy(stores->owner, owner);
-        strcpy(stores->object, object);
+        stores->owner = owner;
+        stores->object = root_of(object);
         stores->from = field;
-    } else if (strcmp(stores->owner, owner) != 0 || strcmp(stores->object, object) != 0 ||
+    } else if (stores->owner != owner || !is_same_root(stores->object, root_of(object)) ||
                field != stores->from + stores->length) {
         return 0;
     }
-    strcpy(stores->line[stores->length], line);
-    stores->numbers[stores->length++] = (int64_t)strtoll(operand, NULL, 10);
+    stores->values[stores->length] = operand_of(operand);
+    stores->numbers[stores->length] = stores->values[stores->length].number;
+    stores->line[stores->length++] = line;
     return 1;
 }
 
-/* Plays the stores by one call. Where it is refused, it changed nothing, and they are played one by
-   one: the first of them that a limit doesn't refuse has the status of the call. */
-static void play_row(const row *stores) {
-    uint32_t owner = number_of(stores->owner);
-    rheap_root_id object = root_of(stores->object);
-    rheap_pacing pacing;
-    rheap_stats before;
-    rheap_stats after;
-    uint8_t first = RHEAP_DONE;
-    uint8_t status;
-    uint32_t at;
-    must(rheap_pace(&heap, &pacing));
-    must(rheap_store_ints(&heap, owner, object, stores->from, stores->numbers, 0));
-    must(rheap_stat(&heap, &before));
-    status = rheap_store_ints(&heap, owner, object, stores->from, stores->numbers, stores->length);
-    must(rheap_stat(&heap, &after));
-    agree(status == RHEAP_DONE ? after.number == before.number + stores->length
-                               : memcmp(&before, &after, offsetof(rheap_stats, cycle)) == 0 &&
-                                     before.cycle == after.cycle,
-          "rheap_store_ints");
-    agree(status == RHEAP_DONE || status == RHEAP_LOG_FULL
-              ? (before.cycle == 1 && before.log + stores->length > pacing.log_limit) ==
-                    (status == RHEAP_LOG_FULL)
-              : status <= RHEAP_INT_RANGE,
-          "the log's limit");
-    rows++;
-    done_rows += status == RHEAP_DONE;
-    rows_in_cycles += status == RHEAP_DONE && before.cycle == 1;
-    limited_rows += status == RHEAP_LOG_FULL;
-    if (insisting && status == RHEAP_LOG_FULL) {
-        status = rheap_insist_store_ints(&heap, owner, object, stores->from, stores->numbers,
-                                         stores->length);
-        must(status);
+static int are_numbers(const row *stores) {
+    uint32_t at = 0;
+    while (at < stores->length && stores->values[at].kind == RHEAP_NUMBER) {
+        at++;
     }
+    return at == stores->length;
+}
+
+/* How many bytes the text has that the stores are, which is written then; 0 where they are none. Its last
+   bytes aren't zero, but for the first of the last number. */
+static size_t text_of(const row *stores, unsigned char *text) {
+    size_t length = 7 * (size_t)stores->length;
+    size_t at;
+    for (at = 0; at < length; at++) {
+        int64_t number = stores->numbers[at / 7];
+        if (number < 0 || number >= INT64_C(1) << 56) {
+            return 0;
+        }
+        text[at] = (unsigned char)(number >> 8 * (at % 7) & 0xff);
+    }
+    while (text[length - 1] == 0 && length % 7 != 1) {
+        length--;
+    }
+    return length;
+}
+
+/* The stores by one call: of the text, where it has bytes, and else of the numbers. */
+static uint8_t call_row(const row *stores, int insists, const unsigned char *text, size_t length) {
+    if (length > 0) {
+        return insists ? rheap_insist_store_text(&heap, stores->owner, stores->object, stores->from,
+                                                 text, length)
+                       : rheap_store_text(&heap, stores->owner, stores->object, stores->from, text,
+                                          length);
+    }
+    return insists ? rheap_insist_store_ints(&heap, stores->owner, stores->object, stores->from,
+                                             stores->numbers, stores->length)
+                   : rheap_store_ints(&heap, stores->owner, stores->object, stores->from,
+                                      stores->numbers, stores->length);
+}
+
+/* Prints what the stores are answered that a call with this status stands for: done, or those of calls
+   of their own. */
+static void tell_row(const row *stores, uint8_t status) {
+    uint8_t first = RHEAP_DONE;
+    uint32_t at;
     for (at = 0; at < stores->length; at++) {
-        char operand[24];
         uint8_t single = RHEAP_DONE;
+        uint32_t field = stores->from + at;
         commands++;
         if (status == RHEAP_DONE) {
-            rheap_value value = stored(owner, object, stores->from + at);
+            rheap_value value = stored(stores->owner, stores->object, field);
             agree(value.kind == RHEAP_NUMBER && value.number == stores->numbers[at], "rheap_field");
             tell_done(status);
         } else {
-            sprintf(operand, "%" PRId64, stores->numbers[at]);
-            single = store(owner, object, stores->from + at, operand);
+            single = store(stores->owner, stores->object, field, stores->values[at]);
         }
         if (first == RHEAP_DONE && single != RHEAP_LOG_FULL) {
             first = single;
         }
     }
     agree(first == (status == RHEAP_LOG_FULL ? RHEAP_DONE : status), "the first refusal");
-    read_in_a_row(owner, object, stores->from, stores->length);
+}
+
+/* Plays the stores of numbers by one call. Where it is refused, it changed nothing, and they are played
+   one by one: the first of them that a limit doesn't refuse has the status of the call. */
+static void play_row(const row *stores) {
+    unsigned char text[7 * ROW];
+    size_t bytes = text_of(stores, text);
+    rheap_pacing pacing;
+    rheap_stats before;
+    rheap_stats after;
+    uint8_t status;
+    must(rheap_pace(&heap, &pacing));
+    must(rheap_store_ints(&heap, stores->owner, stores->object, stores->from, stores->numbers, 0));
+    must(rheap_stat(&heap, &before));
+    status = call_row(stores, 0, text, bytes);
+    must(rheap_stat(&heap, &after));
+    agree(status == RHEAP_DONE ? after.number == before.number + stores->length
+                               : are_same_stats(before, after),
+          "rheap_store_ints");
+    agree(status == RHEAP_DONE || status == RHEAP_LOG_FULL
+              ? (before.cycle == 1 && before.log + stores->length > pacing.log_limit) ==
+                    (status == RHEAP_LOG_FULL)
+              : status <= (bytes > 0 ? RHEAP_NO_FIELD : RHEAP_INT_RANGE),
+          "the log's limit");
+    rows++;
+    done_rows += status == RHEAP_DONE;
+    texts += status == RHEAP_DONE && bytes > 0;
+    rows_in_cycles += status == RHEAP_DONE && before.cycle == 1;
+    limited_rows += status == RHEAP_LOG_FULL;
+    if (insisting && status == RHEAP_LOG_FULL) {
+        status = call_row(stores, 1, text, bytes);
+        must(status);
+    }
+    tell_row(stores, status);
+    read_in_a_row(stores->owner, stores->object, stores->from, stores->length);
+    between_commands();
+}
+
+/* Plays the stores from one on by one call, up to the first that is refused. How many were answered. */
+static uint32_t play_values_from(const row *stores, uint32_t at) {
+    uint32_t length = stores->length - at;
+    uint32_t from = stores->from + at;
+    size_t count = ROW + 1;
+    uint32_t n;
+    uint8_t status = insisting ? rheap_insist_store_row(&heap, stores->owner, stores->object, from,
+                                                        stores->values + at, length, &count)
+                               : rheap_store_row(&heap, stores->owner, stores->object, from,
+                                                 stores->values + at, length, &count);
+    agree(!insisting || status != RHEAP_LOG_FULL, "a row of values that insists");
+    agree(count <= length && (status == RHEAP_DONE) == (count == length), "rheap_store_row");
+    value_rows++;
+    value_commands += count;
+    for (n = 0; n < count; n++) {
+        agree(are_equal(taken_from(stores->values[at + n]),
+                        stored(stores->owner, stores->object, from + n)),
+              "a value of rheap_store_row");
+        tell_done(RHEAP_DONE);
+    }
+    if (status != RHEAP_DONE) {
+        tell_refusal(status, 0);
+    }
+    return (uint32_t)count + (status != RHEAP_DONE);
+}
+
+static void play_values(const row *stores) {
+    uint32_t at = 0;
+    while (at < stores->length) {
+        uint32_t played = play_values_from(stores, at);
+        commands += played;
+        at += played;
+    }
     between_commands();
 }
 
 /* Loads into slots one after the other, stores of such slots, or drops of them. */
 typedef struct {
-    char line[ROW][128];
     char word[8];
     uint32_t owner;
     rheap_root_id object;
@@ -535,10 +757,6 @@ typedef struct {
     uint32_t from;
     uint32_t length;
 } root_row;
-
-static int is_same_root(rheap_root_id a, rheap_root_id b) {
-    return a.owner == b.owner && a.slot == b.slot;
-}
 
 /* Whether the line is one more command of the row, which it is put into then. */
 static int goes_on_with_roots(root_row *row, const char *line) {
@@ -577,8 +795,26 @@ static int goes_on_with_roots(root_row *row, const char *line) {
                !is_same_root(rheap_slot(row->first.owner, row->first.slot + row->length), root)) {
         return 0;
     }
-    strcpy(row->line[row->length++], line);
+    row->length++;
     return 1;
+}
+
+/* Every other row of loads is made by the call that returns no values: they are read from the roots. */
+static uint8_t call_load_roots(const root_row *row, uint32_t at, rheap_value *values, size_t *count) {
+    rheap_root_id first = rheap_slot(row->first.owner, row->first.slot + at);
+    uint32_t length = row->length - at;
+    uint8_t status;
+    uint32_t n;
+    if (commands % 2 == 0) {
+        return rheap_load_roots(&heap, row->owner, first, row->object, row->from + at, values, length,
+                                count);
+    }
+    status = rheap_load_roots_untold(&heap, row->owner, first, row->object, row->from + at, length,
+                                     count);
+    for (n = 0; n < *count && n < length; n++) {
+        values[n] = held(rheap_slot(first.owner, first.slot + n));
+    }
+    return status;
 }
 
 /* Plays the commands of the row from one on by one call, up to the first that is refused. How many
@@ -592,8 +828,7 @@ static uint32_t play_roots_from(const root_row *row, uint32_t at) {
     uint8_t status;
     memset(values, 0x5a, sizeof values);
     if (strcmp(row->word, "load") == 0) {
-        status = rheap_load_roots(&heap, row->owner, first, row->object, row->from + at, values, length,
-                                  &count);
+        status = call_load_roots(row, at, values, &count);
     } else if (strcmp(row->word, "drop") == 0) {
         status = rheap_drop_roots(&heap, row->owner, first, length, &count);
     } else {
@@ -639,6 +874,98 @@ static void play_roots(const root_row *row) {
     between_commands();
 }
 
+/* Loads into one slot, each but the first from what the one before it loaded. */
+typedef struct {
+    uint32_t fields[ROW];
+    uint32_t owner;
+    rheap_root_id dst;
+    rheap_root_id src;
+    uint32_t length;
+} path;
+
+/* Whether the line is one more load of the path, which it is put into then. */
+static int goes_on_with_path(path *loads, const char *line) {
+    char dst[24];
+    char src[24];
+    uint32_t owner;
+    uint32_t field;
+    if (loads->length == ROW || sscanf(line, "%" SCNu32 " load %23s %23s %" SCNu32, &owner, dst, src,
+                                       &field) != 4) {
+        return 0;
+    }
+    if (loads->length == 0) {
+        loads->owner = owner;
+        loads->dst = root_of(dst);
+        loads->src = root_of(src);
+    } else if (loads->owner != owner || !is_same_root(loads->dst, root_of(dst)) ||
+               !is_same_root(loads->dst, root_of(src))) {
+        return 0;
+    }
+    loads->fields[loads->length++] = field;
+    return 1;
+}
+
+/* What the loads of the path from one on answer into the spare slot, which is nil before and after.
+   `count` gets how many are done, up to the first that is refused, whose status it is. */
+static uint8_t walk(const path *loads, uint32_t at, rheap_root_id src, rheap_value *values,
+                    size_t *count) {
+    rheap_root_id spare = rheap_slot(loads->owner, SPARE);
+    uint8_t status = RHEAP_DONE;
+    for (*count = 0; *count < loads->length - at; (*count)++) {
+        status = rheap_load(&heap, loads->owner, spare, *count == 0 ? src : spare,
+                            loads->fields[at + *count], &values[*count]);
+        if (status != RHEAP_DONE) {
+            break;
+        }
+    }
+    (void)rheap_drop(&heap, loads->owner, spare);
+    return status;
+}
+
+/* Plays the loads of the path from one on by one call, up to the first that is refused. How many were
+   answered. */
+static uint32_t play_path_from(const path *loads, uint32_t at) {
+    rheap_root_id src = at == 0 ? loads->src : loads->dst;
+    rheap_value values[ROW];
+    rheap_value last;
+    size_t due;
+    size_t count = ROW + 1;
+    size_t n;
+    uint8_t first = walk(loads, at, src, values, &due);
+    uint8_t status = rheap_load_path(&heap, loads->owner, loads->dst, src, loads->fields + at,
+                                     loads->length - at, &count, &last);
+    /* The path is also refused for its `dst`. */
+    agree(status == first ? count == due
+                          : count == 0 && (status == RHEAP_NO_ROOT || status == RHEAP_NOT_YOURS),
+          "rheap_load_path");
+    if (count > 0) {
+        written(loads->dst);
+        agree(are_equal(last, values[count - 1]) && are_equal(last, held(loads->dst)),
+              "the value of a path");
+    } else {
+        agree(last.kind == RHEAP_NIL && last.fields == 0 && last.number == 0, "no value of a path");
+    }
+    paths++;
+    path_commands += count;
+    for (n = 0; n < count; n++) {
+        tell(RHEAP_DONE, values[n]);
+    }
+    if (status != RHEAP_DONE) {
+        tell_refusal(status, 0);
+    }
+    return (uint32_t)count + (status != RHEAP_DONE);
+}
+
+static void play_path(const path *loads) {
+    uint32_t at = 0;
+    while (at < loads->length) {
+        uint32_t played = play_path_from(loads, at);
+        commands += played;
+        at += played;
+    }
+    between_commands();
+}
+
 /* Plays a line: an owner, a word and up to three parts. Whether it is answered. */
 static int play(const char *line) {
     char word[8];
@@ -657,7 +984,7 @@ static int play(const char *line) {
     if (strcmp(word, "load") == 0) {
         load(owner, root_of(part[0]), root_of(part[1]), number_of(part[2]));
     } else if (strcmp(word, "store") == 0) {
-        (void)store(owner, root_of(part[0]), number_of(part[1]), part[2]);
+        (void)store(owner, root_of(part[0]), number_of(part[1]), operand_of(part[2]));
     } else if (strcmp(word, "copy") == 0) {
         copy(owner, root_of(part[0]), root_of(part[1]));
     } else if (strcmp(word, "same") == 0) {
@@ -670,9 +997,8 @@ static int play(const char *line) {
 
 /* An object that is made in a spare slot, stores to its fields from the first on, a copy of it and the
    drop of that slot. */
-#define SPARE 0
 typedef struct {
-    char line[ROW + 3][128];
+    const char *line[ROW + 3];
     rheap_init values[ROW];
     unsigned owner;
     int raw;
@@ -707,10 +1033,7 @@ static int goes_on_making(making *made, const char *line) {
         made->fields = number_of(part[1]);
     } else if (strcmp(word, "store") == 0 && is_spare(part[0], owner) &&
                number_of(part[1]) == made->count && made->count < ROW) {
-        made->values[made->count++] =
-            strcmp(part[2], "nil") == 0        ? rheap_of_nil()
-            : strchr(part[2], '.') != NULL     ? rheap_of_root(root_of(part[2]))
-                                               : rheap_of_int((int64_t)strtoll(part[2], NULL, 10));
+        made->values[made->count++] = operand_of(part[2]);
     } else if (strcmp(word, "copy") == 0 && is_spare(part[1], owner)) {
         made->dst = root_of(part[0]);
     } else if (strcmp(word, "drop") == 0 && is_spare(part[0], owner)) {
@@ -718,7 +1041,7 @@ static int goes_on_making(making *made, const char *line) {
     } else {
         return 0;
     }
-    strcpy(made->line[made->length++], line);
+    made->line[made->length++] = line;
     return 1;
 }
 
@@ -774,14 +1097,7 @@ static void play_made(const making *made, FILE *played) {
     is_tried = made->ended &&
                (insisting || (before.cycle == 0 && room.free >= room.need + pacing.mark));
     for (at = 0; at < made->count && is_tried; at++) {
-        rheap_init value = made->values[at];
-        memset(&taken[at], 0, sizeof taken[at]);
-        if (value.kind == RHEAP_NUMBER) {
-            taken[at].kind = RHEAP_NUMBER;
-            taken[at].number = value.number;
-        } else if (value.kind != RHEAP_NIL) {
-            (void)rheap_root(&heap, value.root, &taken[at]);
-        }
+        taken[at] = taken_from(made->values[at]);
     }
     if (is_tried) {
         status = make(made);
@@ -799,9 +1115,7 @@ static void play_made(const making *made, FILE *played) {
     }
     if (is_tried && status != RHEAP_DONE) {
         must(rheap_stat(&heap, &after));
-        agree(memcmp(&before, &after, offsetof(rheap_stats, cycle)) == 0 &&
-                  before.cycle == after.cycle && status <= RHEAP_FIELDS_RANGE,
-              "a refused rheap_make");
+        agree(are_same_stats(before, after) && status <= RHEAP_FIELDS_RANGE, "a refused rheap_make");
     }
     first_refusal = rheap_copy(&heap, made->owner, made->dst, made->dst);
     for (at = 0; at < made->length; at++) {
@@ -827,58 +1141,114 @@ static void print_dump(void) {
     free(text);
 }
 
-/* Plays standard input. `played` gets what is answered, where it isn't NULL. */
-static void play_all(FILE *played) {
+/* The lines of standard input. */
+static char (*lines)[128] = NULL;
+static size_t line_count = 0;
+
+static void read_lines(void) {
+    size_t room = 0;
+    do {
+        if (line_count == room) {
+            room = 2 * room + 1000;
+            lines = (char(*)[128])realloc(lines, room * sizeof *lines);
+            must(lines == NULL ? RHEAP_NO_MEMORY : RHEAP_DONE);
+        }
+    } while (fgets(lines[line_count], sizeof *lines, stdin) != NULL && ++line_count > 0);
+}
+
+/* Plays the lines from one on that make an object with its values. How many they are. */
+static size_t play_making(size_t next, FILE *played) {
+    static making made;
+    size_t at = next;
+    made.length = made.count = 0;
+    made.ended = 0;
+    while (at < line_count && goes_on_making(&made, lines[at])) {
+        at++;
+    }
+    if (made.length > 0) {
+        play_made(&made, played);
+    }
+    return made.length;
+}
+
+/* Plays the lines from one on that are a path or a row. How many they are; 0 where it is one alone. */
+static size_t play_in_a_row(size_t next) {
     static row stores;
     static root_row roots;
-    static making made;
-    char line[128];
-    rheap_stats stats;
-    int is_there = fgets(line, sizeof line, stdin) != NULL;
-    while (is_there) {
-        uint32_t at;
-        made.length = made.count = 0;
-        made.ended = 0;
-        while (is_there && goes_on_making(&made, line)) {
-            is_there = fgets(line, sizeof line, stdin) != NULL;
-        }
-        if (made.length > 0) {
-            play_made(&made, played);
-            take_gone();
-            continue;
-        }
-        stores.length = 0;
-        while (is_there && goes_on(&stores, line)) {
-            is_there = fgets(line, sizeof line, stdin) != NULL;
-        }
-        if (stores.length > 1) {
-            play_row(&stores);
-        } else if (stores.length == 1) {
-            (void)play(stores.line[0]);
-        }
-        for (at = 0; at < stores.length && played != NULL; at++) {
-            fputs(stores.line[at], played);
-        }
-        roots.length = 0;
-        while (is_there && stores.length == 0 && goes_on_with_roots(&roots, line)) {
-            is_there = fgets(line, sizeof line, stdin) != NULL;
-        }
-        if (roots.length > 1) {
-            play_roots(&roots);
-        } else if (roots.length == 1) {
-            (void)play(roots.line[0]);
-        }
-        for (at = 0; at < roots.length && played != NULL; at++) {
-            fputs(roots.line[at], played);
-        }
-        take_gone();
-        if (stores.length == 0 && roots.length == 0) {
-            if (play(line) && played != NULL) {
-                fputs(line, played);
-            }
-            is_there = fgets(line, sizeof line, stdin) != NULL;
-        }
+    static path loads;
+    size_t at;
+    stores.length = roots.length = loads.length = 0;
+    for (at = next; at < line_count && goes_on(&stores, lines[at]); at++) {
     }
+    for (at = next; at < line_count && goes_on_with_roots(&roots, lines[at]); at++) {
+    }
+    for (at = next; at < line_count && goes_on_with_path(&loads, lines[at]); at++) {
+    }
+    if (loads.length > 1 && loads.length >= roots.length) {
+        play_path(&loads);
+        return loads.length;
+    }
+    if (roots.length > 1 && roots.length >= stores.length) {
+        play_roots(&roots);
+        return roots.length;
+    }
+    if (stores.length > 1 && are_numbers(&stores) && (insisting || !growing)) {
+        play_row(&stores);
+        return stores.length;
+    }
+    if (stores.length > 1) {
+        play_values(&stores);
+        return stores.length;
+    }
+    return 0;
+}
+
+/* Plays the lines from one on that one call stands for, or this line alone. How many they are. */
+static size_t play_lines(size_t next, FILE *played) {
+    size_t count = play_making(next, played);
+    size_t at;
+    if (count > 0) {
+        return count;
+    }
+    count = play_in_a_row(next);
+    if (count == 0) {
+        if (!play(lines[next])) {
+            return 1;
+        }
+        count = 1;
+    }
+    for (at = 0; at < count && played != NULL; at++) {
+        fputs(lines[next + at], played);
+    }
+    return count;
+}
+
+/* Prints how many calls there were of each kind. */
+static void print_counts(void) {
+    fprintf(stderr, "roots %" PRIu64 " done %" PRIu64 " tickets %" PRIu64 " told %" PRIu64 "\n",
+            root_rows, root_commands, taken_tickets, told_tickets);
+    fprintf(stderr, "makes %" PRIu64 " done %" PRIu64 " in cycles %" PRIu64 "\n", makes, done_makes,
+            makes_in_cycles);
+    fprintf(stderr,
+            "rows %" PRIu64 " done %" PRIu64 " in cycles %" PRIu64 " limited %" PRIu64
+            " texts %" PRIu64 "\n",
+            rows, done_rows, rows_in_cycles, limited_rows, texts);
+    fprintf(stderr, "values %" PRIu64 " done %" PRIu64 " paths %" PRIu64 " done %" PRIu64 "\n",
+            value_rows, value_commands, paths, path_commands);
+    fprintf(stderr, "numbers %" PRIu64 " resizes %" PRIu64 " refused %" PRIu64 "\n", calls_by_number,
+            resizes, refused_resizes);
+}
+
+/* Plays standard input. `played` gets what is answered, where it isn't NULL. */
+static void play_all(FILE *played) {
+    rheap_stats stats;
+    size_t next = 0;
+    read_lines();
+    while (next < line_count) {
+        next += play_lines(next, played);
+        take_gone();
+    }
+    free(lines);
     if (insisting) {
         print_dump();
     }
@@ -888,55 +1258,57 @@ static void play_all(FILE *played) {
                " rootwords %" PRIu64 "\n",
                commands, refused, stats.flips, stats.root_words);
     }
-    fprintf(stderr, "roots %" PRIu64 " done %" PRIu64 " tickets %" PRIu64 " told %" PRIu64 "\n",
-            root_rows, root_commands, taken_tickets, told_tickets);
-    fprintf(stderr, "makes %" PRIu64 " done %" PRIu64 " in cycles %" PRIu64 "\n", makes, done_makes,
-            makes_in_cycles);
-    fprintf(stderr, "rows %" PRIu64 " done %" PRIu64 " in cycles %" PRIu64 " limited %" PRIu64 "\n",
-            rows, done_rows, rows_in_cycles, limited_rows);
+    print_counts();
 }
 
-/* Opens a heap of fixed sizes. */
-static void open_fixed(const uint32_t *size) {
-    must(size[1] == 0 ? rheap_open_sized(&heap, size[0], size[2], size[3], size[4], size[5])
-                      : rheap_open(&heap, size[0], size[1], size[2], size[3], size[4], size[5]));
+/* Plays standard input, and writes what is answered into the file. */
+static void play_into(const char *name) {
+    FILE *played = fopen(name, "w");
+    if (played == NULL) {
+        perror("differ");
+        exit(2);
+    }
+    play_all(played);
+    if (fclose(played) != 0) {
+        perror("differ");
+        exit(2);
+    }
+}
+
+/* Opens the heap: one of fixed sizes, or one that grows. */
+static void open_heap(void) {
+    if (growing) {
+        const rheap_growth growth = {size[0], size[1], 200, size[2], size[3], size[4], size[5]};
+        must(rheap_open_growth(&heap, &growth));
+    } else {
+        must(size[1] == 0
+                 ? rheap_open_sized(&heap, size[0], size[2], size[3], size[4], size[5])
+                 : rheap_open(&heap, size[0], size[1], size[2], size[3], size[4], size[5]));
+    }
+    must(rheap_watch_room(&heap, TICKETS));
 }
 
 int main(int argc, char **argv) {
-    uint32_t size[6];
     int n;
     if (argc < 8) {
-        fprintf(stderr, "differ: it takes pace, run, grow or insist, six numbers, and of insist a file\n");
+        fprintf(stderr, "differ: it takes pace, run, grow, insist, resize or outgrow, six numbers, and of "
+                        "the last three a file\n");
         return 2;
     }
     for (n = 0; n < 6; n++) {
         size[n] = number_of(argv[n + 2]);
     }
-    growing = strcmp(argv[1], "grow") == 0;
-    if (growing) {
-        const rheap_growth growth = {size[0], size[1], 200, size[2], size[3], size[4], size[5]};
-        must(rheap_open_growth(&heap, &growth));
-    } else {
-        open_fixed(size);
-    }
-    must(rheap_watch_room(&heap, TICKETS));
-    insisting = strcmp(argv[1], "insist") == 0;
-    collecting = insisting && size[1] == 0;
+    growing = strcmp(argv[1], "grow") == 0 || strcmp(argv[1], "outgrow") == 0;
+    resizing = strcmp(argv[1], "resize") == 0;
+    insisting = argc == 9;
+    collecting = insisting && (growing || size[1] == 0);
+    open_heap();
     if (strcmp(argv[1], "pace") == 0) {
         rheap_pacing pacing;
         must(rheap_pace(&heap, &pacing));
         printf("%" PRIu32 " %" PRIu32 "\n", pacing.mark, pacing.log_limit);
-    } else if (insisting && argc == 9) {
-        FILE *played = fopen(argv[8], "w");
-        if (played == NULL) {
-            perror("differ");
-            return 2;
-        }
-        play_all(played);
-        if (fclose(played) != 0) {
-            perror("differ");
-            return 2;
-        }
+    } else if (insisting) {
+        play_into(argv[8]);
     } else {
         play_all(NULL);
     }
