@@ -954,7 +954,7 @@ impl Heap {
     }
 
     #[inline]
-    fn allocated(&self, status: u8, dst: Root, fields: u32) -> Result<()> {
+    pub(crate) fn allocated(&self, status: u8, dst: Root, fields: u32) -> Result<()> {
         match status {
             raw::DONE => Ok(()),
             status => Err(self.refused(
@@ -969,7 +969,13 @@ impl Heap {
     }
 
     #[inline]
-    pub(crate) fn stored(&self, status: u8, object: Root, field: u32, operand: Operand) -> Result<()> {
+    pub(crate) fn stored(
+        &self,
+        status: u8,
+        object: Root,
+        field: u32,
+        operand: Operand,
+    ) -> Result<()> {
         if status == raw::DONE {
             return Ok(());
         }

@@ -43,6 +43,10 @@
 //! A root is a pair of numbers, and doesn't know its heap. In another heap it names the slot of the
 //! same numbers. If that heap has no such slot, the call returns [`Error::NoRoot`].
 //!
+//! A program that has no use for owners keeps all its roots in the slots of owner 0, and names each by
+//! its number: [`Heap::shared`] returns a [`Shared`], and [`Heap::shared_alloc`] and its like take it. If
+//! the heap has fixed sizes, they take fewer instructions than the calls on roots.
+//!
 //! # Objects with their values
 //!
 //! [`Heap::alloc`] makes an object whose fields are nil, and [`Heap::make`] one with the values of its
@@ -132,6 +136,7 @@ mod raw;
 mod resizing;
 mod root;
 mod rows;
+mod shared;
 mod text;
 mod trace;
 mod value;
@@ -143,6 +148,7 @@ pub use growth::{Growth, Short};
 pub use heap::{Fields, Heap};
 pub use numbers::{Did, Pacing, Room, Sizes, Stats};
 pub use root::{Owner, Root};
+pub use shared::Shared;
 pub use text::text_fields;
 pub use trace::{run, run_paced, TraceError};
 pub use value::{Operand, Value};
