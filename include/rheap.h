@@ -398,7 +398,8 @@ uint8_t rheap_resize_sized(rheap *heap, uint32_t words, uint32_t biggest);
 /* Opens a heap that grows. It begins with 40,000 words, or with at_most where that is less. After
    each cycle it should have twice the words that are used then, at least those that it began with,
    more where fewer wouldn't be in time, and at most at_most. Where it has fewer it gets these, and
-   where it has more than twice as many it gives memory back.
+   where it has more than twice as many it keeps twice as many. Fewer words give no memory back by
+   themselves: rheap_release does, of one space at a call.
 
    It collects in time, as rheap_open says, however many words live, as long as rheap_short tells
    RHEAP_AMPLE: if the program makes no object of more than biggest words, each finds room, but for
