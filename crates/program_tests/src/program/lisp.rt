@@ -435,7 +435,7 @@ const FULL: &[(&[&[u8]], &[u8], u8, &[u8], &[u8])] = &[
         b"(define l '())\n(let loop () (set! l (cons 1 l)) (loop))\n(set! l '())\n(+ 1 2)\n",
         0,
         b"3\n",
-        b"-:2:34: heap exhausted\n",
+        b"-:2:22: heap exhausted\n",
     ),
     // A heap that is full to the last words refuses each entry that writes something, and no entry that
     // lets go of what fills it.
