@@ -1,0 +1,44 @@
+"""Makes the site of the sources and the pages: `python3 tools/doc [--check] FOLDER`, which `./rheap doc` calls.
+
+It prints how much the site has. With --check it prints a line for each thing that is wrong, and makes the site all the same.
+Status: 0, 1 if something is wrong or a file can't be written, 2 for other words, 3 if a module of Python is missing."""
+import importlib.util
+import pathlib
+import sys
+
+NEEDED = {"markdown_it": "python3-markdown-it", "pygments": "python3-pygments"}
+MARK = "search-index.js"
+
+
+def missing():
+    """The packages of Debian whose modules this Python hasn't."""
+    return [package for module, package in NEEDED.items() if not importlib.util.find_spec(module)]
+
+
+def main(words):
+    checks, folders = "--check" in words, [it for it in words if it != "--check"]
+    if len(folders) != 1:
+        print(__doc__, file=sys.stderr)
+        return 2
+    if missing():
+        print(f"missing: {' '.join(missing())}", file=sys.stderr)
+        return 3
+    folder = pathlib.Path(folders[0])
+    if folder.is_dir() and any(folder.iterdir()) and not (folder / MARK).exists():
+        print(f"{folder} isn't empty, and isn't a site that this has made", file=sys.stderr)
+        return 2
+    import check
+    import count
+    import making
+
+    site = making.Site()
+    site.write(folder)
+    faults = check.faults_of(site) if checks else []
+    for it in faults:
+        print(it, file=sys.stderr)
+    print(", ".join(f"{number} {what}" for what, number in count.of_site(site).items()))
+    return 1 if faults else 0
+
+
+if __name__ == "__main__":
+    sys.exit(main(sys.argv[1:]))
