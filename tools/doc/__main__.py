@@ -1,6 +1,6 @@
 """Makes the site of the sources and the pages: `python3 tools/doc [--check] FOLDER`, which `./rheap doc` calls.
 
-It prints how much the site has. With --check it prints a line for each thing that is wrong, and makes the site all the same.
+With --check it prints how much the site has, and a line for each thing that is wrong. It makes the site all the same.
 Status: 0, 1 if something is wrong or a file can't be written, 2 for other words, 3 if a module of Python is missing."""
 import importlib.util
 import pathlib
@@ -36,7 +36,8 @@ def main(words):
     faults = check.faults_of(site) if checks else []
     for it in faults:
         print(it, file=sys.stderr)
-    print(", ".join(f"{number} {what}" for what, number in count.of_site(site).items()))
+    if checks:
+        print(", ".join(f"{number} {what}" for what, number in count.of_site(site).items()))
     return 1 if faults else 0
 
 

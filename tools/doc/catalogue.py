@@ -16,7 +16,7 @@ class Catalogue:
     def all_crates(self):
         """The page of all crates, the lowest layer first."""
         self.describer.page = "reference/index.html"
-        parts = ["<h1>The crates, by layer</h1>",
+        parts = ["<h1>The reference: all crates, by layer</h1>",
                  "<p>Each crate with what it is. Its page has what it hands on, and its files: each public item with its contract, and each definition that contracts cite. "
                  f'<a href="{self.layout.to(self.describer.page, "reference/theorem.html")}">The theorem behind the first sentence of this site</a> has a page of its own.</p>']
         layer = None
@@ -26,7 +26,7 @@ class Catalogue:
                 layer = crate.layer
             link = self.layout.to(self.describer.page, page_of_crate(crate))
             parts.append(f'<li><a href="{link}"><code>{crate.name}</code></a> {self.describer.comment(crate.comment(), crate.sources[()], is_short=True)}</li>')
-        return "The crates, by layer", "\n".join([*parts, "</ul>"])
+        return "The reference", "\n".join([*parts, "</ul>"])
 
     def crate_page(self, crate):
         """The page of a crate: its comment, what it uses, what it hands on, and its files."""

@@ -38,7 +38,7 @@ class Pages:
         groups.append(("More", [path for path in self.texts if path not in named]))
         made = [(title, [(page_of_file(path), self.titles[path]) for path in paths]) for title, paths in groups if paths]
         made[2][1].append(("reference/theorem.html", "The theorem, from the top down"))
-        made.insert(3, ("Reference", [("reference/index.html", "The crates, by layer")]))
+        made.insert(3, ("Reference", [("reference/index.html", "All crates, items and definitions")]))
         return made
 
     def link(self, page, file, to):

@@ -88,6 +88,15 @@ def package(given):
     print_out(installing.package(*(rest or ["."]), is_proved="--proved" in options))
 
 
+def doc(given):
+    import documenting
+
+    options, rest = words.own_words("doc", given, ["--check"], 1)
+    told, ended = documenting.make(rest[0] if rest else None, bool(options))
+    print_out(told)
+    return ended
+
+
 def status(given):
     import building
     import proving
@@ -113,7 +122,7 @@ def version():
     print_out(f"{said}toolchain: {found.toolchain()}")
 
 
-OWN = {"build": build, "test": test, "prove": prove, "install": install, "package": package, "status": status}
+OWN = {"build": build, "test": test, "prove": prove, "install": install, "package": package, "doc": doc, "status": status}
 
 
 def main(given):
