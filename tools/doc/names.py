@@ -22,6 +22,7 @@ class Names:
         self.crates = crates
         self.specs = {module: it for crate in crates.values() for module, it in crate.specs.items()}
         self.tables = {}
+        self.operator_names = [name for it in self.specs.values() for name in it.definitions if OPERATOR.fullmatch(name)]
 
     # Names of definitions
 
@@ -110,11 +111,11 @@ class Names:
 
     def operators(self, text, imports, definitions):
         """Where operators stand that are definitions of these crates."""
-        for name in [*imports, *definitions]:
-            operator = OPERATOR.fullmatch(name)
-            found = operator and (definitions.get(name) or self.find(*imports[name]))
-            for at in re.finditer(rf"(?<=\s){re.escape(operator[1])}(?=\s)", text) if found else ():
-                yield at.start(), at.end(), found
+        for name in self.operator_names:
+            if name in imports or name in definitions:
+                found = definitions.get(name) or self.find(*imports[name])
+                for at in re.finditer(rf"(?<=\s){re.escape(name.strip('◌'))}(?=\s)", text) if found else ():
+                    yield at.start(), at.end(), found
 
     def imported(self, entry, path):
         module, name = entry

@@ -23,6 +23,10 @@ def coloured(text, language, _=""):
     return block(escaped(text))
 
 
+# Paragraphs that have no marks of Markdown: most comments are of this sort, and need no library.
+PLAIN = re.compile(r"(?:[A-Za-z][^\n\\`*_\[\]<>&#|~!=]*(?:\n+|\Z))*")
+
+
 class Prose:
     """What makes HTML of Markdown. `link` gives what a link leads to in the site, `named` what a piece of code names, or None."""
 
@@ -31,6 +35,8 @@ class Prose:
 
     def html(self, text, link, named, level=0):
         """The HTML of a text, its headings so many levels lower, and the headings as they are: level, anchor and text."""
+        if PLAIN.fullmatch(text):
+            return "".join(f"<p>{escaped(it)}</p>\n" for it in re.split(r"\n{2,}", text.strip()) if it), []
         tokens, headings, seen = self.markdown.parse(text), [], {}
         for at, token in enumerate(tokens):
             if token.type == "heading_open":

@@ -3,12 +3,12 @@ import html
 import re
 
 COMMENT = r"(?P<comment>//[^\n]*|--(?=\s|$)[^\n]*)"
-TOKEN = re.compile(COMMENT + r"""|(?P<string>b?"(?:[^"\\]|\\.)*")|(?P<number>(?<![\w.])\d\w*)|(?P<word>[^\W\d]\w*)|(?P<other>.)""", re.S)
+TOKEN = re.compile(COMMENT + r"""|(?P<string>b?"(?:[^"\\]|\\.)*")|(?P<number>(?<![\w.])\d\w*)|(?P<word>\w+)|(?P<other>[^\w"/-]+|.)""", re.S)
 KEYWORDS = frozenset("""abbrev as async box break const continue crate data dyn else ensures enum extern fn for ghost if impl in invariant
 let loop match mod module move mut pub record ref requires return self static struct super trait type unfoldable unsafe use where while Self then with"""
                      .split())
 # The classes that Pygments gives to such parts of other languages.
-CLASSES = {"comment": "c", "string": "s", "number": "m", "keyword": "k"}
+CLASSES = {"comment": "c", "string": "s", "number": "m"}
 
 
 def escaped(text):
@@ -21,7 +21,7 @@ def quote(text, places=(), href=None):
     made, at = [], 0
     while at < len(text):
         found = TOKEN.match(text, at)
-        end, target = begins.get(at, (0, None)) if not found["comment"] else (0, None)
+        end, target = begins.get(at, (0, None)) if found.lastgroup != "comment" else (0, None)
         link = target and href(target)
         if link:
             made.append(f'<a href="{link}">{escaped(text[at:end])}</a>')
@@ -34,10 +34,10 @@ def quote(text, places=(), href=None):
 
 def token(found):
     """A part of code, in the colour of its sort."""
-    sort = "keyword" if found["word"] in KEYWORDS else found.lastgroup
-    if sort in CLASSES:
-        return f'<span class="{CLASSES[sort]}">{escaped(found[0])}</span>'
-    return escaped(found[0])
+    text, sort = found[0], found.lastgroup
+    if sort == "word":
+        return f'<span class="k">{text}</span>' if text in KEYWORDS else text
+    return f'<span class="{CLASSES[sort]}">{escaped(text)}</span>' if sort in CLASSES else escaped(text)
 
 
 def block(code, kind=""):
