@@ -246,8 +246,8 @@ def ignore_signals():
 
 class Ending:
     """What a signal that ends a program does here: it stops the work in hand, which is cleared away then. While the main thread shares
-    locks with others the signal is only noted, since what it raises between taking a lock and letting go of it would leave them waiting
-    for good."""
+    locks with others the signal is only noted, since an exception between taking a lock and releasing it would leave the other threads
+    waiting for ever."""
 
     def __init__(self):
         self.came = self.is_put_off = False
@@ -265,7 +265,7 @@ class Ending:
 
     @contextlib.contextmanager
     def put_off(self):
-        """Signals are noted, until `look` or the end of this."""
+        """Signals are only noted until `look`, or until the end of this. One such part doesn't stand in another."""
         self.is_put_off = True
         try:
             yield
