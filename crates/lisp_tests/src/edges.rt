@@ -165,3 +165,16 @@ fn a_call_waits_while_many_variables_are_in_use(rt: HostRuntime) {
     let fault = fault_of(rt.alloc(), &waiting(&rt, 4_095), 9, 9);
     assert!(&rt; fault.is_some());
 }
+
+/// Whether a program of so many strings is none.
+fn is_refused<R: AllocGlobal + Abort>(rt: &R, strings: u32) -> bool {
+    let text = repeated(rt, b"", b"\"\"", strings);
+    let text = text.expect(rt, "memory is ample");
+    fault_of(rt.alloc(), &text, 9, 9).is_some()
+}
+
+#[test]
+fn a_program_has_so_many_strings_and_no_more(rt: HostRuntime) {
+    assert!(&rt; !is_refused(&rt, 134_000));
+    assert!(&rt; is_refused(&rt, 134_400));
+}

@@ -6,6 +6,10 @@ use std::rt::HostRuntime;
 /// Programs, and what they print: what another Scheme prints.
 const PROGRAMS: &[(&[u8], &[u8])] = &[
     (
+        b"(write (let ((k #f) (n 0)) (letrec ((a 1) (b (call/cc (lambda (c) (set! k c) 5))) (f (lambda () (list a b))) (g (lambda () (set! a (+ a 1)) (f)))) (set! n (+ n 1)) (let ((v (g))) (if (< n 4) (k (+ n 10)) (list v n))))))",
+        b"((2 13) 4)",
+    ),
+    (
         b"(let ((cont #f)) (letrec ((x (call/cc (lambda (c) (set! cont c) 0))) (y (call/cc (lambda (c) (set! cont c) 0)))) (if cont (let ((c cont)) (set! cont #f) (set! x 1) (set! y 1) (c 0)) (write (+ x y)))))",
         b"0",
     ),

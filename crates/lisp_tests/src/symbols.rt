@@ -58,10 +58,7 @@ const STOPS: &[(&[u8], &[u8])] = &[
         b"(string->symbol \"a\") (symbol->string \"a\")",
         b"p:1:22: symbol->string: not a symbol",
     ),
-    (
-        b"(string->symbol)",
-        b"p:1:1: wrong number of arguments",
-    ),
+    (b"(string->symbol)", b"p:1:1: wrong number of arguments"),
     (
         b"(error (string->symbol \"a b\") (string->symbol \"c d\"))",
         b"p:1:1: a b |c d|",

@@ -7,7 +7,7 @@ use std::fmt;
 
 /// A slot of owner 0, named by its number alone. It comes from [`Heap::shared`].
 ///
-/// The calls that begin with `shared_` take it. The other calls take the root in this slot, which
+/// The calls that begin with `shared_` take it. The other calls take the root that names this slot, which
 /// [`root`](Shared::root) returns. Like a root it doesn't know its heap. Its
 /// [`Display`](fmt::Display) is that of the root, such as `0.3`.
 ///
@@ -34,7 +34,7 @@ impl Shared {
         self.number
     }
 
-    /// The root in this slot, which goes with the roots of any owner.
+    /// The root that names this slot. It may be used beside roots of any owner.
     #[inline]
     pub fn root(self) -> Root {
         Root::new(0, self.number)

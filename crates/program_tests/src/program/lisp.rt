@@ -458,6 +458,21 @@ const FULL: &[(&[&[u8]], &[u8], u8, &[u8], &[u8])] = &[
         b"#<procedure>\n#<procedure>\n",
         b"-:1:50: heap exhausted\n",
     ),
+    // The table of names has each of them once, however many entries ask for a symbol.
+    (
+        &[b"rheap", b"lisp", b"--heap=12000"],
+        b"(define l '(a0 a1 a2 a3 a4 a5 a6 a7 a8 a9 b0 b1 b2 b3 b4 b5 b6 b7 b8 b9 c0 c1 \
+            c2 c3 c4 c5 c6 c7 c8 c9 d0 d1 d2 d3 d4 d5 d6 d7 d8 d9 e0 e1 e2 e3 \
+            e4 e5 e6 e7 e8 e9 f0 f1 f2 f3 f4 f5 f6 f7 f8 f9))\n\
+            (string->symbol \"a1\")\n(string->symbol \"f9\")\n\
+            (string->symbol \"a1\")\n(string->symbol \"f9\")\n\
+            (string->symbol \"a1\")\n(string->symbol \"f9\")\n\
+            (string->symbol \"a1\")\n(string->symbol \"f9\")\n\
+            (string->symbol \"a1\")\n(string->symbol \"f9\")\n",
+        0,
+        b"a1\nf9\na1\nf9\na1\nf9\na1\nf9\na1\nf9\n",
+        b"",
+    ),
     // The procedures of the language have no room.
     (
         &[b"rheap", b"lisp", b"--heap=3000"],
