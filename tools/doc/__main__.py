@@ -30,10 +30,11 @@ def main(words):
     import check
     import count
     import making
+    import self_check
 
     site = making.Site()
     site.write(folder)
-    faults = check.faults_of(site) if checks else []
+    faults = [*self_check.faults(), *check.faults_of(site)] if checks else []
     for it in faults:
         print(it, file=sys.stderr)
     if checks:
