@@ -1,5 +1,5 @@
 """The page of each crate, and the page of all of them by layer."""
-from crates import is_law, parts_of, public_items, qualified
+from crates import is_law
 from layout import page_of_crate, page_of_source, page_of_specs
 from names import Module
 from quoting import escaped
@@ -42,6 +42,7 @@ class Catalogue:
         parts.append(self.laws(crate))
         parts.append(self.files("Sources", [(it.file, page_of_source(it) if self.layout.shown.get(it) else None, it.comment, it) for it in crate.sources.values()]))
         parts.append(self.files("Definitions", [(it.file, page_of_specs(it), it.comment, None) for it in crate.specs.values() if it.definitions and not it.is_lemmas]))
+        parts.append(self.describer.edits_within([it for it in crate.sources.values() if not self.layout.shown.get(it)]))
         return crate.name, "\n".join(it for it in parts if it)
 
     def handed_on(self, crate, found):

@@ -8,7 +8,7 @@ ITEM = re.compile(rf"^ *pub {WORDS}(?:fn|struct|enum|trait|type|const|static) \w
 FUNCTION = re.compile(rf"^ *(pub )?(?:pub\([^)]*\) )?{WORDS}fn \w")
 CLAUSE = re.compile(r"^ +(?:requires|ensures)\*?(?: \w+)?(?: \{|$)")
 DEFINITION = re.compile(r"^ *(?:abbrev |unfoldable )pub |^ *pub (?:record|data) |^pub [^\W\d]\S* :", re.M)
-# What each is in the pages.
+# How each begins in the pages.
 MARKS = {"public items": '<section class="item public"', "clauses of public functions": '<dt class="clause"', "definitions": '<section class="item definition"'}
 
 

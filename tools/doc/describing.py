@@ -24,11 +24,16 @@ class Describer:
 
     # Comments
 
-    def comment(self, text, source=None, is_short=False):
-        """The HTML of a comment, whose pieces of code have links to what they name in the file in which it stands."""
+    def comment(self, text, source=None, is_short=False, signature=""):
+        """The HTML of a comment, whose pieces of code have links to what they name in the file in which it stands, or in a signature: a
+        variant of one of its types, as an error is."""
+        variants = {} if not signature else {it.name: it for _, _, target in self.names.in_code(signature, source) if target.kind == "enum" for it in target.members}
+
         def named(piece):
             found = source and next(iter(self.names.in_code(piece, source)), None)
-            return found and found[:2] == (0, len(piece)) and self.href(found[2])
+            if found and found[:2] == (0, len(piece)):
+                return self.href(found[2])
+            return self.href(variants[piece]) if piece in variants else None
 
         text = first_sentence(text) if is_short else text
         return self.prose.html(without_links_to_items(text), lambda to: self.link(self.page, source.file if source else "", to), named, level=3)[0]
@@ -62,9 +67,14 @@ class Describer:
 
     # What tries it, and what cites it
 
-    def edits(self, it):
+    def edits_within(self, sources):
+        """The edits of functions of these files that have no place in the site."""
+        edits = [edit for it, edits in self.trials.items() if it not in self.layout.places and getattr(it, "source", None) in sources for edit in edits]
+        return f"<h2>Functions that aren't public</h2>{self.edits(None, edits)}" if edits else ""
+
+    def edits(self, it, edits=None):
         """The edits of a function or a definition, each of which the prover must refuse."""
-        edits = self.trials.get(it, ())
+        edits = self.trials.get(it, ()) if edits is None else edits
         if not edits:
             return ""
         rows = []

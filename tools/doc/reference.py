@@ -1,11 +1,9 @@
 """The pages of sources and of definitions: each public item and each definition, with what is said of it."""
 import re
 
-from crates import parts_of, public_items, qualified
-from layout import page_of_crate, page_of_source, page_of_specs
-from quoting import block, escaped, quote
-
-DECLARED = ("struct", "enum", "trait", "type", "const", "static")
+from crates import parts_of, qualified
+from layout import page_of_source, page_of_specs
+from quoting import block, escaped
 
 
 class Reference:
@@ -23,8 +21,9 @@ class Reference:
         parts = [f"<h1>{escaped(name)}</h1>", self.describer.comment(source.comment, source)]
         for item in self.layout.shown[source]:
             parts.append(self.implementation(item) if item.kind == "impl" else self.item(item, 2))
+        parts.append(self.describer.edits_within([source]))
         parts.append(f'<p class="uses">From <code>{escaped(source.file)}</code>.</p>')
-        return name, "\n".join(parts)
+        return name, "\n".join(it for it in parts if it)
 
     def item(self, item, level):
         """An item: its name, its code, its comment, its parts, its clauses, and what tries or cites it."""
@@ -34,7 +33,7 @@ class Reference:
         sort = "item public" if item.is_public() else "item"
         parts = [f'<section class="{sort}"><h{level} id="{escaped(anchor)}"><a href="#{escaped(anchor)}">{escaped(item.name)}</a>{kind}{private}</h{level}>']
         parts.append(self.describer.code(declaration(item), item.source))
-        parts.append(self.describer.comment(item.comment, item.source))
+        parts.append(self.describer.comment(item.comment, item.source, signature=item.text if item.kind == "fn" else ""))
         parts.append(self.parts(item))
         parts.append(self.model(item) if item.kind in ("struct", "enum") else "")
         parts.append(self.describer.clauses(item))
@@ -133,7 +132,3 @@ def declaration(item):
     if len(shown) < len(item.members):
         lines.append("    // fields that aren't public")
     return head + " {\n" + "\n".join(lines) + "\n}" if lines else head + " {}"
-
-
-def has_page(source, layout):
-    return bool(layout.shown.get(source))
