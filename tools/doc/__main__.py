@@ -1,7 +1,7 @@
 """Makes the site of the sources and the pages: `python3 tools/doc [--check] FOLDER`, which `./rheap doc` calls.
 
 With --check it prints how much the site has, and a line for each thing that is wrong. It makes the site all the same.
-Status: 0, 1 if something is wrong or a file can't be written, 2 for other words, 3 if a module of Python is missing."""
+Status: 0, 1 if something is wrong, 2 for other words or another folder, 3 if a module of Python is missing, 4 if a file can't be written."""
 import importlib.util
 import pathlib
 import sys
@@ -24,7 +24,16 @@ def main(words):
         print(f"missing: {' '.join(missing())}", file=sys.stderr)
         return 3
     folder = pathlib.Path(folders[0])
-    if folder.is_dir() and any(folder.iterdir()) and not (folder / MARK).exists():
+    try:
+        return make(folder, checks)
+    except OSError as error:
+        print(f"{error.filename}: {error.strerror}", file=sys.stderr)
+        return 4
+
+
+def make(folder, checks):
+    """Makes the site in a folder that is empty, or has a site that was made before, and looks for what is wrong if it is asked to."""
+    if folder.exists() and any(folder.iterdir()) and not (folder / MARK).exists():
         print(f"{folder} isn't empty, and isn't a site that this has made", file=sys.stderr)
         return 2
     import check
