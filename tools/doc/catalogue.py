@@ -56,6 +56,9 @@ class Catalogue:
         for name, it in found:
             if it.source.crate is not crate:
                 others.setdefault(it.source.crate, []).append(f'<a href="{self.describer.href(it)}"><code>{escaped(name)}</code></a>')
+        for name, source in modules_handed_on(crate, self.describer.names):
+            page = page_of_source(source) if self.layout.shown.get(source) else page_of_crate(source.crate)
+            others.setdefault(source.crate, []).append(f'<a href="{self.layout.to(self.describer.page, page)}"><code>{escaped(name)}</code></a>')
         if others:
             rows = [f'<li><a href="{self.layout.to(self.describer.page, page_of_crate(it))}">{it.name}</a>: {", ".join(links)}</li>' for it, links in others.items()]
             parts.append(f'<h2>Handed on from other crates</h2>\n<ul class="rows">{"".join(rows)}</ul>')
@@ -98,3 +101,10 @@ def handed_on(crate, names):
 
     take(crate, (), "")
     return [(name, item) for item, name in found.items()]
+
+
+def modules_handed_on(crate, names):
+    """The modules of other crates that the root of a crate hands on, each by the name that it gets there."""
+    root = crate.sources[()]
+    found = ((alias, names.item(crate, (), list(to))) for to, alias, visibility in root.uses if visibility == "pub")
+    return [(alias, it.crate.sources[it.path]) for alias, it in found if isinstance(it, Module) and it.crate is not crate]
