@@ -32,11 +32,17 @@ class Describer:
         def named(piece):
             found = source and next(iter(self.names.in_code(piece, source)), None)
             if found and found[:2] == (0, len(piece)):
-                return self.href(found[2])
+                return self.href(self.method(found[2], piece.split("::")[-1]) or found[2])
             return self.href(variants[piece]) if piece in variants else None
 
         text = first_sentence(text) if is_short else text
         return self.prose.html(without_links_to_items(text), lambda to: self.link(self.page, source.file if source else "", to), named, level=3)[0]
+
+    def method(self, item, name):
+        """The function of a type, or the member of a trait, that has this name."""
+        if item.kind not in ("struct", "enum", "trait") or item.name == name:
+            return None
+        return next((it for it in self.names.methods(item) if it.name == name and it in self.layout.places), None)
 
     # Code
 
