@@ -13,7 +13,7 @@ WHERE = ("*.md", "docs/*.md", "bench/**/*.md", "examples/**/*.md", "bindings/**/
 GROUPS = [
     ("Begin", ["README.md", "docs/README.md", "docs/tour.md", "examples/README.md"]),
     ("Use", ["docs/embedding.md", "docs/sizing.md", "crates/rh_heap/CALLING.md", "docs/c.md", "bindings/rust/rheap/README.md", "docs/porting.md",
-             "docs/threads.md", "docs/lisp.md", "docs/formats.md"]),
+             "docs/threads.md", "docs/lisp.md", "examples/lisp/README.md", "docs/formats.md"]),
     ("What is proved", ["docs/assurance.md", "docs/headline.md", "docs/promises.md", "docs/definitions.md"]),
     ("Figures", ["bench/RESULTS.md", "bench/README.md"]),
     ("Work on it", ["CONTRIBUTING.md", "docs/architecture.md", "docs/conventions.md", "docs/DECISIONS.md", "docs/gate.md", "crates/README.md", "CHANGELOG.md"]),
